@@ -1,0 +1,1 @@
+// Definitions only: what the clock means stands in specs/.
