@@ -1,0 +1,9 @@
+pub mod Sound
+pub mod Turns
+pub mod Days
+pub mod Grammar
+pub mod Changes
+pub mod Resolve
+pub mod Zones
+pub mod Examples
+pub mod Runs

@@ -1,0 +1,138 @@
+-- Looking for the second of a local time by walking over runs of one offset: where such a walk stands, and what it finds. For any offsets `off`
+-- and a local second l, both with 93,600 added.
+use mathlib.Core.Path.{_≡_, sym, _∙_, ap}
+use mathlib.Core.Bool.{true, false}
+use mathlib.Core.Logic.{_⊎_, inr, ⊎-elim}
+use Prim.Native.Nat.{ℕ, _+_, _-_, _≤_, _<_}
+use native.Mathlib.Omega.{arith}
+use native.Mathlib.Decide.{decLt}
+use Rattle.model.specs.Tzif.{Zone}
+use Rattle.model.specs.Zone.{offsetAt, steady}
+use Rattle.laws_base.specs.Test.{by-test}
+use Rattle.laws_zone.specs.Sound.{Sound, dawn}
+use Rattle.laws_zone.specs.Changes.{same-steady}
+use Rattle.laws_zone.specs.Resolve.{Reads, Jumps, Resolves, read, jump}
+
+-- a run: one offset from u on, before e
+pub record Run (off : ℕ → ℕ) (u e : ℕ) : Type 0 where
+  pub on : u < e
+  pub same : (v : ℕ) → u ≤ v → v < e → off v ≡ off u
+
+module _ (off : ℕ → ℕ) (l : ℕ) where
+  -- no second before u reads l
+  abbrev pub NoReading : ℕ → Type 0
+  NoReading u = (v : ℕ) → v < u → Reads off l v → ⊥
+
+  -- no change at or before u jumps over l
+  abbrev pub NoJump : ℕ → Type 0
+  NoJump u = (e : ℕ) → e ≤ u → Jumps off l e → ⊥
+
+  -- where a walk stands at u: before any reading and any jump ..
+  pub record Low (u : ℕ) : Type 0 where
+    pub none : NoReading u
+    pub plain : NoJump u
+    pub low : u + off u ≤ l
+
+  -- .. and past the first jump, which is at e and gives the answer d
+  pub record Past (u d : ℕ) : Type 0 where
+    pub none : NoReading u
+    pub e : ℕ
+    pub gives : d + off (e - 1) ≡ l
+    pub jumped : Jumps off l e
+    pub least : (f : ℕ) → f < e → Jumps off l f → ⊥
+
+module _ {off : ℕ → ℕ} {u e : ℕ} (r : Run off u e) (l : ℕ) where
+  -- a run in which no second reads l
+  clear : NoReading off l u → (l < u + off u) ⊎ (e + off u ≤ l) → NoReading off l e
+  clear n w v h p = go (decLt v u)
+    where
+      go : Dec (v < u) → ⊥
+      go (yes y) = n v y p
+      go (no y) =
+          let s : off v ≡ off u = r .same v (omega arith) h in
+          ⊎-elim (λ a. omega arith) (λ a. omega arith) w
+
+  -- the second of a run that reads l
+  found : NoReading off l u → u + off u ≤ l → l < e + off u → Resolves off l (l - off u)
+  found n a b = read {u = l - off u} (omega (arith, r .same (l - off u) (omega arith) (omega arith))) none
+    where
+      none : NoReading off l (l - off u)
+      none v h p = go (decLt v u)
+        where
+          go : Dec (v < u) → ⊥
+          go (yes y) = n v y p
+          go (no y) = omega (arith, r .same v (omega arith) (omega arith))
+
+  -- inside a run no change jumps
+  no-inner : NoJump off l u → (f : ℕ) → f < e → Jumps off l f → ⊥
+  no-inner n f h j = go (decLt u f)
+    where
+      go : Dec (u < f) → ⊥
+      go (yes y) = omega (arith, j .from, j .to, r .same f (omega arith) h, r .same (f - 1) (omega arith) (omega arith))
+      go (no y) = n f (omega arith) j
+
+  module _ (s : Low off l u) where
+    pub low-found : l < e + off u → Resolves off l (l - off u)
+    low-found h = found (s .none) (s .low) h
+
+    module _ (t : e + off u ≤ l) where
+      pub low-next : e + off e ≤ l → Low off l e
+      low-next h = record { none = clear (s .none) (inr t); plain = plain; low = h }
+        where
+          plain : NoJump off l e
+          plain f k j = go (decLt f e)
+            where
+              go : Dec (f < e) → ⊥
+              go (yes y) = no-inner (s .plain) f y j
+              go (no y) = let q : f ≡ e = omega arith in omega (arith, j .to, ap off q)
+
+      pub low-jump : l < e + off e → Past off l e (l - off u)
+      low-jump h =
+          let o : off (e - 1) ≡ off u = r .same (e - 1) (omega (arith, r .on)) (omega (arith, r .on)) in
+          record {
+            none = clear (s .none) (inr t);
+            e = e;
+            gives = omega arith;
+            jumped = record { from = omega arith; to = h };
+            least = λ f k j. no-inner (s .plain) f k j;
+          }
+
+  module _ {d : ℕ} (s : Past off l u d) where
+    pub past-found : u + off u ≤ l → l < e + off u → Resolves off l (l - off u)
+    past-found g h = found (s .none) g h
+
+    pub past-next : (l < u + off u) ⊎ (e + off u ≤ l) → Past off l e d
+    past-next w = record { none = clear (s .none) w; e = s .e; gives = s .gives; jumped = s .jumped; least = s .least }
+
+module _ (off : ℕ → ℕ) (low : (u : ℕ) → 1 ≤ off u) (high : (u : ℕ) → off u ≤ 187199) (l : ℕ) where
+  -- every second that reads l, and every jump over it, lies in the 187,199 s before it
+  pub low-start : 187199 ≤ l → Low off l (l - 187199)
+  low-start h = record {
+    none = λ v k p. omega (arith, p, high v);
+    plain = λ e k j. omega (arith, j .to, high e);
+    low = omega (arith, high (l - 187199));
+  }
+
+  pub past-done : {u d : ℕ} → Past off l u d → l ≤ u → Resolves off l d
+  past-done s h = jump (s .e) (s .gives) (λ v p. s .none v (omega (arith, p, low v)) p) (s .jumped) (s .least)
+
+-- ---- whether a span has one offset
+
+-- one offset from lo on, before e
+module _ {off : ℕ → ℕ} {lo e : ℕ} (s : Run off lo e) where
+  pub run-on : {f : ℕ} → Run off e f → off e ≡ off lo → Run off lo f
+  run-on {f} r q = record { on = omega (arith, s .on, r .on); same = λ v a b. go v a b (decLt v e) }
+    where
+      go : (v : ℕ) → lo ≤ v → v < f → Dec (v < e) → off v ≡ off lo
+      go v a b (yes y) = s .same v a y
+      go v a b (no y) = r .same v (omega arith) b ∙ q
+
+module _ (z : Zone) {lo e : ℕ} (s : Run (offsetAt z) lo e) where
+  -- a run that ends behind hi: steady
+  pub run-steady : (hi : ℕ) → hi < e → true ≡ steady z lo hi
+  run-steady hi h = sym (same-steady z lo hi (λ u a b. s .same u a (omega arith)))
+
+  -- a run that ends at another offset, at hi or before: not steady
+  pub run-changes : Sound z → (hi : ℕ) → dawn ≤ lo → e ≤ hi → (offsetAt z e ≡ offsetAt z lo → ⊥) → false ≡ steady z lo hi
+  run-changes k hi d h n =
+      by-test (steady z lo hi) (λ t. absurd (n (k .same lo hi d t e (omega (arith, s .on)) h))) (λ t. sym t)
