@@ -1,0 +1,10 @@
+pub mod Count
+pub mod Lists
+pub mod Members
+pub mod Joined
+pub mod Left
+pub mod Turn
+pub mod Totals
+pub mod Move
+pub mod Stretches
+pub mod Count672
