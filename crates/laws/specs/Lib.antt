@@ -1,0 +1,12 @@
+pub mod Walks
+pub mod Distance
+pub mod Zones
+pub mod Windows
+pub mod Demand
+pub mod Built
+pub mod Diff
+pub mod Pairs
+pub mod Edge
+pub mod Demand3
+pub mod Turned
+pub mod Sharp
