@@ -1,0 +1,10 @@
+pub mod Local
+pub mod Steady
+pub mod Edges
+pub mod Skips
+pub mod Schedules
+pub mod Loops
+pub mod Runs
+pub mod Counts
+pub mod Records
+pub mod Books
