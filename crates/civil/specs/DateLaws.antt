@@ -1,0 +1,128 @@
+-- Each answer of the functions on dates, times of day and weekday sets, from what the code has tested.
+use mathlib.Core.Path.{_≡_, refl, sym, ap, _∙_}
+use mathlib.Core.Bool.{Bool, true, false, not}
+use Prim.Native.Nat.{ℕ, zero, suc, _+_, _-_, _*_, _/_, _%_, _^_, _≤_, _<_}
+use native.Mathlib.Omega.{arith}
+use native.Mathlib.Nat.{div-eq-of-lt, zero-mul, one-mul}
+use lib.Dec.{T, eqb, ltb}
+use lib.Bits.{bitAnd}
+use lib.Pow.{pow-pos, pow-mono}
+use borrow.Author.Tests.{lt-ltb, le-ltb, le-leb, lt-leb, eq-eqb, ne-eqb}
+use Rattle.model.specs.Basic.{if_then_else_, isIn}
+use Rattle.model.specs.Calendar.{isDate, dayNumber, dateOf, firstDay, lastDay, contains}
+use Rattle.model.specs.Instant.{second}
+use Rattle.laws_base.specs.Test.{by-test, clash}
+use Rattle.laws_base.specs.Claim.{Claim, eq, all, at-each, all₂, at-each₂}
+use Rattle.laws_calendar.specs.Dates.{Has, is-had, date-facts, day-from, day-to}
+use Rattle.civil.specs.Dates.{dated, dayRead, dateRead, nextRead, previousRead, timeRead}
+use Rattle.civil.specs.declared.Date.{Date}
+use Rattle.civil.specs.declared.DateRead.{DateRead}
+use Rattle.civil.specs.declared.DateRead.the-variants.{On, OutOfRange}
+use Rattle.civil.specs.declared.DayRead.{DayRead}
+use Rattle.civil.specs.declared.DayRead.the-variants.{Day, NoDate}
+use Rattle.civil.specs.declared.TimeRead.the-variants.{Nanoseconds, NoTime}
+
+-- ---- dates
+
+pub has-date : (y m d : ℕ) → isDate y m d ≡ true → (y ≤ 20799) × Has y m d
+has-date y m d e = let v = date-facts {y = y} {m = m} {d = d} e in (omega arith, is-had v)
+
+pub day-yes : (d : Date) (n : ℕ) → isDate (d .year) (d .month) (d .day) ≡ true → n ≡ dayNumber (d .year) (d .month) (d .day) → Day n ≡ dayRead d
+unfolding dayRead
+day-yes d n e h = rw e (ap Day h)
+
+pub day-no : (d : Date) → isDate (d .year) (d .month) (d .day) ≡ false → NoDate ≡ dayRead d
+unfolding dayRead
+day-no d e = rw e
+
+pub date-early : (n : ℕ) → n < firstDay → OutOfRange ≡ dateRead n
+unfolding dateRead
+date-early n h = simp (lt-leb firstDay n h)
+
+pub date-late : (n : ℕ) → lastDay < n → OutOfRange ≡ dateRead n
+unfolding dateRead
+date-late n h = simp (le-leb firstDay n (omega arith), lt-leb n lastDay h)
+
+pub date-on : (n : ℕ) (d : Date) → firstDay ≤ n → n ≤ lastDay → d ≡ dated (dateOf n) → On d ≡ dateRead n
+unfolding dateRead
+date-on n d h k e = simp (le-leb firstDay n h, le-leb n lastDay k) (ap On e)
+
+-- a date's day is in the range
+pub day-in : (d : Date) (n : ℕ) → dayRead d ≡ Day n → (firstDay ≤ n) × (n ≤ lastDay)
+unfolding dayRead
+day-in d n e =
+    by-test (isDate (d .year) (d .month) (d .day))
+    (λ t.
+    let v = date-facts {y = d .year} {m = d .month} {d = d .day} t in
+    let q : Day (dayNumber (d .year) (d .month) (d .day)) ≡ Day n = rw t at e in
+    let p : dayNumber (d .year) (d .month) (d .day) ≡ n = cc in
+    (omega (arith, day-from v), omega (arith, day-to v)))
+    (λ t. let q : NoDate ≡ Day n = rw t at e in absurd (let z : _≡_ {A = ℕ} 0 1 = cc in omega arith))
+
+pub next-none : (d : Date) → dayRead d ≡ NoDate → OutOfRange ≡ nextRead d
+unfolding nextRead
+next-none d e = simp e
+
+pub next-on : (d : Date) (n : ℕ) (r : DateRead) → dayRead d ≡ Day n → r ≡ dateRead (n + 1) → r ≡ nextRead d
+unfolding nextRead
+next-on d n r e h = simp e h
+
+pub previous-none : (d : Date) → dayRead d ≡ NoDate → OutOfRange ≡ previousRead d
+unfolding previousRead
+previous-none d e = simp e
+
+pub previous-on : (d : Date) (n : ℕ) (r : DateRead) → dayRead d ≡ Day n → r ≡ dateRead (n - 1) → r ≡ previousRead d
+unfolding previousRead
+previous-on d n r e h = simp e h
+
+-- ---- times of day
+
+pub no-second : (s n : ℕ) → 86400 ≤ s → NoTime ≡ timeRead s n
+unfolding timeRead
+no-second s n h = simp (le-ltb s 86400 h)
+
+pub no-nanosecond : (s n : ℕ) → s < 86400 → second ≤ n → NoTime ≡ timeRead s n
+unfolding timeRead
+no-nanosecond s n h k = simp (lt-ltb s 86400 h, le-ltb n second k)
+
+pub time-is : (s n : ℕ) → s < 86400 → n < second → Nanoseconds (s * second + n) ≡ timeRead s n
+unfolding timeRead
+time-is s n h k = simp (lt-ltb s 86400 h, lt-ltb n second k)
+
+-- ---- weekday sets
+
+shift : ℕ → Claim
+shift d = eq (1 * 2 ^ d % 256) (2 ^ d)
+
+shifts : T (all shift 8)
+unfolding all shift
+shifts = tt
+
+-- one, shifted by d
+pub shift-one : (x d : ℕ) → d < 8 → x ≡ d → 1 * 2 ^ x % 256 ≡ 2 ^ d
+unfolding shift
+shift-one x d h e = rw e (at-each shift 8 shifts d h)
+
+mask : ℕ → ℕ → Claim
+mask s d = eq (bitAnd s (2 ^ d)) (s / 2 ^ d % 2 * 2 ^ d)
+
+masks : T (all₂ mask 256 8)
+unfolding all all₂ mask
+masks = tt
+
+pub masked : (s d : ℕ) → s < 256 → d < 8 → not (eqb (bitAnd s (2 ^ d)) 0) ≡ contains s d
+unfolding contains mask
+masked s d h k = go (s / 2 ^ d % 2) (omega arith) (at-each₂ mask 256 8 masks s h d k)
+  where
+    go : (b : ℕ) → b < 2 → bitAnd s (2 ^ d) ≡ b * 2 ^ d → not (eqb (bitAnd s (2 ^ d)) 0) ≡ eqb b 1
+    go zero l e = simp (eq-eqb _ 0 (e ∙ zero-mul (2 ^ d)))
+    go (suc zero) l e = simp (ne-eqb (bitAnd s (2 ^ d)) 0 (λ z. omega (arith, one-mul (2 ^ d), pow-pos d)))
+    go (suc (suc b)) l e = absurd (omega arith)
+
+-- a byte has no bit past 7
+pub past : (s d : ℕ) → s < 256 → 7 < d → false ≡ contains s d
+unfolding contains
+past s d h k =
+    let low : 256 ≤ 2 ^ d = pow-mono k in
+    let e : s / 2 ^ d ≡ 0 = div-eq-of-lt (omega arith) in
+    simp e

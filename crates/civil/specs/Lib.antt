@@ -1,0 +1,3 @@
+pub mod Formulas
+pub mod Dates
+pub mod DateLaws

@@ -1,0 +1,5 @@
+pub mod Signed
+pub mod Reads
+pub mod ReadLaws
+pub mod Durations
+pub mod DurationLaws
