@@ -1,0 +1,4 @@
+pub mod Tests
+pub mod Parts
+pub mod Walk
+pub mod Lists

@@ -1,0 +1,3 @@
+pub mod Be
+pub mod Walk
+pub mod Maybe

@@ -1,0 +1,4 @@
+pub mod Parts
+pub mod Names
+pub mod Walks
+pub mod Ends

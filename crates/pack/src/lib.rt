@@ -1,0 +1,253 @@
+// The directory of a pack or a book, and the zone pack with its finder.
+// Layout of a directory: a count (4 bytes), then for each record its start from the front and its length (4 bytes each).
+// A pack's record: the length of its name (1 byte), the name, and the zone file.
+ghost use mathlib.Core.Path.{_≡_};
+ghost use mathlib.Core.Bool.{true};
+ghost use mathlib.Core.List.{map};
+ghost use mathlib.Core.Option.{some};
+ghost use lib.ListN.{take, drop};
+ghost use Prim.Native.Nat.{_+_, _*_, _-_, _<_};
+ghost use Rattle.model.specs.Basic.{run};
+ghost use Rattle.model.specs.Directory.{partsOf};
+ghost use Rattle.model.specs.Pack.{packOf, lower, sameName, find};
+ghost use Rattle.be.specs.Maybe.{isSome, orEmpty};
+ghost use Rattle.be.specs.Walk.{allFrom};
+ghost use Rattle.pack.specs.Directory.{countAt, startAt, lenAt, recordOk, entriesOk};
+ghost use Rattle.pack.specs.Pack.{namedFrom, namedAt, nameOk, nameAtOk, zoneFile, bytesOf};
+
+// ---- the directory
+
+// How many records the directory says to have.
+pub fn count_of(s: &[u8]) -> usize
+    ensures { λ r. ⌜ (r ≡ countAt (now (s .entry))) × (r < 4294967296) ⌝ }
+{
+    be::size_at(s, 0)
+}
+
+// Where the record of entry i starts.
+pub fn start_at(s: &[u8], i: usize) -> usize
+    requires { ⌜ i < 4294967296 ⌝ }
+    ensures { λ r. ⌜ (r ≡ startAt (now (s .entry)) i) × (r < 4294967296) ⌝ }
+{
+    be::size_at(s, 4 + 8 * i)
+}
+
+// How long it is.
+pub fn len_at(s: &[u8], i: usize) -> usize
+    requires { ⌜ i < 4294967296 ⌝ }
+    ensures { λ r. ⌜ (r ≡ lenAt (now (s .entry)) i) × (r < 4294967296) ⌝ }
+{
+    be::size_at(s, 8 + 8 * i)
+}
+
+// Does a record of len bytes at start begin at lo or later, and end inside?
+fn record_ok(s: &[u8], lo: usize, start: usize, len: usize) -> bool
+    requires { ⌜ (start < 4294967296) × (len < 4294967296) ⌝ }
+    ensures { λ r. ⌜ r ≡ recordOk (now (s .entry)) lo start len ⌝ }
+{
+    if lo > start {
+        return false;
+    }
+    start + len <= s.len()
+}
+
+// Are the records of the n entries in order, behind the directory and inside?
+fn entries_ok(s: &[u8], n: usize) -> bool
+    requires { ⌜ n < 4294967296 ⌝ }
+    ensures { λ r. ⌜ r ≡ entriesOk (now (s .entry)) (4 + 8 * n) 0 n ⌝ }
+{
+    let mut lo = 4 + 8 * n;
+    let mut i: usize = 0;
+    while i < n {
+        let start = start_at(s, i);
+        let len = len_at(s, i);
+        if !record_ok(s, lo, start, len) {
+            return false;
+        }
+        lo = start + len;
+        i += 1;
+    }
+    true
+}
+
+// Does the file keep the layout of its directory?
+pub fn dir_ok(s: &[u8]) -> bool
+    ensures { λ r. ⌜ r ≡ isSome (partsOf (now (s .entry))) ⌝ }
+{
+    if s.len() < 4 {
+        return false;
+    }
+    let n = count_of(s);
+    if s.len() < 4 + 8 * n {
+        return false;
+    }
+    entries_ok(s, n)
+}
+
+// ---- the pack
+
+// Has a record of len bytes at start a whole name of 1 to 64 bytes?
+fn name_ok(s: &[u8], start: usize, len: usize) -> bool
+    ensures { λ r. ⌜ r ≡ nameOk (now (s .entry)) start len ⌝ }
+{
+    let n = be::small_at(s, start);
+    if n < 1 {
+        return false;
+    }
+    if n > 64 {
+        return false;
+    }
+    n < len
+}
+
+// The same of the record of entry i.
+fn name_at_ok(s: &[u8], i: usize) -> bool
+    requires { ⌜ i < 4294967296 ⌝ }
+    ensures { λ r. ⌜ r ≡ nameAtOk (now (s .entry)) i ⌝ }
+{
+    name_ok(s, start_at(s, i), len_at(s, i))
+}
+
+// The same of all n.
+fn names_ok(s: &[u8], n: usize) -> bool
+    requires { ⌜ n < 4294967296 ⌝ }
+    ensures { λ r. ⌜ r ≡ allFrom (nameAtOk (now (s .entry))) 0 n ⌝ }
+{
+    let mut i: usize = 0;
+    while i < n {
+        if !name_at_ok(s, i) {
+            return false;
+        }
+        i += 1;
+    }
+    true
+}
+
+// Does the pack keep its layout? Refusal 3 where not.
+pub fn pack_ok(p: &[u8]) -> bool
+    ensures { λ r. ⌜ r ≡ isSome (packOf (now (p .entry))) ⌝ }
+{
+    let n = count_of(p);
+    if n > 1024 {
+        return false;
+    }
+    if !dir_ok(p) {
+        return false;
+    }
+    names_ok(p, n)
+}
+
+// A letter A to Z as a to z, any other byte as it is.
+fn lower_case(b: u8) -> u8
+    ensures { λ r. ⌜ r ≡ lower b ⌝ }
+{
+    if b < 65 {
+        return b;
+    }
+    if b > 90 {
+        return b;
+    }
+    b + 32
+}
+
+// Are two names the same but for the case of ASCII letters?
+fn same_name(a: &[u8], b: &[u8]) -> bool
+    ensures { λ r. ⌜ r ≡ sameName (now (a .entry)) (now (b .entry)) ⌝ }
+{
+    if a.len() != b.len() {
+        return false;
+    }
+    let mut i: usize = 0;
+    while i < a.len() {
+        if lower_case(a[i]) != lower_case(b[i]) {
+            return false;
+        }
+        i += 1;
+    }
+    true
+}
+
+// Is the record of entry i named so?
+fn is_named(p: &[u8], i: usize, name: &[u8]) -> bool
+    requires { ⌜ i < 4294967296 ⌝ }
+    ensures { λ r. ⌜ r ≡ sameName (namedAt (now (p .entry)) i .name) (now (name .entry)) ⌝ }
+{
+    let start = start_at(p, i);
+    same_name(be::part(p, start + 1, be::small_at(p, start)), name)
+}
+
+// Where a zone file lies in a pack: from where to where.
+pub enum Place {
+    At(usize, usize),
+    Absent,
+}
+
+// Where the file of entry i lies.
+fn place_at(p: &[u8], i: usize) -> Place
+    requires { ⌜ i < 4294967296 ⌝ }
+    ensures { λ r. ⌜ bytesOf (now (p .entry)) r ≡ some (namedAt (now (p .entry)) i .file) ⌝ }
+{
+    let start = start_at(p, i);
+    Place::At(start + 1 + be::small_at(p, start), start + len_at(p, i))
+}
+
+// Where the file of the first of n records with that name lies.
+fn find_in(p: &[u8], name: &[u8], n: usize) -> Place
+    requires { ⌜ n < 4294967296 ⌝ }
+    ensures { λ r. ⌜ bytesOf (now (p .entry)) r ≡ find (now (name .entry)) (map (namedAt (now (p .entry))) (run 0 n)) ⌝ }
+{
+    let mut i: usize = 0;
+    while i < n {
+        if is_named(p, i, name) {
+            return place_at(p, i);
+        }
+        i += 1;
+    }
+    Place::Absent
+}
+
+// The bytes from a to e.
+fn between(p: &[u8], a: usize, e: usize) -> &[u8]
+    ensures { λ r. ⌜ now r ≡ take (e - a) (drop a (now (p .entry))) ⌝ }
+{
+    if a > e {
+        return &p[..0];
+    }
+    be::part(p, a, e - a)
+}
+
+// Where the zone file of a name lies in a pack that keeps its layout.
+pub fn find_place(p: &[u8], name: &[u8]) -> Place
+    requires { ⌜ isSome (packOf (now p)) ≡ true ⌝ }
+    ensures { λ r. ⌜ bytesOf (now (p .entry)) r ≡ zoneFile (now (p .entry)) (now (name .entry)) ⌝ }
+{
+    find_in(p, name, count_of(p))
+}
+
+// The zone file of a name in a pack that keeps its layout, and beside it whether there is one: so an absent name is told from an empty file.
+pub fn look_in<'a>(p: &'a [u8], name: &[u8], found: &mut bool) -> &'a [u8]
+    requires { ⌜ isSome (packOf (now p)) ≡ true ⌝ }
+    ensures { λ r. ⌜ (now r ≡ orEmpty (zoneFile (now (p .entry)) (now (name .entry)))) × (now (found .exit) ≡ isSome (zoneFile (now (p .entry)) (now (name .entry)))) ⌝ }
+{
+    match find_place(p, name) {
+        Place::At(a, e) => {
+            *found = true;
+            between(p, a, e)
+        }
+        Place::Absent => {
+            *found = false;
+            &p[..0]
+        }
+    }
+}
+
+// The same of any pack: one that breaks its layout has no zone.
+pub fn look_up<'a>(p: &'a [u8], name: &[u8], found: &mut bool) -> &'a [u8]
+    ensures { λ r. ⌜ (now r ≡ orEmpty (zoneFile (now (p .entry)) (now (name .entry)))) × (now (found .exit) ≡ isSome (zoneFile (now (p .entry)) (now (name .entry)))) ⌝ }
+{
+    if pack_ok(p) {
+        return look_in(p, name, found);
+    }
+    *found = false;
+    &p[..0]
+}

@@ -1,0 +1,21 @@
+-- The footer that a parsed text is, and what is known of a turn's changes around a second.
+use mathlib.Core.Path.{_≡_}
+use Prim.Native.Nat.{ℕ, _≤_, _<_}
+use Rattle.model.specs.Footer as model
+use Rattle.model.specs.Zone.{latest}
+use Rattle.footer.specs.Parsed.{turnIs}
+use Rattle.footer.specs.declared.Footer.{Footer}
+use Rattle.footer.specs.declared.Footer.the-variants.{Empty, Fixed, Rules, Broken}
+
+-- a broken footer counts as an empty one: no zone that is open has one
+abbrev pub theFooter : Footer → model.Footer
+theFooter Empty = model.empty
+theFooter (Fixed o) = model.fixed o
+theFooter (Rules std dst start end) = model.rules std dst (turnIs start) (turnIs end)
+theFooter Broken = model.empty
+
+-- `last` is the latest change at or before u, and `next` the first behind it
+pub record Near (change : ℕ → ℕ) (u last next : ℕ) : Type 0 where
+  pub last-is : last ≡ latest change u
+  pub on : u < next
+  pub none-before : (y : ℕ) → u < change y → next ≤ change y

@@ -1,0 +1,52 @@
+-- What the code's zone means: with the bytes of its file it is a zone of the definitions.
+use mathlib.Core.Path.{_≡_}
+use mathlib.Core.Bool.{Bool, _&&_}
+use mathlib.Core.Option.{Option, none, some}
+use mathlib.Core.List.{List}
+use Prim.Native.Nat.{ℕ, _+_, _-_}
+use lib.Dec.{leb, ltb}
+use Rattle.model.specs.Tzif as model
+use Rattle.laws_zone.specs.Zones.{ZoneFits}
+use Rattle.tzif.specs.Opened.{Opened, zoneAt}
+use Rattle.tzif.specs.declared.Layout.{Layout}
+use Rattle.footer.specs.declared.Footer.{Footer}
+use Rattle.footer.specs.declared.Footer.the-variants as F
+use Rattle.turns.specs.Turning.{theFooter}
+use Rattle.zone.specs.declared.Zone.{Zone}
+use Rattle.zone.specs.declared.ZoneRead.{ZoneRead}
+use Rattle.zone.specs.declared.ZoneRead.the-variants as R
+
+abbrev pub meant : List ℕ → Zone → model.Zone
+meant f z = zoneAt f (z .table) (theFooter (z .footer))
+
+-- what an open zone has: its table lies in the file, and its offsets and its footer's turns are in bounds
+pub record ZoneOk (f : List ℕ) (z : Zone) : Type 0 where
+  pub table : Opened f (z .table)
+  pub fits : ZoneFits (meant f z)
+
+-- what `open` answers
+abbrev pub zoneRead : List ℕ → ZoneRead → Option model.Zone
+zoneRead f (R.Opened z) = some (meant f z)
+zoneRead f R.Unusable = none
+
+-- a table and a parsed footer make a zone, unless the footer is broken
+unfoldable pub ruled : Layout → Footer → ZoneRead
+ruled l F.Empty = R.Opened (record { table = l; footer = F.Empty })
+ruled l (F.Fixed o) = R.Opened (record { table = l; footer = F.Fixed o })
+ruled l (F.Rules a b s e) = R.Opened (record { table = l; footer = F.Rules a b s e })
+ruled l F.Broken = R.Unusable
+
+-- a zone that it opened is one to look up in
+pub data Fine (f : List ℕ) : ZoneRead → Type 0 where
+  opened : {z : Zone} → ZoneOk f z → Fine f (R.Opened z)
+  refused : Fine f R.Unusable
+
+pub zone-inside : {f : List ℕ} {r : ZoneRead} {z : Zone} → Fine f r → r ≡ R.Opened z → ZoneOk f z
+zone-inside {f} {r} {z} k e = go (rw e at k)
+  where
+    go : Fine f (R.Opened z) → ZoneOk f z
+    go (opened o) = o
+
+-- a run from u up to e with the offset o holds a second that reads x
+unfoldable pub inRun : ℕ → ℕ → ℕ → ℕ → Bool
+inRun u o e x = leb (u + o) x && ltb (x - o) e

@@ -1,0 +1,142 @@
+// A zone: its file, the layout of the file's table, and its footer. The offset at a second, whether a span keeps one offset, and the instant of a
+// local time. Seconds are counted from -10400-01-01T00:00:00Z; offsets and local seconds have 93,600 added.
+ghost use mathlib.Core.Path.{_≡_};
+ghost use mathlib.Core.List.{List};
+ghost use Prim.Native.Nat.{ℕ, _+_, _*_, _-_, _≤_, _<_};
+ghost use Rattle.model.specs.Zone as model;
+ghost use Rattle.model.specs.Tzif.{zoneOf};
+ghost use Rattle.laws_zone.specs.Resolve.{Resolves};
+ghost use Rattle.laws_zone.specs.Runs as runs;
+ghost use Rattle.instant.specs.Instant.{nanos};
+ghost use Rattle.zone.specs.Zones.{meant, ZoneOk, zoneRead, Fine, ruled, inRun};
+use footer::Footer;
+use instant::Instant;
+use turns::Span;
+use tzif::Layout;
+use tzif::TzifRead;
+
+pub struct Zone {
+    pub table: Layout,
+    pub footer: Footer,
+}
+
+pub enum ZoneRead {
+    Opened(Zone),
+    Unusable,
+}
+
+// The zone of a file's table and the footer that its line spells.
+fn joined(table: Layout, footer: Footer) -> ZoneRead
+    ensures { λ r. ⌜ r ≡ ruled table footer ⌝ }
+{
+    match footer {
+        Footer::Broken => ZoneRead::Unusable,
+        Footer::Empty => ZoneRead::Opened(Zone { table, footer }),
+        Footer::Fixed(_) => ZoneRead::Opened(Zone { table, footer }),
+        Footer::Rules(_, _, _, _) => ZoneRead::Opened(Zone { table, footer }),
+    }
+}
+
+// The zone of a file, where it is usable.
+pub fn open(f: &[u8]) -> ZoneRead
+    ensures { λ r. ⌜ (zoneRead (now (f .entry)) r ≡ zoneOf (now (f .entry))) × Fine (now (f .entry)) r ⌝ }
+{
+    let TzifRead::Table(table) = tzif::read(f) else {
+        return ZoneRead::Unusable;
+    };
+    let at = table.line;
+    let len = table.len;
+    let footer = footer::parse(be::part(f, at, len));
+    joined(table, footer)
+}
+
+// UTC, which needs no file.
+pub fn utc() -> Zone
+    ensures { λ r. ⌜ ((f : List ℕ) → (meant f r ≡ model.utc) × ZoneOk f r) ⌝ }
+{
+    let table = tzif::utc();
+    let footer = Footer::Empty;
+    Zone { table, footer }
+}
+
+// The offset at u, and a second before which it stays.
+pub fn run_at(f: &[u8], z: Zone, u: u64) -> Span
+    requires { ⌜ ZoneOk (now f) z × (u < 656384601600) ⌝ }
+    ensures { λ r. ⌜ (r .offset ≡ model.offsetAt (meant (now (f .entry)) z) u) × runs.Run (model.offsetAt (meant (now (f .entry)) z)) u (r .until) ⌝ }
+{
+    let table = z.table;
+    let k = tzif::count_at(f, table, u);
+    let offset = tzif::table_offset(f, table, k);
+    if k < table.count {
+        return Span {
+            offset,
+            until: tzif::time_at(f, table, k),
+        };
+    }
+    let footer = z.footer;
+    turns::span_at(footer, offset, u)
+}
+
+// A run from u up to e with the offset o holds a second that reads x.
+fn in_run(u: u64, o: u64, e: u64, x: u64) -> bool
+    requires { ⌜ (u < 656384601600) × (o ≤ 187199) ⌝ }
+    ensures { λ r. ⌜ r ≡ inRun u o e x ⌝ }
+{
+    if u + o <= x {
+        return x - o < e;
+    }
+    false
+}
+
+// The first reading of x from the second `from` on, past the first jump over x, and d if there is none.
+fn read_after(f: &[u8], z: Zone, x: u64, from: u64, d: u64) -> u64
+    requires { ⌜ ZoneOk (now f) z × (x < 656384601600) × runs.Past (model.offsetAt (meant (now f) z)) x from d ⌝ }
+    ensures { λ r. ⌜ Resolves (model.offsetAt (meant (now (f .entry)) z)) x r ⌝ }
+{
+    let mut u = from;
+    while u < x {
+        let r = run_at(f, z, u);
+        if in_run(u, r.offset as u64, r.until, x) {
+            return x - r.offset as u64;
+        }
+        u = r.until;
+    }
+    d
+}
+
+// The second of the local second x: the earliest that reads so, or by the earliest jump over it.
+pub fn second_of(f: &[u8], z: Zone, x: u64) -> u64
+    requires { ⌜ ZoneOk (now f) z × (187200 ≤ x) × (x < 656384601600) ⌝ }
+    ensures { λ r. ⌜ r ≡ model.secondOf (meant (now (f .entry)) z) x ⌝ }
+{
+    let r = run_at(f, z, x - 187199);
+    let mut off = r.offset as u64;
+    let mut until = r.until;
+    while until <= x - off {
+        let q = run_at(f, z, until);
+        let o = q.offset as u64;
+        if x < until + o {
+            return read_after(f, z, x, until, x - off);
+        }
+        off = o;
+        until = q.until;
+    }
+    x - off
+}
+
+// Is the offset the same on all of [lo, hi]?
+pub fn steady(f: &[u8], z: Zone, lo: u64, hi: u64) -> bool
+    requires { ⌜ ZoneOk (now f) z × (12622780800 ≤ lo) × (lo < 656384601600) × (hi < 656384601600) ⌝ }
+    ensures { λ r. ⌜ r ≡ model.steady (meant (now (f .entry)) z) lo hi ⌝ }
+{
+    let r = run_at(f, z, lo);
+    let mut until = r.until;
+    while until <= hi {
+        let q = run_at(f, z, until);
+        if q.offset != r.offset {
+            return false;
+        }
+        until = q.until;
+    }
+    true
+}
