@@ -1,0 +1,54 @@
+-- Laws of comparing with stored answers: a number read, one pair tested, and one turn of counting.
+use mathlib.Core.Path.{_≡_, refl, sym, ap, _∙_}
+use mathlib.Core.Bool.{Bool, true, false}
+use mathlib.Core.List.{List}
+use Prim.Native.Nat.{ℕ, suc, _+_, _*_, _%_, _^_, _≤_, _<_}
+use native.Mathlib.Numerals.{add-one}
+use native.Mathlib.Omega.{arith}
+use lib.Dec.{ltb, leb, eqb}
+use borrow.Author.Tests.{lt-ltb, le-ltb, le-leb, lt-leb}
+use Rattle.be.specs.Be.{be64}
+use Rattle.be.specs.Walk.{both, pickN, countOf}
+use Rattle.model.specs.Zone.{secondOf}
+use Rattle.zone.specs.Zones.{meant}
+use Rattle.zone.specs.declared.Zone.{Zone}
+use Rattle.zone_test.specs.Answers.{shifted, localAt, answerAt, agreesAt}
+
+pub shifted-is : (a : List ℕ) (i k : ℕ) {b r : ℕ} → b ≡ be64 a i → r ≡ (b + k) % 2 ^ 64 → r ≡ shifted a i k
+unfolding shifted
+shifted-is a i k e q = rw (← e) q
+
+module _ (f : List ℕ) (z : Zone) (a : List ℕ) (i : ℕ) {x : ℕ} (e : x ≡ localAt a i) where
+  pub early : x < 187200 → false ≡ agreesAt f z a i
+  unfolding agreesAt
+  early h = rw (← e, lt-leb 187200 x h)
+
+  pub late : 187200 ≤ x → 656384601600 ≤ x → false ≡ agreesAt f z a i
+  unfolding agreesAt
+  late g h = rw (← e, le-leb 187200 x g, le-ltb x 656384601600 h)
+
+  pub inside : {s y : ℕ} → 187200 ≤ x → x < 656384601600 → s ≡ secondOf (meant f z) x → y ≡ answerAt a i → eqb s y ≡ agreesAt f z a i
+  unfolding agreesAt
+  inside {s} {y} g h p q = rw (← e, le-leb 187200 x g, lt-ltb x 656384601600 h, ← p, ← q)
+
+module _ (t : ℕ → Bool) {i k : ℕ} {b : Bool} (n : k ≡ countOf t i) (e : b ≡ t i) where
+  counted : countOf t (i + 1) ≡ k + pickN b 1 0
+  unfolding countOf
+  counted = rw (add-one, n, e)
+
+  pub counted-yes : b ≡ true → k + 1 ≡ countOf t (i + 1)
+  counted-yes q = sym (rw q at counted)
+
+  pub counted-no : b ≡ false → k ≡ countOf t (i + 1)
+  counted-no q =
+      let r : countOf t (i + 1) ≡ k + 0 = rw q at counted in
+      omega arith
+
+pub counted-all : (t : ℕ → Bool) {i k n : ℕ} → k ≡ countOf t i → i ≤ n → n ≤ i → k ≡ countOf t n
+counted-all t {i} {k} {n} e g h =
+    let q : i ≡ n = omega arith in
+    e ∙ ap (countOf t) q
+
+pub start : (t : ℕ → Bool) → 0 ≡ countOf t 0
+unfolding countOf
+start t = refl
