@@ -1,0 +1,9 @@
+pub mod Front
+pub mod Stable
+pub mod Ordering
+pub mod Merge
+pub mod Minus
+pub mod Walk
+pub mod Sum
+pub mod Clipped
+pub mod Given
