@@ -1,0 +1,327 @@
+-- The records of a book by index, and what the code's entries mean.
+use mathlib.Core.Path.{_≡_, refl, sym, ap, _∙_}
+use mathlib.Core.Bool.{Bool, true, false, _&&_}
+use mathlib.Core.Option.{Option, none, some}
+use mathlib.Core.List.{List, [], _∷_, map}
+use Prim.Native.Nat.{ℕ, zero, suc, _+_, _*_, _-_, _≤_, _<_}
+use native.Mathlib.Nat.{le-of-suc-le-suc, not-suc-le-zero, sub-zero}
+use native.Mathlib.Numerals.{add-one}
+use native.Mathlib.Omega.{arith}
+use lib.Dec.{leb, ltb, eqb}
+use lib.ListN.{length, getD, take, drop, length-take, length-map}
+use lib.Seq.{drop-drop, take-take, take-nil, getD-take, getD-drop}
+use borrow.Author.Tests.{leb-true, ltb-true, eqb-true, eqb-false, eq-eqb, ne-eqb}
+use Rattle.be.specs.Be.{be16, be32}
+use Rattle.be.specs.Maybe.{isSome, orEmpty}
+use Rattle.be.specs.Walk.{both, allFrom}
+use Rattle.be.proofs.Walk.{all-at}
+use Rattle.laws_base.specs.Test.{by-test, and-both, clash}
+use Rattle.model.specs.Basic.{_>>=_, given, each, run}
+use Rattle.model.specs.Directory.{partsOf}
+use Rattle.model.specs.Book as model
+use Rattle.model.specs.Book.{holidays, entryOf, entriesOf}
+use Rattle.pack.specs.Directory.{countAt, startAt, lenAt, partAt, recordOk, entriesOk, dirOk}
+use Rattle.pack.proofs.Parts.{parts-index, as-dir}
+use Rattle.book.specs.declared.Time.{Time}
+use Rattle.book.specs.declared.Entry.{Entry}
+use Rattle.book.specs.Meaning.{recordsOf, yearAt, dayAt, datesAt, bodyIn, meaning, timeFrom, entryFrom, bytesAt, noEntry, IsTimed, IsEntry}
+use Rattle.book.specs.Accepts.{isTime, isHours, areDays, isDates, isBody, isRecord, isRecordAt, isBook}
+use Rattle.book.proofs.Bytes.{timeTest, timeValue, hoursTest, hoursValue, time-says, hours-says, holidaysTest, bodyTest, bodyValue, recordTest, recordValue, dates-says, body-says, record-says, entry-is}
+
+-- ---- the book by index
+
+unfoldable pub valueAt : List ℕ → ℕ → model.Entry
+valueAt b i = recordValue (startAt b i) (bytesAt b i)
+
+given-cons : {A : Type 0} (t u : Bool) (a : A) (r : List A) → (given t a >>= λ b. given u r >>= λ s. some (b ∷ s)) ≡ given (both t u) (a ∷ r)
+given-cons true true a r = refl
+given-cons true false a r = refl
+given-cons false u a r = refl
+
+entry-at : (b : List ℕ) (i : ℕ) → entryOf (partAt b i) ≡ given (isRecordAt b i) (valueAt b i)
+unfolding partAt valueAt bytesAt
+entry-at b i = entry-is (startAt b i) (take (lenAt b i) (drop (startAt b i) b))
+
+each-entry : (b : List ℕ) (k i : ℕ) → each entryOf (map (partAt b) (run i k)) ≡ given (allFrom (isRecordAt b) i k) (map (valueAt b) (run i k))
+unfolding each run allFrom
+each-entry b zero i = refl
+each-entry b (suc k) i =
+    let r : each entryOf (map (partAt b) (run (suc i) k)) ≡ given (allFrom (isRecordAt b) (i + 1) k) (map (valueAt b) (run (suc i) k)) =
+    rw (← add-one i) (each-entry b k (i + 1)) in
+    rw (entry-at b i, r) (given-cons (isRecordAt b i) (allFrom (isRecordAt b) (i + 1) k) (valueAt b i) (map (valueAt b) (run (suc i) k)))
+
+unfoldable pub bookTest : List ℕ → Bool
+bookTest b = dirOk b && allFrom (isRecordAt b) 0 (countAt b)
+
+pub book-is : (b : List ℕ) → entriesOf b ≡ given (bookTest b) (map (valueAt b) (run 0 (countAt b)))
+unfolding entriesOf bookTest
+book-is b = by-test (dirOk b) (λ e. rw (parts-index b, e) (each-entry b (countAt b) 0)) (λ e. rw (parts-index b, e))
+
+-- r is what the code's test gives
+pub book-says : (b : List ℕ) {r : Bool} → r ≡ bookTest b → r ≡ isBook b
+unfolding isBook
+book-says b e = e ∙ given-some (bookTest b) (map (valueAt b) (run 0 (countAt b))) ∙ ap isSome (sym (book-is b))
+  where
+    given-some : {A : Type 0} (t : Bool) (a : A) → t ≡ isSome (given t a)
+    given-some true a = refl
+    given-some false a = refl
+
+module _ (b : List ℕ) {r : Bool} (d : r ≡ isSome (partsOf b)) where
+  pub book-no : r ≡ false → false ≡ isBook b
+  unfolding bookTest
+  book-no q = let e : dirOk b ≡ false = as-dir b refl ∙ sym d ∙ q in book-says b (rw e)
+
+  pub book-yes : {n : ℕ} {t : Bool} → r ≡ true → n ≡ countAt b → t ≡ allFrom (isRecordAt b) 0 n → t ≡ isBook b
+  unfolding bookTest
+  book-yes q en k = let e : dirOk b ≡ true = as-dir b refl ∙ sym d ∙ q in book-says b (rw (e, ← en) k)
+
+-- ---- a book that keeps its layout
+
+-- the i-th of a run of values
+length-run : (i k : ℕ) → length (run i k) ≡ k
+unfolding run
+length-run i zero = refl
+length-run i (suc k) = ap suc (length-run (suc i) k)
+
+getD-run : {A : Type 0} (f : ℕ → A) (d : A) (k i j : ℕ) → j < k → getD (map f (run i k)) j d ≡ f (i + j)
+unfolding run
+getD-run f d zero i j h = absurd (not-suc-le-zero h)
+getD-run f d (suc k) i zero h = let e : i + 0 ≡ i = omega arith in rw e
+getD-run f d (suc k) i (suc j) h = let e : suc i + j ≡ i + suc j = omega arith in rw (getD-run f d k (suc i) j (le-of-suc-le-suc h), e)
+
+-- the entries of the directory end inside
+entries-in : (b : List ℕ) (k lo i j : ℕ) → entriesOk b lo i k ≡ true → j < k → startAt b (i + j) + lenAt b (i + j) ≤ length b
+unfolding entriesOk recordOk
+entries-in b zero lo i j h l = absurd (not-suc-le-zero l)
+entries-in b (suc k) lo i zero h l =
+    let o = startAt b i in
+    let n = lenAt b i in
+    let a = and-both (leb lo o && leb (o + n) (length b)) (entriesOk b (o + n) (i + 1) k) h in
+    let e : i + 0 ≡ i = omega arith in
+    rw e (leb-true (o + n) (length b) (and-both (leb lo o) (leb (o + n) (length b)) (a .0) .1))
+entries-in b (suc k) lo i (suc j) h l =
+    let o = startAt b i in
+    let n = lenAt b i in
+    let a = and-both (leb lo o && leb (o + n) (length b)) (entriesOk b (o + n) (i + 1) k) h in
+    let e : i + 1 + j ≡ i + suc j = omega arith in
+    rw (← e) (entries-in b k (o + n) (i + 1) j (a .1) (le-of-suc-le-suc l))
+
+module _ (b : List ℕ) (h : isBook b ≡ true) where
+  tested : (dirOk b ≡ true) × (allFrom (isRecordAt b) 0 (countAt b) ≡ true)
+  unfolding bookTest
+  tested = and-both (dirOk b) (allFrom (isRecordAt b) 0 (countAt b)) (book-says b refl ∙ h)
+
+  records-are : recordsOf b ≡ map (valueAt b) (run 0 (countAt b))
+  unfolding bookTest
+  records-are = rw (book-is b, tested .0, tested .1)
+
+  pub count-is : countAt b ≡ length (recordsOf b)
+  count-is = sym (ap length records-are ∙ length-map (run 0 (countAt b)) (valueAt b) ∙ length-run 0 (countAt b))
+
+  module _ (i : ℕ) (l : i < countAt b) where
+    pub value-is : getD (recordsOf b) i noEntry ≡ valueAt b i
+    value-is = let e : 0 + i ≡ i = omega arith in ap (λ (r : List model.Entry). getD r i noEntry) records-are ∙ getD-run (valueAt b) noEntry (countAt b) 0 i l ∙ rw e
+
+    pub record-is : isRecord (bytesAt b i) ≡ true
+    record-is = all-at (isRecordAt b) (countAt b) i (tested .1) l
+
+    pub ends-in : startAt b i + lenAt b i ≤ length b
+    unfolding dirOk
+    ends-in =
+        let m = 4 + 8 * countAt b in
+        let a = and-both (leb 4 (length b)) (leb m (length b) && entriesOk b m 0 (countAt b)) (tested .0) in
+        let c = and-both (leb m (length b)) (entriesOk b m 0 (countAt b)) (a .1) in
+        let e : 0 + i ≡ i = omega arith in
+        rw e at (entries-in b (countAt b) m 0 i (c .1) l)
+
+-- ---- from the bytes of a record to those of the book
+
+drop-take : {A : Type 0} (n m : ℕ) (l : List A) → n ≤ m → drop n (take m l) ≡ take (m - n) (drop n l)
+drop-take zero m l h = ap (λ (k : ℕ). take k l) (sym (sub-zero m))
+drop-take (suc n) zero l h = absurd (omega arith)
+drop-take (suc n) (suc m) [] h = sym (take-nil (suc m - suc n))
+drop-take (suc n) (suc m) (x ∷ l) h =
+    let e : suc m - suc n ≡ m - n = omega arith in
+    rw e (drop-take n m l (le-of-suc-le-suc h))
+
+-- the record of at most k bytes that stands at o
+module _ (b : List ℕ) (o k : ℕ) where
+  short : length (take k (drop o b)) ≤ k
+  short = omega (arith, length-take k (drop o b))
+
+  byte-moved : (j m : ℕ) → j < length (take k (drop o b)) → m ≡ o + j → getD b m 0 ≡ getD (take k (drop o b)) j 0
+  byte-moved j m h e = rw (e, getD-take k (drop o b) j 0 (omega (arith, short)), getD-drop o b j 0)
+
+  day-moved : (q m : ℕ) → q + 4 ≤ length (take k (drop o b)) → m ≡ o + q → dayAt b m ≡ dayAt (take k (drop o b)) q
+  unfolding dayAt yearAt be16
+  day-moved q m h e =
+      rw (
+        byte-moved q m (omega arith) e,
+        byte-moved (q + 1) (m + 1) (omega arith) (omega arith),
+        byte-moved (q + 2) (m + 2) (omega arith) (omega arith),
+        byte-moved (q + 3) (m + 3) (omega arith) (omega arith),
+      )
+
+  dates-moved : (n q m : ℕ) → q + 4 * n ≤ length (take k (drop o b)) → m ≡ o + q → datesAt b m n ≡ datesAt (take k (drop o b)) q n
+  unfolding datesAt
+  dates-moved zero q m h e = refl
+  dates-moved (suc n) q m h e = rw (day-moved q m (omega arith) e, dates-moved n (q + 4) (m + 4) (omega arith) (omega arith))
+
+  name-moved : (n q m : ℕ) → q + n ≤ length (take k (drop o b)) → m ≡ o + q → take n (drop m b) ≡ take n (drop q (take k (drop o b)))
+  name-moved n q m h e = rw (e, drop-take q k (drop o b) (omega (arith, short)), take-take n (k - q) (drop q (drop o b)) (omega (arith, short)), drop-drop q o b)
+
+-- ---- what an entry means
+
+-- a body of a kind that is not 0, 1 or 2 is of kind 3 and has whole dates
+dates-whole : (kind : ℕ) (l : List ℕ) (p : ℕ) → p ≤ length l → isBody kind l p ≡ true → eqb kind 0 ≡ false → eqb kind 1 ≡ false → eqb kind 2 ≡ false →
+    (kind ≡ 3) × (p + 2 + 4 * be16 l p ≡ length l)
+unfolding bodyTest holidaysTest
+dates-whole kind l p h t e₀ e₁ e₂ =
+    by-test (eqb kind 3)
+    (λ e.
+    let d : isDates l p ≡ true = rw (e₀, e₁, e₂, e) at (body-says kind l p h refl ∙ t) in
+    let q = and-both (leb (p + 2) (length l)) (eqb (length l) (p + 2 + 4 * be16 l p) && areDays l (p + 2) (be16 l p)) (dates-says l p h refl ∙ d) in
+    let f = and-both (eqb (length l) (p + 2 + 4 * be16 l p)) (areDays l (p + 2) (be16 l p)) (q .1) in
+    (eqb-true kind 3 e, sym (eqb-true (length l) (p + 2 + 4 * be16 l p) (f .0))))
+    (λ e. let d : false ≡ true = rw (e₀, e₁, e₂, e) at (body-says kind l p h refl ∙ t) in clash false d refl)
+
+kind-few : (kind : ℕ) (l : List ℕ) (p : ℕ) → p ≤ length l → isBody kind l p ≡ true → kind ≤ 3
+kind-few kind l p h t =
+    by-test (eqb kind 0)
+    (λ e. let q : kind ≡ 0 = eqb-true kind 0 e in omega arith)
+    (λ e₀. by-test (eqb kind 1)
+    (λ e. let q : kind ≡ 1 = eqb-true kind 1 e in omega arith)
+    (λ e₁. by-test (eqb kind 2)
+    (λ e. let q : kind ≡ 2 = eqb-true kind 2 e in omega arith)
+    (λ e₂. omega (arith, dates-whole kind l p h t e₀ e₁ e₂ .0))))
+
+-- the name is short and inside, and the body is one
+record-facts : (l : List ℕ) → isRecord l ≡ true → (getD l 1 0 ≤ 64) × (2 + getD l 1 0 ≤ length l) × (isBody (getD l 0 0) l (2 + getD l 1 0) ≡ true)
+unfolding recordTest
+record-facts l t =
+    let n = getD l 1 0 in
+    let a = and-both (leb n 64) (leb (2 + n) (length l) && isBody (getD l 0 0) l (2 + n)) (record-says l refl ∙ t) in
+    let c = and-both (leb (2 + n) (length l)) (isBody (getD l 0 0) l (2 + n)) (a .1) in
+    (leb-true n 64 (a .0), leb-true (2 + n) (length l) (c .0), c .1)
+
+module _ (b : List ℕ) (o k : ℕ) (h : o + k ≤ length b) (t : isRecord (take k (drop o b)) ≡ true) where
+  body-means : bodyIn b (entryFrom o (take k (drop o b))) ≡ bodyValue (getD (take k (drop o b)) 0 0) (take k (drop o b)) (2 + getD (take k (drop o b)) 1 0)
+  unfolding entryFrom bodyValue hoursValue timeValue timeFrom
+  body-means =
+      let l = take k (drop o b) in
+      let kind = getD l 0 0 in
+      let p = 2 + getD l 1 0 in
+      let f = record-facts l t in
+      by-test (eqb kind 0) (λ e₀. rw e₀)
+      (λ e₀. by-test (eqb kind 1) (λ e₁. rw (e₀, e₁))
+      (λ e₁. by-test (eqb kind 2) (λ e₂. rw (e₀, e₁, e₂))
+      (λ e₂.
+      let w = dates-whole kind l p (f .1) (f .2) e₀ e₁ e₂ in
+      rw (e₀, e₁, e₂) (ap holidays (dates-moved b o k (be16 l p) (p + 2) (o + (p + 2)) (omega (arith, w .1)) refl)))))
+
+  means-record : meaning b (entryFrom o (take k (drop o b))) ≡ recordValue o (take k (drop o b))
+  unfolding meaning entryFrom recordValue
+  means-record =
+      let l = take k (drop o b) in
+      let f = record-facts l t in
+      let n : take (getD l 1 0) (drop (o + 2) b) ≡ take (getD l 1 0) (drop 2 l) = name-moved b o k (getD l 1 0) 2 (o + 2) (f .1) refl in
+      λ i. record { place = o; name = n i; body = body-means i }
+
+has-book : (b : List ℕ) (i : ℕ) → i < length (recordsOf b) → isBook b ≡ true
+unfolding isBook
+has-book b i h = go (entriesOf b) h
+  where
+    go : (m : Option (List model.Entry)) → i < length (orEmpty m) → isSome m ≡ true
+    go none l = absurd (not-suc-le-zero l)
+    go (some r) l = refl
+
+-- where the dates of a record of kind 3 end
+dates-end : (b : List ℕ) (o k : ℕ) → o + k ≤ length b → isRecord (take k (drop o b)) ≡ true → entryFrom o (take k (drop o b)) .kind ≡ 3 →
+    entryFrom o (take k (drop o b)) .dates + 4 * entryFrom o (take k (drop o b)) .count ≤ length b
+unfolding entryFrom
+dates-end b o k h t e =
+    let l = take k (drop o b) in
+    let kind = getD l 0 0 in
+    let p = 2 + getD l 1 0 in
+    let f = record-facts l t in
+    let w = dates-whole kind l p (f .1) (f .2) (rw e) (rw e) (rw e) in
+    omega (arith, w .1, short b o k)
+
+name-end : (b : List ℕ) (o k : ℕ) → o + k ≤ length b → isRecord (take k (drop o b)) ≡ true →
+    entryFrom o (take k (drop o b)) .name + entryFrom o (take k (drop o b)) .letters ≤ length b
+unfolding entryFrom
+name-end b o k h t = omega (arith, record-facts (take k (drop o b)) t .1, short b o k)
+
+kind-in : (b : List ℕ) (o k : ℕ) → isRecord (take k (drop o b)) ≡ true → entryFrom o (take k (drop o b)) .kind ≤ 3
+unfolding entryFrom
+kind-in b o k t =
+    let l = take k (drop o b) in
+    let f = record-facts l t in
+    kind-few (getD l 0 0) l (2 + getD l 1 0) (f .1) (f .2)
+
+-- the bounds of a time of day, and of a work or break record
+time-facts : (l : List ℕ) (p : ℕ) → p + 8 ≤ length l → isTime l p ≡ true → (be32 l p < 86400) × (be32 l (p + 4) < 1000000000)
+unfolding timeTest
+time-facts l p h t =
+    let a = and-both (ltb (be32 l p) 86400) (ltb (be32 l (p + 4)) 1000000000) (time-says l p h refl ∙ t) in
+    (ltb-true (be32 l p) 86400 (a .0), ltb-true (be32 l (p + 4)) 1000000000 (a .1))
+
+hours-facts : (l : List ℕ) (p : ℕ) → p ≤ length l → isHours l p ≡ true →
+    (getD l p 0 < 128) × ((be32 l (p + 1) < 86400) × (be32 l (p + 1 + 4) < 1000000000)) × ((be32 l (p + 9) < 86400) × (be32 l (p + 9 + 4) < 1000000000))
+unfolding hoursTest
+hours-facts l p h t =
+    let a = and-both (eqb (length l) (p + 17)) (ltb (getD l p 0) 128 && (isTime l (p + 1) && isTime l (p + 9))) (hours-says l p h refl ∙ t) in
+    let k : length l ≡ p + 17 = eqb-true (length l) (p + 17) (a .0) in
+    let c = and-both (ltb (getD l p 0) 128) (isTime l (p + 1) && isTime l (p + 9)) (a .1) in
+    let d = and-both (isTime l (p + 1)) (isTime l (p + 9)) (c .1) in
+    (ltb-true (getD l p 0) 128 (c .0), time-facts l (p + 1) (omega arith) (d .0), time-facts l (p + 9) (omega arith) (d .1))
+
+hours-of : (kind : ℕ) (l : List ℕ) (p : ℕ) → p ≤ length l → isBody kind l p ≡ true → 1 ≤ kind → kind ≤ 2 → isHours l p ≡ true
+unfolding bodyTest
+hours-of kind l p h t a c =
+    let e₀ : eqb kind 0 ≡ false = ne-eqb kind 0 (λ q. omega arith) in
+    by-test (eqb kind 1)
+    (λ e. rw (e₀, e) at (body-says kind l p h refl ∙ t))
+    (λ e₁.
+    let n₁ = eqb-false kind 1 e₁ in
+    let e₂ : eqb kind 2 ≡ true = eq-eqb kind 2 (omega arith) in
+    rw (e₀, e₁, e₂) at (body-says kind l p h refl ∙ t))
+
+timed-in : (b : List ℕ) (o k : ℕ) → isRecord (take k (drop o b)) ≡ true → 1 ≤ entryFrom o (take k (drop o b)) .kind → entryFrom o (take k (drop o b)) .kind ≤ 2 →
+    IsTimed (entryFrom o (take k (drop o b)))
+unfolding entryFrom timeFrom
+timed-in b o k t x y =
+    let l = take k (drop o b) in
+    let f = record-facts l t in
+    let p = 2 + getD l 1 0 in
+    let q = hours-facts l p (f .1) (hours-of (getD l 0 0) l p (f .1) (f .2) x y) in
+    record { days = q .0; start-seconds = q .1 .0; start-nanos = q .1 .1; end-seconds = q .2 .0; end-nanos = q .2 .1 }
+
+-- the entry that the code makes of what it reads
+pub entry-read : (o : ℕ) (l : List ℕ) {n k d c : ℕ} {s f : Time} → n ≡ getD l 1 0 → k ≡ getD l 0 0 → d ≡ getD l (2 + n) 0 → s ≡ timeFrom l (2 + n + 1) →
+    f ≡ timeFrom l (2 + n + 9) → c ≡ be16 l (2 + n) →
+    record { kind = k; place = o; name = o + 2; letters = n; days = d; start = s; end = f; dates = o + (2 + n + 2); count = c } ≡ entryFrom o l
+unfolding entryFrom
+entry-read o l en ek ed es ef ec = rw (ek, ed, es, ef, ec, en)
+
+-- the entry that the code reads
+pub is-entry : (b : List ℕ) (i : ℕ) {o : ℕ} {l : List ℕ} {e : Entry} → i < length (recordsOf b) → o ≡ startAt b i → l ≡ bytesAt b i → e ≡ entryFrom o l →
+    e .count < 65536 → IsEntry b i e
+unfolding bytesAt valueAt
+is-entry b i {o} {l} {e} h eo el ee few =
+    let t : isBook b ≡ true = has-book b i h in
+    let c : i < countAt b = omega (arith, count-is b t) in
+    let a = startAt b i in
+    let n = lenAt b i in
+    let q : a + n ≤ length b = ends-in b t i c in
+    let r : isRecord (take n (drop a b)) ≡ true = record-is b t i c in
+    let x : e ≡ entryFrom a (take n (drop a b)) = ee ∙ rw (eo, el) in
+    rw x
+    (record {
+      means = means-record b a n q r ∙ sym (value-is b t i c);
+      kind = kind-in b a n r;
+      name = name-end b a n q r;
+      dates = dates-end b a n q r;
+      few = rw x at few;
+      timed = timed-in b a n r;
+    })

@@ -1,0 +1,4 @@
+pub mod Bytes
+pub mod Walks
+pub mod Entries
+pub mod Tally

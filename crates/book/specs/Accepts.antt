@@ -1,0 +1,41 @@
+-- What the code's tests say of a record's bytes l, from the place p on: that the crate `model` reads there what the test is named after.
+use mathlib.Core.Bool.{Bool}
+use mathlib.Core.List.{List}
+use Prim.Native.Nat.{ℕ}
+use lib.ListN.{take, drop}
+use Rattle.model.specs.Basic.{each}
+use Rattle.model.specs.Bytes.{pieces}
+use Rattle.model.specs.Book.{timeOf, hoursOf, dateIn, datesOf, bodyOf, entryOf, entriesOf}
+use Rattle.be.specs.Maybe.{isSome}
+use Rattle.book.specs.Meaning.{bytesAt}
+
+unfoldable pub isTime : List ℕ → ℕ → Bool
+isTime l p = isSome (timeOf (drop p l))
+
+unfoldable pub isHours : List ℕ → ℕ → Bool
+isHours l p = isSome (hoursOf (drop p l))
+
+unfoldable pub isDay : List ℕ → ℕ → Bool
+isDay l p = isSome (dateIn (take 4 (drop p l)))
+
+-- n dates
+unfoldable pub areDays : List ℕ → ℕ → ℕ → Bool
+areDays l p n = isSome (each dateIn (pieces 4 n (drop p l)))
+
+-- a count and as many dates
+unfoldable pub isDates : List ℕ → ℕ → Bool
+isDates l p = isSome (datesOf (drop p l))
+
+unfoldable pub isBody : ℕ → List ℕ → ℕ → Bool
+isBody kind l p = isSome (bodyOf kind (drop p l))
+
+-- the whole of l is a record, wherever it stands
+unfoldable pub isRecord : List ℕ → Bool
+isRecord l = isSome (entryOf (record { place = 0; bytes = l }))
+
+-- so are the bytes of record i of the book b
+abbrev pub isRecordAt : List ℕ → ℕ → Bool
+isRecordAt b i = isRecord (bytesAt b i)
+
+unfoldable pub isBook : List ℕ → Bool
+isBook b = isSome (entriesOf b)

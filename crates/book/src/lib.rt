@@ -1,0 +1,373 @@
+// The rule book: its layout, its limits, and its records by value. Names and dates stay in the book that the caller lends.
+ghost use mathlib.Core.Path.{_≡_};
+ghost use Prim.Native.Nat.{_+_, _*_, _≤_, _<_};
+ghost use mathlib.Core.Bool.{true};
+ghost use mathlib.Core.Option.{none};
+ghost use lib.ListN.{length, getElem?};
+ghost use Rattle.model.specs.Basic.{among, distinct};
+ghost use Rattle.model.specs.Book.{dates, tally, withinLimits, lastDefault};
+ghost use Rattle.be.specs.Walk.{allFrom};
+ghost use Rattle.book.specs.Meaning.{recordsOf, yearAt, dayAt, datesAt, ofKind, timeFrom, entryFrom, bytesAt, IsEntry};
+ghost use Rattle.book.specs.Accepts.{isTime, isHours, isDay, areDays, isDates, isBody, isRecord, isRecordAt, isBook};
+
+// A time of day.
+pub struct Time {
+    pub seconds: u32,
+    pub nanos: u32,
+}
+
+// A record of the book. A name and dates are given by where they stand in the book.
+pub struct Entry {
+    // 0 default zone, 1 work, 2 break, 3 holidays
+    pub kind: u8,
+    // where the record starts
+    pub place: usize,
+    // where its zone name starts, and the name's length
+    pub name: usize,
+    pub letters: usize,
+    // work and break: the set of weekdays, start and end
+    pub days: u8,
+    pub start: Time,
+    pub end: Time,
+    // holidays: where the dates start, and how many there are
+    pub dates: usize,
+    pub count: usize,
+}
+
+// ---- the layout of a record: l is its bytes, p a place in them
+
+// A time of day: seconds below 86,400 and nanoseconds.
+fn time_ok(l: &[u8], p: usize) -> bool
+    requires { ⌜ p + 8 ≤ length (now l) ⌝ }
+    ensures { λ r. ⌜ r ≡ isTime (now (l .entry)) p ⌝ }
+{
+    if be::be32_at(l, p) >= 86400 {
+        return false;
+    }
+    be::be32_at(l, p + 4) < 1000000000
+}
+
+// A set of weekdays and two times of day, and nothing behind them.
+fn hours_ok(l: &[u8], p: usize) -> bool
+    requires { ⌜ p ≤ length (now l) ⌝ }
+    ensures { λ r. ⌜ r ≡ isHours (now (l .entry)) p ⌝ }
+{
+    if l.len() != p + 17 {
+        return false;
+    }
+    if be::byte_at(l, p) >= 128 {
+        return false;
+    }
+    if !time_ok(l, p + 1) {
+        return false;
+    }
+    time_ok(l, p + 9)
+}
+
+// The year of the date at p, counted from -10400; 0 for the years before.
+fn year_at(b: &[u8], p: usize) -> u32
+    ensures { λ r. ⌜ r ≡ yearAt (now (b .entry)) p ⌝ }
+{
+    let y = (be::be16_at(b, p) + 32768) % 65536;
+    if y < 22368 {
+        return 0;
+    }
+    y - 22368
+}
+
+// A byte as a wider number.
+fn wide(x: u8) -> u32
+    ensures { λ r. ⌜ r ≡ x ⌝ }
+{
+    x as u32
+}
+
+// A date: year, month and day.
+fn date_ok(l: &[u8], p: usize) -> bool
+    requires { ⌜ p + 4 ≤ length (now l) ⌝ }
+    ensures { λ r. ⌜ r ≡ isDay (now (l .entry)) p ⌝ }
+{
+    let year = year_at(l, p);
+    let month = wide(be::byte_at(l, p + 2));
+    let day = wide(be::byte_at(l, p + 3));
+    civil::is_date(year, month, day)
+}
+
+// The number of the day that is written at p, 0 where that is no date.
+pub fn date_at(b: &[u8], p: usize) -> u32
+    requires { ⌜ p + 4 ≤ length (now b) ⌝ }
+    ensures { λ r. ⌜ r ≡ dayAt (now (b .entry)) p ⌝ }
+{
+    let year = year_at(b, p);
+    let month = wide(be::byte_at(b, p + 2));
+    let day = wide(be::byte_at(b, p + 3));
+    if !civil::is_date(year, month, day) {
+        return 0;
+    }
+    civil::day_number(year, month, day)
+}
+
+// n dates.
+fn dates_ok(l: &[u8], p: usize, n: usize) -> bool
+    requires { ⌜ p + 4 * n ≤ length (now l) ⌝ }
+    ensures { λ r. ⌜ r ≡ areDays (now (l .entry)) p n ⌝ }
+{
+    let mut at = p;
+    let mut left = n;
+    while 0 < left {
+        if !date_ok(l, at) {
+            return false;
+        }
+        at += 4;
+        left -= 1;
+    }
+    true
+}
+
+// A count and as many dates, and nothing behind them.
+fn holidays_ok(l: &[u8], p: usize) -> bool
+    requires { ⌜ p ≤ length (now l) ⌝ }
+    ensures { λ r. ⌜ r ≡ isDates (now (l .entry)) p ⌝ }
+{
+    if l.len() < p + 2 {
+        return false;
+    }
+    let n = be::be16_at(l, p) as usize;
+    if l.len() != p + 2 + 4 * n {
+        return false;
+    }
+    dates_ok(l, p + 2, n)
+}
+
+// What stands behind the name of a record of the given kind.
+fn body_ok(kind: u8, l: &[u8], p: usize) -> bool
+    requires { ⌜ p ≤ length (now l) ⌝ }
+    ensures { λ r. ⌜ r ≡ isBody kind (now (l .entry)) p ⌝ }
+{
+    if kind == 0 {
+        return l.len() == p;
+    }
+    if kind == 1 {
+        return hours_ok(l, p);
+    }
+    if kind == 2 {
+        return hours_ok(l, p);
+    }
+    if kind == 3 {
+        return holidays_ok(l, p);
+    }
+    false
+}
+
+// A whole record: kind, name length, name, body, nothing more.
+fn record_ok(l: &[u8]) -> bool
+    ensures { λ r. ⌜ r ≡ isRecord (now (l .entry)) ⌝ }
+{
+    let n = be::small_at(l, 1);
+    if n > 64 {
+        return false;
+    }
+    if l.len() < 2 + n {
+        return false;
+    }
+    body_ok(be::byte_at(l, 0), l, 2 + n)
+}
+
+// ---- the dates of a record, which stay in the book b: n dates from p on
+
+// Is the day among them?
+pub fn has_date(b: &[u8], p: usize, n: usize, day: u32) -> bool
+    requires { ⌜ p + 4 * n ≤ length (now b) ⌝ }
+    ensures { λ r. ⌜ r ≡ among (datesAt (now (b .entry)) p n) day ⌝ }
+{
+    let mut at = p;
+    let mut left = n;
+    while 0 < left {
+        if day == date_at(b, at) {
+            return true;
+        }
+        at += 4;
+        left -= 1;
+    }
+    false
+}
+
+// How many different dates they are: a date counts if no later one equals it.
+pub fn distinct_dates(b: &[u8], p: usize, n: usize) -> usize
+    requires { ⌜ p + 4 * n ≤ length (now b) ⌝ }
+    ensures { λ r. ⌜ (r ≡ length (distinct (datesAt (now (b .entry)) p n))) × (r ≤ n) ⌝ }
+{
+    let mut at = p;
+    let mut left = n;
+    let mut count: usize = 0;
+    while 0 < left {
+        let day = date_at(b, at);
+        at += 4;
+        left -= 1;
+        if !has_date(b, at, left, day) {
+            count += 1;
+        }
+    }
+    count
+}
+
+// ---- the book's records
+
+// The bytes of record i.
+fn record_at(book: &[u8], i: usize) -> &[u8]
+    requires { ⌜ i < 4294967296 ⌝ }
+    ensures { λ r. ⌜ now r ≡ bytesAt (now (book .entry)) i ⌝ }
+{
+    be::part(book, pack::start_at(book, i), pack::len_at(book, i))
+}
+
+// Are the n records whole?
+fn records_ok(book: &[u8], n: usize) -> bool
+    requires { ⌜ n < 4294967296 ⌝ }
+    ensures { λ r. ⌜ r ≡ allFrom (isRecordAt (now (book .entry))) 0 n ⌝ }
+{
+    let mut i: usize = 0;
+    while i < n {
+        if !record_ok(record_at(book, i)) {
+            return false;
+        }
+        i += 1;
+    }
+    true
+}
+
+// Does the book keep its layout? Refusal 1 where not.
+pub fn book_ok(book: &[u8]) -> bool
+    ensures { λ r. ⌜ r ≡ isBook (now (book .entry)) ⌝ }
+{
+    if !pack::dir_ok(book) {
+        return false;
+    }
+    records_ok(book, pack::count_of(book))
+}
+
+// How many records the book has.
+pub fn count(book: &[u8]) -> usize
+    requires { ⌜ isBook (now book) ≡ true ⌝ }
+    ensures { λ r. ⌜ (r ≡ length (recordsOf (now (book .entry)))) × (r < 4294967296) ⌝ }
+{
+    pack::count_of(book)
+}
+
+// The time of day at p.
+fn read_time(l: &[u8], p: usize) -> Time
+    requires { ⌜ p < 4294967296 ⌝ }
+    ensures { λ r. ⌜ r ≡ timeFrom (now (l .entry)) p ⌝ }
+{
+    Time {
+        seconds: be::be32_at(l, p),
+        nanos: be::be32_at(l, p + 4),
+    }
+}
+
+// The record whose bytes are l and which stands at place.
+fn read_entry(l: &[u8], place: usize) -> Entry
+    requires { ⌜ place < 4294967296 ⌝ }
+    ensures { λ r. ⌜ (r ≡ entryFrom place (now (l .entry))) × (r .count < 65536) ⌝ }
+{
+    let n = be::small_at(l, 1);
+    let p = 2 + n;
+    let start = read_time(l, p + 1);
+    let end = read_time(l, p + 9);
+    Entry {
+        kind: be::byte_at(l, 0),
+        place,
+        name: place + 2,
+        letters: n,
+        days: be::byte_at(l, p),
+        start,
+        end,
+        dates: place + (p + 2),
+        count: be::be16_at(l, p) as usize,
+    }
+}
+
+// Record i.
+pub fn entry_at(book: &[u8], i: usize) -> Entry
+    requires { ⌜ (i < length (recordsOf (now book))) × (i < 4294967296) ⌝ }
+    ensures { λ r. ⌜ IsEntry (now (book .entry)) i r ⌝ }
+{
+    read_entry(record_at(book, i), pack::start_at(book, i))
+}
+
+// ---- the limits
+
+// How many records of a kind there are.
+fn kind_count(book: &[u8], kind: u8) -> usize
+    requires { ⌜ isBook (now book) ≡ true ⌝ }
+    ensures { λ r. ⌜ r ≡ tally (ofKind kind) (recordsOf (now (book .entry))) ⌝ }
+{
+    let n = count(book);
+    let mut sum: usize = 0;
+    let mut i: usize = 0;
+    while i < n {
+        let e = entry_at(book, i);
+        i += 1;
+        if e.kind == kind {
+            sum += 1;
+        }
+    }
+    sum
+}
+
+// How many dates the records have, as written.
+fn date_count(book: &[u8]) -> usize
+    requires { ⌜ isBook (now book) ≡ true ⌝ }
+    ensures { λ r. ⌜ r ≡ tally dates (recordsOf (now (book .entry))) ⌝ }
+{
+    let n = count(book);
+    let mut sum: usize = 0;
+    let mut i: usize = 0;
+    while i < n {
+        let e = entry_at(book, i);
+        i += 1;
+        if e.kind == 3 {
+            sum += e.count;
+        }
+    }
+    sum
+}
+
+// Does the book keep within its limits? Refusal 2 where not.
+pub fn limits_ok(book: &[u8]) -> bool
+    requires { ⌜ isBook (now book) ≡ true ⌝ }
+    ensures { λ r. ⌜ r ≡ withinLimits (recordsOf (now (book .entry))) ⌝ }
+{
+    if count(book) > 64 {
+        return false;
+    }
+    if kind_count(book, 1) > 16 {
+        return false;
+    }
+    if kind_count(book, 2) > 16 {
+        return false;
+    }
+    if kind_count(book, 3) > 8 {
+        return false;
+    }
+    date_count(book) <= 512
+}
+
+// The record whose default zone wins, the last of kind 0; the number of records where there is none.
+pub fn last_default(book: &[u8]) -> usize
+    requires { ⌜ isBook (now book) ≡ true ⌝ }
+    ensures { λ r. ⌜ (getElem? (recordsOf (now (book .entry))) r ≡ lastDefault none (recordsOf (now (book .entry)))) × (r ≤ length (recordsOf (now (book .entry)))) ⌝ }
+{
+    let n = count(book);
+    let mut found = n;
+    let mut i: usize = 0;
+    while i < n {
+        let at = i;
+        let e = entry_at(book, at);
+        i += 1;
+        if e.kind == 0 {
+            found = at;
+        }
+    }
+    found
+}

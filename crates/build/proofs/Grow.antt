@@ -1,0 +1,139 @@
+-- A schedule with one record more: what it means, and that its rules fit.
+use mathlib.Core.Path.{_≡_, refl, sym, ap, subst, _∙_}
+use mathlib.Core.List.{List, [], _∷_, _++_, map}
+use Prim.Native.Nat.{ℕ, zero, suc, _+_, _*_, _≤_, _<_}
+use native.Mathlib.Omega.{arith}
+use native.Mathlib.Numerals.{add-one}
+use lib.Dec.{eqb}
+use lib.ListN.{length, take, drop, set}
+use lib.Seq.{take-suc-set}
+use borrow.Author.Tests.{ne-eqb}
+use Rattle.model.specs.Basic.{distinct}
+use Rattle.model.specs.Instant.{second, day}
+use Rattle.model.specs.Book.{Body, default, work, pause, holidays}
+use Rattle.model.specs.Working as model
+use Rattle.blocks.proofs.Front.{front-push}
+use Rattle.book.specs.declared.Entry.{Entry}
+use Rattle.book.specs.Meaning.{datesAt, hoursIn, bodyIn, IsTimed}
+use Rattle.rules.specs.declared.Rule.{Rule}
+use Rattle.rules.specs.declared.Closed.{Closed}
+use Rattle.rules.specs.declared.Schedule.{Schedule}
+use Rattle.rules.specs.Rules.{ruleIs, holidaysIs, scheduleIs, RuleFits, ClosedFits, All}
+use Rattle.build.specs.declared.Opened.{Opened}
+use Rattle.build.specs.Read.{zoneMeant, OpenedWell, ruleFrom, closedFrom, withWork, withBreak, withClosed, added, Kept, Room, Grown}
+
+-- ---- one element more
+
+all-more : {A : Type 0} (P : A → Type 0) (l : List A) (x : A) → All P l → P x → All P (l ++ (x ∷ []))
+all-more P [] x h k = (k, tt)
+all-more P (y ∷ l) x h k = (h .0, all-more P l x (h .1) k)
+
+all-push : {A : Type 0} (P : A → Type 0) (n : ℕ) (l : List A) (x : A) → n < length l → All P (take n l) → P x → All P (take (n + 1) (set l n x))
+all-push P n l x h a k = rw (add-one n, take-suc-set l n x h) (all-more P (take n l) x a k)
+
+module _ (p : List ℕ) (e : Entry) (o : Opened) where
+  rule-fits : OpenedWell p o → IsTimed e → RuleFits p (ruleFrom e o)
+  rule-fits w t = record {
+    opened = w;
+    days = t .days;
+    from = record { seconds = t .start-seconds; nanos = t .start-nanos };
+    to = record { seconds = t .end-seconds; nanos = t .end-nanos };
+  }
+
+length-dates : (b : List ℕ) (p n : ℕ) → length (datesAt b p n) ≡ n
+unfolding datesAt
+length-dates b p zero = refl
+length-dates b p (suc n) = ap suc (length-dates b (p + 4) n)
+
+-- 7 days in seconds for each of k dates
+more-limit : (l k : ℕ) → (l + 604800 * k) * second ≡ l * second + 7 * k * day
+more-limit l k = omega arith
+
+-- ---- room for the record, by its kind
+
+module _ (b : List ℕ) (s : Schedule) (e : Entry) (room : Room b s e) where
+  pub work-room : e .kind ≡ 1 → s .works < 16
+  work-room q = let h : s .works + 1 ≤ 16 = rw q at (room .works) in omega arith
+
+  pub pause-room : e .kind ≡ 2 → s .pauses < 16
+  pause-room q = let h : s .pauses + 1 ≤ 16 = rw q at (room .pauses) in omega arith
+
+  module _ (n₀ : e .kind ≡ 0 → ⊥) (n₁ : e .kind ≡ 1 → ⊥) (n₂ : e .kind ≡ 2 → ⊥) where
+    is-three : e .kind ≡ 3
+    is-three = omega (arith, room .kind)
+
+    closed-room : s .closings + 1 ≤ 8
+    closed-room = rw is-three at (room .closings)
+
+    limit-room : s .limit + 604800 * e .count ≤ 341280000
+    limit-room = rw (is-three, length-dates b (e .dates) (e .count)) at (room .limit)
+
+    pub dates-inside : e .dates + 4 * e .count ≤ length b
+    dates-inside = room .inside is-three
+
+    pub closed-fits : {k : ℕ} → k ≤ e .count → (s .closings < 8) × (s .limit + 604800 * k ≤ 341280000)
+    closed-fits {k} h = (omega (arith, closed-room), omega (arith, limit-room))
+
+-- ---- the schedule with the record
+
+module _ (b p : List ℕ) (s : Schedule) (e : Entry) (o : Opened) (room : Room b s e) where
+  pub grown-none : e .kind ≡ 0 → Grown b p s e o s
+  grown-none q = record {
+    means = rw q;
+    kept = λ _ k. k;
+    works = rw q (omega arith);
+    pauses = rw q (omega arith);
+    closings = rw q (omega arith);
+    limit = rw q (omega arith);
+  }
+
+  module _ (q : e .kind ≡ 1) where
+    timed-work : IsTimed e
+    timed-work = room .timed (omega arith) (omega arith)
+
+    pub grown-work : {x : Rule} {r : Schedule} → x ≡ ruleFrom e o → r ≡ withWork s x → length (s .work) ≡ 16 → Grown b p s e o r
+    grown-work ex er el =
+        let h : s .works < length (s .work) = omega (arith, work-room b s e room q) in
+        rw (er, ex) (record {
+          means = rw q (ap (λ (w : List model.Rule). record { work = w; breaks = scheduleIs b p s .breaks; holidays = scheduleIs b p s .holidays; limit = s .limit * second }) (front-push (ruleIs p) (s .works) (s .work) (ruleFrom e o) h));
+          kept = λ w k. record { work = all-push (RuleFits p) (s .works) (s .work) (ruleFrom e o) h (k .work) (rule-fits p e o w timed-work); breaks = k .breaks; closed = k .closed };
+          works = rw q;
+          pauses = rw q (omega arith);
+          closings = rw q (omega arith);
+          limit = rw q (omega arith);
+        })
+
+  module _ (q : e .kind ≡ 2) where
+    timed-pause : IsTimed e
+    timed-pause = room .timed (omega arith) (omega arith)
+
+    pub grown-break : {x : Rule} {r : Schedule} → x ≡ ruleFrom e o → r ≡ withBreak s x → length (s .breaks) ≡ 16 → Grown b p s e o r
+    grown-break ex er el =
+        let h : s .pauses < length (s .breaks) = omega (arith, pause-room b s e room q) in
+        rw (er, ex) (record {
+          means = rw q (ap (λ (w : List model.Rule). record { work = scheduleIs b p s .work; breaks = w; holidays = scheduleIs b p s .holidays; limit = s .limit * second }) (front-push (ruleIs p) (s .pauses) (s .breaks) (ruleFrom e o) h));
+          kept = λ w k. record { work = k .work; breaks = all-push (RuleFits p) (s .pauses) (s .breaks) (ruleFrom e o) h (k .breaks) (rule-fits p e o w timed-pause); closed = k .closed };
+          works = rw q (omega arith);
+          pauses = rw q;
+          closings = rw q (omega arith);
+          limit = rw q (omega arith);
+        })
+
+  module _ (n₀ : e .kind ≡ 0 → ⊥) (n₁ : e .kind ≡ 1 → ⊥) (n₂ : e .kind ≡ 2 → ⊥) where
+    pub grown-closed : {x : Closed} {r : Schedule} {k : ℕ} → x ≡ closedFrom e o → r ≡ withClosed s x k → length (s .closed) ≡ 8 →
+        k ≡ length (distinct (datesAt b (e .dates) (e .count))) → k ≤ e .count → Grown b p s e o r
+    grown-closed {k = k} ex er el ek few =
+        let t : e .kind ≡ 3 = is-three b s e room n₀ n₁ n₂ in
+        let h : s .closings < length (s .closed) = omega (arith, closed-room b s e room n₀ n₁ n₂) in
+        let d = distinct (datesAt b (e .dates) (e .count)) in
+        let a : scheduleIs b p (withClosed s (closedFrom e o) k) .holidays ≡ scheduleIs b p s .holidays ++ (record { zone = zoneMeant p o; dates = d } ∷ []) =
+        front-push (holidaysIs b p) (s .closings) (s .closed) (closedFrom e o) h in
+        let l : (s .limit + 604800 * k) * second ≡ s .limit * second + 7 * length d * day = more-limit (s .limit) k ∙ ap (λ (m : ℕ). s .limit * second + 7 * m * day) ek in
+        rw (er, ex) (record {
+          means = rw t (λ i. record { work = scheduleIs b p s .work; breaks = scheduleIs b p s .breaks; holidays = a i; limit = l i });
+          kept = λ w j. record { work = j .work; breaks = j .breaks; closed = all-push (ClosedFits b p) (s .closings) (s .closed) (closedFrom e o) h (j .closed) (record { opened = w; inside = dates-inside b s e room n₀ n₁ n₂ }) };
+          works = rw t (omega arith);
+          pauses = rw t (omega arith);
+          closings = rw t;
+          limit = rw (t, length-dates b (e .dates) (e .count)) (omega arith);
+        })

@@ -1,0 +1,5 @@
+pub mod Seek
+pub mod Grow
+pub mod Turn
+pub mod Whole
+pub mod Work

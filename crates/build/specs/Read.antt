@@ -1,0 +1,187 @@
+-- What the code answers, in terms of the definitions: a zone that was sought, a schedule as it grows, and the whole.
+use mathlib.Core.Path.{_≡_, refl, sym}
+use mathlib.Core.Option.{Option, none, some}
+use mathlib.Core.List.{List, [], _∷_, _++_}
+use Prim.Native.Nat.{ℕ, _+_, _*_, _≤_, _<_}
+use lib.Dec.{eqb}
+use lib.ListN.{length, take, set}
+use mathlib.Core.Bool.{Bool}
+use Rattle.laws_base.specs.Test.{by-test}
+use Rattle.model.specs.Basic.{if_then_else_, given, distinct}
+use Rattle.model.specs.Instant.{day}
+use Rattle.model.specs.Answer.{Answer, gives, refuses, _>>=_, orRefuse}
+use Rattle.model.specs.Pack.{Named, packOf}
+use Rattle.model.specs.Tzif.{Zone}
+use Rattle.model.specs.Zone as zones
+use Rattle.model.specs.Book as books
+use Rattle.model.specs.Book.{Body, default, work, pause, holidays, entriesOf, withinLimits, lastDefault}
+use Rattle.model.specs.Working as model
+use Rattle.model.specs.Build.{defaultZone, rulesOf, worksIn2001, build}
+use Rattle.be.specs.Maybe.{orEmpty}
+use Rattle.book.specs.declared.Entry.{Entry}
+use Rattle.book.specs.Meaning.{bodyIn, IsTimed}
+use Rattle.zone.specs.Zones.{meant, ZoneOk}
+use Rattle.rules.specs.declared.Rule.{Rule}
+use Rattle.rules.specs.declared.Closed.{Closed}
+use Rattle.rules.specs.declared.Schedule.{Schedule}
+use Rattle.rules.specs.Rules.{fileAt, scheduleIs, All, RuleFits, ClosedFits}
+use Rattle.build.specs.declared.Opened.{Opened}
+use Rattle.build.specs.declared.Sought.{Sought}
+use Rattle.build.specs.declared.Sought.the-variants.{Found, Refused}
+use Rattle.build.specs.declared.Built.{Built}
+
+-- ---- the definitions' `build` without its last step, the search for work
+
+unfoldable pub rulesRead : List ℕ → List ℕ → Answer model.Schedule
+rulesRead book pack =
+    orRefuse 1 0 (entriesOf book) >>= λ l.
+    orRefuse 2 0 (given (withinLimits l) l) >>= λ _.
+    orRefuse 3 0 (packOf pack) >>= λ p.
+    defaultZone p (lastDefault none l) >>= λ z.
+    rulesOf p z l
+
+-- ---- zones
+
+-- the pack's zones; none where its layout does not hold
+abbrev pub filesOf : List ℕ → List Named
+filesOf p = orEmpty (packOf p)
+
+abbrev pub zoneMeant : List ℕ → Opened → Zone
+zoneMeant p o = meant (fileAt p (o .at) (o .len)) (o .zone)
+
+abbrev pub OpenedWell : List ℕ → Opened → Type 0
+OpenedWell p o = ZoneOk (fileAt p (o .at) (o .len)) (o .zone)
+
+pub record IsUtc (p : List ℕ) (o : Opened) : Type 0 where
+  pub means : zoneMeant p o ≡ zones.utc
+  pub opened : OpenedWell p o
+
+abbrev pub soughtIs : List ℕ → Sought → Answer Zone
+soughtIs p (Found o) = gives (zoneMeant p o)
+soughtIs p (Refused n k) = refuses n k
+
+-- a zone that was found is open, and a refusal has a number
+pub data SoughtWell (p : List ℕ) : Sought → Type 0 where
+  found : {o : Opened} → OpenedWell p o → SoughtWell p (Found o)
+  refused : {n k : ℕ} → 0 < n → SoughtWell p (Refused n k)
+
+-- ---- rules
+
+abbrev pub ruleFrom : Entry → Opened → Rule
+ruleFrom e o = record { at = o .at; len = o .len; zone = o .zone; days = e .days; from = e .start; to = e .end }
+
+abbrev pub closedFrom : Entry → Opened → Closed
+closedFrom e o = record { at = o .at; len = o .len; zone = o .zone; dates = e .dates; count = e .count }
+
+-- a schedule with a rule or a holiday record more
+abbrev pub withWork : Schedule → Rule → Schedule
+withWork s x = record {
+  work = set (s .work) (s .works) x;
+  works = s .works + 1;
+  breaks = s .breaks;
+  pauses = s .pauses;
+  closed = s .closed;
+  closings = s .closings;
+  limit = s .limit;
+}
+
+abbrev pub withBreak : Schedule → Rule → Schedule
+withBreak s x = record {
+  work = s .work;
+  works = s .works;
+  breaks = set (s .breaks) (s .pauses) x;
+  pauses = s .pauses + 1;
+  closed = s .closed;
+  closings = s .closings;
+  limit = s .limit;
+}
+
+abbrev pub withClosed : Schedule → Closed → ℕ → Schedule
+withClosed s x days = record {
+  work = s .work;
+  works = s .works;
+  breaks = s .breaks;
+  pauses = s .pauses;
+  closed = set (s .closed) (s .closings) x;
+  closings = s .closings + 1;
+  limit = s .limit + 604800 * days;
+}
+
+-- how many rules and holiday records a schedule has, and its search limit
+pub record Sized (s : Schedule) (a b c l : ℕ) : Type 0 where
+  pub works : s .works ≡ a
+  pub pauses : s .pauses ≡ b
+  pub closings : s .closings ≡ c
+  pub limit : s .limit ≡ l
+
+-- the definitions' schedule with one record more, behind the others
+abbrev pub added : Body → Zone → model.Schedule → model.Schedule
+added default z s = s
+added (work h) z s = record { work = s .work ++ (model.shiftRule z h ∷ []); breaks = s .breaks; holidays = s .holidays; limit = s .limit }
+added (pause h) z s = record { work = s .work; breaks = s .breaks ++ (model.shiftRule z h ∷ []); holidays = s .holidays; limit = s .limit }
+added (holidays l) z s =
+    let d = distinct l in
+    record { work = s .work; breaks = s .breaks; holidays = s .holidays ++ (record { zone = z; dates = d } ∷ []); limit = s .limit + 7 * length d * day }
+
+-- a schedule's rules and holiday records fit
+pub record Kept (b p : List ℕ) (s : Schedule) : Type 0 where
+  pub work : All (RuleFits p) (take (s .works) (s .work))
+  pub breaks : All (RuleFits p) (take (s .pauses) (s .breaks))
+  pub closed : All (ClosedFits b p) (take (s .closings) (s .closed))
+
+-- there is room for the record e, and it is one of a book
+pub record Room (b : List ℕ) (s : Schedule) (e : Entry) : Type 0 where
+  pub works : s .works + books.works (bodyIn b e) ≤ 16
+  pub pauses : s .pauses + books.pauses (bodyIn b e) ≤ 16
+  pub closings : s .closings + books.holidayRecords (bodyIn b e) ≤ 8
+  pub limit : s .limit + 604800 * books.dates (bodyIn b e) ≤ 341280000
+  pub kind : e .kind ≤ 3
+  pub timed : 1 ≤ e .kind → e .kind ≤ 2 → IsTimed e
+  pub inside : e .kind ≡ 3 → e .dates + 4 * e .count ≤ length b
+
+-- r is s with the record e more, whose zone is o
+pub record Grown (b p : List ℕ) (s : Schedule) (e : Entry) (o : Opened) (r : Schedule) : Type 0 where
+  pub means : scheduleIs b p r ≡ added (bodyIn b e) (zoneMeant p o) (scheduleIs b p s)
+  pub kept : OpenedWell p o → Kept b p s → Kept b p r
+  pub works : r .works ≡ s .works + books.works (bodyIn b e)
+  pub pauses : r .pauses ≡ s .pauses + books.pauses (bodyIn b e)
+  pub closings : r .closings ≡ s .closings + books.holidayRecords (bodyIn b e)
+  pub limit : r .limit ≤ s .limit + 604800 * books.dates (bodyIn b e)
+
+-- ---- the whole
+
+abbrev pub answerIs : List ℕ → List ℕ → Built → Answer model.Schedule
+answerIs b p r = if eqb (r .number) 0 then gives (scheduleIs b p (r .schedule)) else refuses (r .number) (r .place)
+
+-- r stands for the answer a, and its rules fit
+pub record Reads (b p : List ℕ) (r : Built) (a : Answer model.Schedule) : Type 0 where
+  pub means : answerIs b p r ≡ a
+  pub kept : r .number ≡ 0 → Kept b p (r .schedule)
+  pub works : r .number ≡ 0 → r .schedule .works ≤ 16
+  pub pauses : r .number ≡ 0 → r .schedule .pauses ≤ 16
+  pub closings : r .number ≡ 0 → r .schedule .closings ≤ 8
+  pub limit : r .number ≡ 0 → r .schedule .limit ≤ 341280000
+
+-- ---- the definitions' `build`
+
+then-next : {A B C : Type 0} (o : Answer A) (f : A → Answer B) (g : B → Answer C) → ((o >>= f) >>= g) ≡ (o >>= λ a. f a >>= g)
+then-next (gives a) f g = refl
+then-next (refuses n k) f g = refl
+
+three-first : {L P S : Type 0} (a : Option L) (t : L → Bool) (c : Option P) (f h : L → P → Answer S) (g : S → Answer S) → ((l : L) (p : P) → (f l p >>= g) ≡ h l p) →
+    ((orRefuse 1 0 a >>= λ l. orRefuse 2 0 (given (t l) l) >>= λ _. orRefuse 3 0 c >>= λ p. f l p) >>= g)
+    ≡ (orRefuse 1 0 a >>= λ l. orRefuse 2 0 (given (t l) l) >>= λ _. orRefuse 3 0 c >>= λ p. h l p)
+three-first none t c f h g k = refl
+three-first (some l) t none f h g k = by-test (t l) (λ e. rw e) (λ e. rw e)
+three-first (some l) t (some p) f h g k = by-test (t l) (λ e. rw e (k l p)) (λ e. rw e)
+
+-- it is `rulesRead` and its last step
+pub build-reads : (book pack : List ℕ) → build book pack ≡ (rulesRead book pack >>= λ s. orRefuse 6 0 (given (worksIn2001 s) s))
+unfolding build rulesRead
+build-reads book pack =
+    sym
+    (three-first (entriesOf book) withinLimits (packOf pack)
+    (λ l p. defaultZone p (lastDefault none l) >>= λ z. rulesOf p z l)
+    (λ l p. defaultZone p (lastDefault none l) >>= λ z. rulesOf p z l >>= λ s. orRefuse 6 0 (given (worksIn2001 s) s))
+    (λ s. orRefuse 6 0 (given (worksIn2001 s) s))
+    (λ l p. then-next (defaultZone p (lastDefault none l)) (λ z. rulesOf p z l) (λ s. orRefuse 6 0 (given (worksIn2001 s) s))))
