@@ -1,0 +1,4 @@
+pub mod Near
+pub mod Sums
+pub mod Seeks
+pub mod Steps

@@ -1,0 +1,146 @@
+-- The loop of `search_walk`: its invariant, and that a turn keeps it. Assumes nothing.
+use mathlib.Core.Path.{_≡_, refl, sym, _∙_, ap, ap₂}
+use mathlib.Core.Bool.{Bool, true, false, _&&_}
+use mathlib.Core.List.{List, [], _∷_}
+use Prim.Native.Nat.{ℕ, zero, suc, _+_, _*_, _-_, _≤_, _<_, min}
+use native.Mathlib.Omega.{arith}
+use lib.Dec.{eqb, ltb}
+use borrow.Author.Tests.{eqb-true, ltb-true, ltb-false, lt-ltb}
+use Rattle.model.specs.Answer.{Answer, gives, refuses}
+use Rattle.model.specs.Instant.{week}
+use Rattle.model.specs.Blocks.{Block, total}
+use Rattle.model.specs.Working.{Schedule}
+use Rattle.model.specs.Walk.{Way, at, reach, ahead, begun, search, found, gap, left, spend}
+use Rattle.model.specs.Skip.{repeats, neededSearch}
+use Rattle.laws_base.specs.Test.{and-both, clash}
+use Rattle.laws_skip.specs.Edges.{Inside, spend-left}
+use Rattle.laws_skip.specs.Skips.{Kept, fresh, known, keep, maySkip, Counted, counted, skipIn, Answers}
+use Rattle.laws_skip.specs.Loops.{searchRest, more, search-start, search-done, search-finds, search-gap, search-left, search-reuses}
+use Rattle.laws_skip.specs.Schedules.{ahead-inside, search-skipping}
+use Rattle.laws_skip.specs.Books.{BuiltWell}
+
+more-more : (c k : ℕ) (r : Counted) → more c (more k r) ≡ more (c + k) r
+more-more c k r = let q : c + (k + r .count) ≡ c + k + r .count = omega arith in λ i. record { answer = r .answer; count = q i }
+
+more-nothing : (r : Counted) → more 0 r ≡ r
+more-nothing r = let q : 0 + r .count ≡ r .count = omega arith in λ i. record { answer = r .answer; count = q i }
+
+module _ (look : ℕ → ℕ → List Block) (rep : ℕ → Bool) (limit end d : ℕ) where
+  -- at the distance x, with `rest` left to find: what is resolved so far, and the search from there, are the whole search
+  pub record Seeking (x last rest windows : ℕ) (k : Kept) : Type 0 where
+    pub upto : x ≤ end
+    pub some : 0 < rest
+    pub less : rest ≤ d
+    pub few : x < end → windows * week ≤ x
+    pub same : more windows (searchRest look rep limit end x last rest k) ≡ searchRest look rep limit end 0 0 d fresh
+
+  pub seeking-starts : 0 < d → (k : Kept) → k ≡ fresh → Seeking 0 0 d 0 k
+  seeking-starts h k e = record {
+    upto = omega arith;
+    some = h;
+    less = omega arith;
+    few = λ u. omega arith;
+    same = rw e (more-nothing (searchRest look rep limit end 0 0 d fresh));
+  }
+
+  module _ (x last rest windows : ℕ) (k : Kept) (m : Seeking x last rest windows k) where
+    module _ (h : x < end) (y : ℕ) (e : y ≡ min (x + week) end) where
+      -- a window that is skipped
+      skips-on : (t g : ℕ) → k ≡ known t g → t < rest → eqb (y - x) week ≡ true → rep x ≡ true → Seeking y (y - g) (rest - t) windows (known t g)
+      skips-on t g f u v w =
+          let q = eqb-true (y - x) week v in
+          let i : y ≡ x + week = omega arith in
+          let n = m .few h in let l = m .less in let o = m .upto in
+          record {
+            upto = omega arith;
+            some = omega arith;
+            less = omega arith;
+            few = λ z. omega arith;
+            same = rw i (moved i);
+          }
+        where
+          moved : y ≡ x + week → more windows (searchRest look rep limit end (x + week) (x + week - g) (rest - t) (known t g)) ≡ searchRest look rep limit end 0 0 d fresh
+          moved i =
+              let c : windows + 0 ≡ windows = omega arith in
+              let old : more windows (searchRest look rep limit end x last rest (known t g)) ≡ searchRest look rep limit end 0 0 d fresh = rw f at (m .same) in
+              let one = search-reuses look rep limit end x last rest t g (omega arith) w u in
+              (rw c at (sym (more-more windows 0 (searchRest look rep limit end (x + week) (x + week - g) (rest - t) (known t g))))) ∙ ap (more windows) (sym one) ∙ old
+
+      pub seeking-skips : (b : Bool) (t g : ℕ) → k ≡ keep b t g → {test : Bool} → test ≡ maySkip k rest (eqb (y - x) week && rep x) → test ≡ true
+          → (rest′ last′ : ℕ) → rest′ ≡ rest - t → last′ ≡ y - g → Seeking y last′ rest′ windows k
+      seeking-skips false t g f p q rest′ last′ u v = clash false (rw f at (sym p ∙ q)) refl
+      seeking-skips true t g f p q rest′ last′ u v =
+          let r = and-both (ltb t rest) (eqb (y - x) week && rep x) (rw f at (sym p ∙ q)) in
+          let w = and-both (eqb (y - x) week) (rep x) (r .1) in
+          rw (f, u, v) (skips-on t g f (ltb-true t rest (r .0)) (w .0) (w .1))
+
+      -- one that is resolved
+      module _ {test : Bool} (p : test ≡ maySkip k rest (eqb (y - x) week && rep x)) (q : test ≡ false) where
+        no-skip : maySkip k rest (eqb (min (x + week) end - x) week && rep x) ≡ false
+        no-skip = rw e at (sym p ∙ q)
+
+        pub seeking-finds : (z : ℕ) → found z ≡ spend limit y last rest (look x y) → counted (gives z) (windows + 1) ≡ searchRest look rep limit end 0 0 d fresh
+        seeking-finds z f =
+            ap (more windows) (sym (search-finds look rep limit end x last rest k h no-skip z (rw e at (sym f)))) ∙ m .same
+
+        pub seeking-gap : gap ≡ spend limit y last rest (look x y) → counted (refuses 6 0) (windows + 1) ≡ searchRest look rep limit end 0 0 d fresh
+        seeking-gap f =
+            ap (more windows) (sym (search-gap look rep limit end x last rest k h no-skip (rw e at (sym f)))) ∙ m .same
+
+        pub seeking-left : (tidy : Inside x y (look x y)) (r l : ℕ) → left r l ≡ spend limit y last rest (look x y)
+            → (k′ : Kept) → k′ ≡ keep (eqb (y - x) week && ltb 0 (rest - r)) (rest - r) (y - l)
+            → Seeking y l r (windows + 1) k′
+        seeking-left tidy r l f k′ g =
+            let o = m .some in let i = m .less in let n = m .few h in let j = m .upto in
+            let v = spend-left limit x y (look x y) tidy last rest o r l (sym f) in
+            let v0 = v .0 in let v1 = v .1 in
+            let t : total (look x y) ≡ rest - r = omega arith in
+            record {
+              upto = omega arith;
+              some = omega arith;
+              less = omega arith;
+              few = λ z. omega arith;
+              same = rw g (rw t at (moved e));
+            }
+          where
+            moved : y ≡ min (x + week) end
+                → more (windows + 1) (searchRest look rep limit end y l r (keep (eqb (y - x) week && ltb 0 (total (look x y))) (total (look x y)) (y - l))) ≡ searchRest look rep limit end 0 0 d fresh
+            moved c =
+                let one = search-left look rep limit end x last rest k h no-skip r l (rw c at (sym f)) in
+                rw c
+                (sym (more-more windows 1
+                (searchRest look rep limit end (min (x + week) end) l r
+                (keep (eqb (min (x + week) end - x) week && ltb 0 (total (look x (min (x + week) end)))) (total (look x (min (x + week) end))) (min (x + week) end - l))))
+                ∙ ap (more windows) (sym one) ∙ m .same)
+
+    pub seeking-ends : end ≤ x → counted (refuses 7 0) (windows + 0) ≡ searchRest look rep limit end 0 0 d fresh
+    seeking-ends h = ap (more windows) (sym (search-done look rep limit end x last rest k h)) ∙ m .same
+
+-- ---- the answer
+
+module _ (s : Schedule) (well : BuiltWell s) (w : Way) (t d : ℕ) where
+  answers : 0 < d → Answers (ahead w s t) (λ y. repeats s (at w t y)) (reach w t) d (searchRest (ahead w s t) (λ y. repeats s (at w t y)) (s .limit) (reach w t) 0 0 d fresh) (search w s t d)
+  answers h = rw (search-start (ahead w s t) (λ y. repeats s (at w t y)) (s .limit) (reach w t) d h) (search-skipping s (well .ok) (well .weekly) w t d (well .limit))
+
+  module _ (limit end : ℕ) (l : limit ≡ s .limit) (e : end ≡ reach w t) (h : 0 < d) where
+    at-limit : (r : Counted) → r ≡ searchRest (ahead w s t) (λ y. repeats s (at w t y)) limit end 0 0 d fresh → r ≡ searchRest (ahead w s t) (λ y. repeats s (at w t y)) (s .limit) (reach w t) 0 0 d fresh
+    at-limit r q = rw (l, e) at q
+
+    pub sought : (a : Answer ℕ) (c : ℕ) → counted a c ≡ searchRest (ahead w s t) (λ y. repeats s (at w t y)) limit end 0 0 d fresh → a ≡ search w s t d
+    sought a c q = ap (λ (r : Counted). r .answer) (at-limit (counted a c) q) ∙ answers h .same-answer
+
+    pub sought-count : (z c : ℕ) → counted (gives z) c ≡ searchRest (ahead w s t) (λ y. repeats s (at w t y)) limit end 0 0 d fresh → c ≡ neededSearch w s t d z
+    sought-count z c q = ap (λ (r : Counted). r .count) (at-limit (counted (gives z) c) q) ∙ answers h .exact z (sym (sought (gives z) c q))
+
+  at-once : skipIn (ahead w s t) (λ y. repeats s (at w t y)) (s .limit) (reach w t) 0 ≡ counted (gives 0) 0
+  unfolding skipIn
+  at-once = refl
+
+  pub none-sought : d ≡ 0 → gives 0 ≡ search w s t d
+  none-sought e = rw e (ap (λ (r : Counted). r .answer) (sym at-once) ∙ search-skipping s (well .ok) (well .weekly) w t 0 (well .limit) .same-answer)
+
+  pub none-count : d ≡ 0 → 0 ≡ neededSearch w s t d 0
+  none-count e =
+      let r = search-skipping s (well .ok) (well .weekly) w t 0 (well .limit) in
+      let f : gives 0 ≡ search w s t 0 = ap (λ (r : Counted). r .answer) (sym at-once) ∙ r .same-answer in
+      rw e (ap (λ (r : Counted). r .count) (sym at-once) ∙ r .exact 0 (sym f))

@@ -1,0 +1,141 @@
+-- The loop of `between_walk`: its invariant, and that a turn keeps it. Assumes nothing.
+use mathlib.Core.Path.{_≡_, refl, sym, _∙_, ap}
+use mathlib.Core.Bool.{Bool, true, false, _&&_}
+use mathlib.Core.Option.{Option, none, some}
+use mathlib.Core.List.{List, [], _∷_}
+use Prim.Native.Nat.{ℕ, zero, suc, _+_, _*_, _-_, _≤_, _<_, min}
+use native.Mathlib.Omega.{arith}
+use lib.Dec.{eqb, ltb}
+use borrow.Author.Tests.{eqb-true, ltb-true, ltb-false}
+use Rattle.model.specs.Basic.{given}
+use Rattle.model.specs.Instant.{week}
+use Rattle.model.specs.Blocks.{Block, total}
+use Rattle.model.specs.Working.{Schedule, working}
+use Rattle.model.specs.Walk.{begun, timeBetween}
+use Rattle.model.specs.Skip.{repeats, neededBetween}
+use Rattle.laws_base.specs.Test.{and-both, clash}
+use Rattle.laws_blocks.specs.Count.{span, cnt, bit}
+use Rattle.laws_blocks.specs.Totals.{lists-total}
+use Rattle.laws_blocks.specs.Members.{covers}
+use Rattle.laws_skip.specs.Skips.{Summed, summed, mayReuse}
+use Rattle.laws_skip.specs.Loops.{timeRest, plus, time-done, time-start, time-resolves, time-reuses}
+use Rattle.laws_skip.specs.Schedules.{working-lists, between-skipping, between-exact}
+use Rattle.laws_skip.specs.Books.{BuiltWell}
+
+-- ---- the time of a window is no more than its length
+
+bit-most : (b : Bool) → bit b ≤ 1
+bit-most true = omega arith
+bit-most false = omega arith
+
+count-most : (W : ℕ → Bool) (a n : ℕ) → cnt W a n ≤ n
+unfolding cnt
+count-most W a zero = omega arith
+count-most W a (suc n) = let h = count-most W a n in let k = bit-most (W (a + n)) in omega arith
+
+pub working-most : (s : Schedule) (lo hi : ℕ) → lo ≤ hi → total (working s lo hi) ≤ hi - lo
+unfolding span
+working-most s lo hi h =
+    let W = covers (working s lo hi) in
+    let e = lists-total W lo hi (working-lists s lo hi h) in
+    let k = count-most W lo (hi - lo) in
+    omega arith
+
+-- ---- the loop
+
+plus-plus : (s c t k : ℕ) (r : Summed) → plus s c (plus t k r) ≡ plus (s + t) (c + k) r
+plus-plus s c t k r = let p : s + (t + r .time) ≡ s + t + r .time = omega arith in let q : c + (k + r .count) ≡ c + k + r .count = omega arith in λ i. record { time = p i; count = q i }
+
+plus-nothing : (r : Summed) → plus 0 0 r ≡ r
+plus-nothing r = let p : 0 + r .time ≡ r .time = omega arith in let q : 0 + r .count ≡ r .count = omega arith in λ i. record { time = p i; count = q i }
+
+-- what is summed up to lo, in how many windows, and the time of the window before where that is known
+pub record Adding (s : Schedule) (a b lo sum windows : ℕ) (known : Bool) (kept : ℕ) : Type 0 where
+  pub from : a ≤ lo
+  pub upto : lo ≤ b
+  pub part : sum ≤ lo - a
+  pub small : kept ≤ week
+  pub few : lo < b → windows * week ≤ lo - a
+  pub same : plus sum windows (timeRest (working s) (repeats s) lo b (given known kept)) ≡ timeRest (working s) (repeats s) a b none
+
+pub adding-starts : (s : Schedule) (a b : ℕ) → a ≤ b → Adding s a b a 0 0 false 0
+adding-starts s a b h = record {
+  from = omega arith;
+  upto = h;
+  part = omega arith;
+  small = omega arith;
+  few = λ k. omega arith;
+  same = plus-nothing (timeRest (working s) (repeats s) a b none);
+}
+
+reuse-test : (known : Bool) (k : ℕ) (test : Bool) → mayReuse (given known k) test ≡ (known && test)
+reuse-test true k test = refl
+reuse-test false k test = refl
+
+module _ (s : Schedule) (a b lo sum windows : ℕ) (known : Bool) (kept : ℕ) (m : Adding s a b lo sum windows known kept) (h : lo < b) (hi : ℕ) (e : hi ≡ min (lo + week) b)
+    {test : Bool} (t : test ≡ (known && (eqb (hi - lo) week && repeats s lo))) where
+  -- a window that is skipped
+  pub adding-reuses : test ≡ true → (sum′ : ℕ) → sum′ ≡ sum + kept → Adding s a b hi sum′ windows known kept
+  adding-reuses q sum′ f =
+      let p = and-both known (eqb (hi - lo) week && repeats s lo) (sym t ∙ q) in
+      let r = and-both (eqb (hi - lo) week) (repeats s lo) (p .1) in
+      let w = eqb-true (hi - lo) week (r .0) in
+      let g : hi ≡ lo + week = omega arith in
+      let i = m .from in let j = m .upto in let x = m .part in let y = m .small in let n = m .few h in
+      record {
+        from = omega arith;
+        upto = omega arith;
+        part = omega arith;
+        small = y;
+        few = λ u. omega arith;
+        same = rw (f, g) (moved (p .0) (r .1) g);
+      }
+    where
+      moved : known ≡ true → repeats s lo ≡ true → hi ≡ lo + week
+          → plus (sum + kept) windows (timeRest (working s) (repeats s) (lo + week) b (given known kept)) ≡ timeRest (working s) (repeats s) a b none
+      moved k r g =
+          let c : windows + 0 ≡ windows = omega arith in
+          let old : plus sum windows (timeRest (working s) (repeats s) lo b (some kept)) ≡ timeRest (working s) (repeats s) a b none = rw k at (m .same) in
+          let one = time-reuses (working s) (repeats s) lo b kept (omega arith) r in
+          let two = plus-plus sum windows kept 0 (timeRest (working s) (repeats s) (lo + week) b (some kept)) in
+          rw k ((rw c at (sym two)) ∙ ap (plus sum windows) (sym one) ∙ old)
+
+  -- one that is resolved
+  pub adding-resolves : test ≡ false → (sum′ now : ℕ) → now ≡ total (working s lo hi) → sum′ ≡ sum + now → {whole : Bool} → whole ≡ eqb (hi - lo) week
+      → Adding s a b hi sum′ (windows + 1) whole now
+  adding-resolves q sum′ now u f {whole = whole} v =
+      let i = m .from in let j = m .upto in let x = m .part in let y = m .small in let n = m .few h in
+      let k = working-most s lo hi (omega arith) in
+      record {
+        from = omega arith;
+        upto = omega arith;
+        part = omega arith;
+        small = omega arith;
+        few = λ z. omega arith;
+        same = rw (f, u, v) (moved e);
+      }
+    where
+      moved : hi ≡ min (lo + week) b
+          → plus (sum + total (working s lo hi)) (windows + 1) (timeRest (working s) (repeats s) hi b (given (eqb (hi - lo) week) (total (working s lo hi)))) ≡ timeRest (working s) (repeats s) a b none
+      moved g =
+          let no : mayReuse (given known kept) (eqb (min (lo + week) b - lo) week && repeats s lo) ≡ false
+          = reuse-test known kept (eqb (min (lo + week) b - lo) week && repeats s lo) ∙ (rw g at (sym t ∙ q)) in
+          let one = time-resolves (working s) (repeats s) lo b (given known kept) h no in
+          rw g
+          (sym (plus-plus sum windows (total (working s lo (min (lo + week) b))) 1
+          (timeRest (working s) (repeats s) (min (lo + week) b) b (given (eqb (min (lo + week) b - lo) week) (total (working s lo (min (lo + week) b))))))
+          ∙ ap (plus sum windows) (sym one) ∙ m .same)
+
+module _ (s : Schedule) (well : BuiltWell s) (a b lo sum windows : ℕ) (known : Bool) (kept : ℕ) (m : Adding s a b lo sum windows known kept) (h : b ≤ lo) (k : a ≤ b) where
+  all-added : plus sum windows (summed 0 0) ≡ timeRest (working s) (repeats s) a b none
+  all-added = ap (plus sum windows) (sym (time-done (working s) (repeats s) lo b (given known kept) h)) ∙ m .same
+
+  pub adding-time : sum ≡ timeBetween s a b
+  adding-time =
+      let p : sum + 0 ≡ timeBetween s a b = ap (λ (r : Summed). r .time) (all-added ∙ time-start (working s) (repeats s) a b) ∙ between-skipping s (well .ok) (well .weekly) a b k in
+      omega arith
+
+  pub adding-count : windows ≡ neededBetween s a b
+  adding-count =
+      let p : windows + 0 ≡ neededBetween s a b = ap (λ (r : Summed). r .count) (all-added ∙ time-start (working s) (repeats s) a b) ∙ between-exact s (well .ok) (well .weekly) a b k in
+      omega arith

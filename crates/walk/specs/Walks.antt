@@ -1,0 +1,58 @@
+-- What the values of the walks mean.
+use mathlib.Core.Path.{_≡_}
+use mathlib.Core.Bool.{Bool}
+use mathlib.Core.List.{List}
+use Prim.Native.Nat.{ℕ, _+_, _≤_, _<_}
+use Rattle.model.specs.Answer.{Answer, gives, refuses}
+use Rattle.model.specs.Instant.{week}
+use Rattle.model.specs.Walk.{Way, reach, search}
+use Rattle.model.specs.Working as model
+use Rattle.model.specs.Skip.{neededSearch}
+use Rattle.laws_skip.specs.Skips.{Kept as Kept′, keep}
+use Rattle.instant.specs.Instant.{nanos}
+use Rattle.instant.specs.declared.Instant.{Instant}
+use Rattle.blocks.specs.Counted.{size}
+use Rattle.blocks.specs.declared.Span.{Span}
+use Rattle.dates.specs.Dates.{InRange}
+use Rattle.walk.specs.declared.Kept.{Kept}
+use Rattle.walk.specs.declared.Reached.{Reached}
+use Rattle.walk.specs.declared.Reached.the-variants as R
+
+-- a length of time that is short of the range, its nanoseconds below a second
+pub record Short (x : Span) : Type 0 where
+  pub sec : x .sec < 1000000000000
+  pub ns : x .ns < 1000000000
+
+-- a window that begins in the range, at or before an instant of it
+pub record Stretch (a b : Instant) : Type 0 where
+  pub start : InRange a
+  pub end : InRange b
+  pub order : nanos a ≤ nanos b
+
+-- what is kept of a window
+abbrev pub keptIs : Kept → Kept′
+keptIs k = keep (k .known) (size (k .time)) (size (k .edge))
+
+pub record KeptExact (k : Kept) : Type 0 where
+  pub time : k .time .ns < 1000000000
+  pub edge : k .edge .ns < 1000000000
+
+-- the answer of a search
+abbrev pub reachedIs : Reached → Answer ℕ
+reachedIs (R.At z c) = gives (size z)
+reachedIs R.NoWork = refuses 6 0
+reachedIs R.OutOfRange = refuses 7 0
+
+-- of an answer that is found: its count of windows, and nanoseconds below a second
+pub data Counts (w : Way) (s : model.Schedule) (t d : ℕ) : Reached → Type 0 where
+  found-at : {z : Span} {c : ℕ} → z .ns < 1000000000 → c ≡ neededSearch w s t d (size z) → Counts w s t d (R.At z c)
+  no-work : Counts w s t d R.NoWork
+  out-of-range : Counts w s t d R.OutOfRange
+
+-- a window between two distances from t
+pub record Ahead (w : Way) (t : ℕ) (x y : Span) : Type 0 where
+  pub start : Short x
+  pub end : Short y
+  pub order : size x ≤ size y
+  pub near : size y ≤ reach w t
+  pub short : size y ≤ size x + week
