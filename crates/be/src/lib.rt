@@ -1,9 +1,9 @@
 // Bytes and big-endian numbers at a place of a slice, and parts of a slice.
-// Each function takes every place: a byte past the end reads as 0, and a part ends where the slice ends. So a caller shows nothing about places;
-// that a number lies inside is for the caller's own tests to say.
+// Each function but `eight_at` takes every place: a byte past the end reads as 0, and a part ends where the slice ends. So a caller shows nothing about
+// places; that a number lies inside is for the caller's own tests to say. A caller who has said so can use `eight_at`, which tests nothing.
 ghost use mathlib.Core.Path.{_≡_};
-ghost use Prim.Native.Nat.{_<_};
-ghost use lib.ListN.{getD, take, drop};
+ghost use Prim.Native.Nat.{_+_, _≤_, _<_};
+ghost use lib.ListN.{length, getD, take, drop};
 ghost use Rattle.be.specs.Be.{be16, be32, be64};
 
 // A byte as a wider number.
@@ -57,12 +57,23 @@ pub fn be16_at(s: &[u8], i: usize) -> u32
     wide(byte_at(s, i)) * 256 + wide(byte_at(s, i + 1))
 }
 
+// The number of four bytes at i, all of which are there.
+fn four_at(s: &[u8], i: usize) -> u32
+    requires { ⌜ i + 4 ≤ length (now s) ⌝ }
+    ensures { λ r. ⌜ r ≡ be32 (now (s .entry)) i ⌝ }
+{
+    ((wide(s[i]) * 256 + wide(s[i + 1])) * 256 + wide(s[i + 2])) * 256 + wide(s[i + 3])
+}
+
 // The number of four bytes at i.
 pub fn be32_at(s: &[u8], i: usize) -> u32
     ensures { λ r. ⌜ r ≡ be32 (now (s .entry)) i ⌝ }
 {
     if i >= s.len() {
         return 0;
+    }
+    if s.len() - i >= 4 {
+        return four_at(s, i);
     }
     ((wide(byte_at(s, i)) * 256 + wide(byte_at(s, i + 1))) * 256 + wide(byte_at(s, i + 2))) * 256
         + wide(byte_at(s, i + 3))
@@ -75,12 +86,23 @@ pub fn size_at(s: &[u8], i: usize) -> usize
     wide64(be32_at(s, i)) as usize
 }
 
+// The number of eight bytes at i, all of which are there.
+pub fn eight_at(s: &[u8], i: usize) -> u64
+    requires { ⌜ i + 8 ≤ length (now s) ⌝ }
+    ensures { λ r. ⌜ r ≡ be64 (now (s .entry)) i ⌝ }
+{
+    wide64(four_at(s, i)) * 4294967296 + wide64(four_at(s, i + 4))
+}
+
 // The number of eight bytes at i.
 pub fn be64_at(s: &[u8], i: usize) -> u64
     ensures { λ r. ⌜ r ≡ be64 (now (s .entry)) i ⌝ }
 {
     if i >= s.len() {
         return 0;
+    }
+    if s.len() - i >= 8 {
+        return eight_at(s, i);
     }
     wide64(be32_at(s, i)) * 4294967296 + wide64(be32_at(s, i + 4))
 }

@@ -1,5 +1,6 @@
--- Worked examples of zone files, footers and local times, most of them from the two standards that document 01 names: RFC 8536 (TZif) and RFC 5545.
--- They are closed by computing on the bytes.
+-- Worked examples of zone files, footers and local times, most of them after examples in the two standards that document 01 names: RFC 8536 (TZif)
+-- and RFC 5545. They were not compared with the RFCs' texts; where one was compared with a file of the tz database, it says so. They are closed by
+-- computing on the bytes.
 use mathlib.Core.Path.{_≡_, refl}
 use mathlib.Core.Option.{Option, none, some}
 use mathlib.Core.List.{List, [], _∷_, _++_}
@@ -43,7 +44,7 @@ header version = text "TZif" ++ version ++ hex 15 0 ++ hex 24 0x00000000_0000000
 abbrev ruledBy : List ℕ → List ℕ → List ℕ
 ruledBy version footer = header version ++ hex 6 0 ++ text "UTC\0" ++ header version ++ hex 6 0 ++ text "UTC\0" ++ text "\n" ++ footer ++ text "\n"
 
--- ---- RFC 8536, appendix B: "Version 2 File Representing Pacific/Honolulu"
+-- ---- Pacific/Honolulu in version 2, after RFC 8536, appendix B. All 329 bytes are those of the zone's file in Debian's package of the tz database, 2025b
 
 abbrev honoluluHeader : List ℕ
 honoluluHeader = text "TZif2" ++ hex 15 0 ++ hex 24 0x00000006_00000006_00000000_00000007_00000006_00000014
@@ -91,7 +92,8 @@ pub honolulu-file : Honolulu
 unfolding everything
 honolulu-file = record { zone = refl; gap = refl; repeat = refl }
 
--- ---- RFC 8536, appendix B: "Truncated Version 3 File Representing Asia/Jerusalem"
+-- ---- a file of version 3 with an empty first block and one transition in 2038, after the truncated file for Asia/Jerusalem in RFC 8536, appendix B. Its
+-- footer is that of the zone's file in Debian's package of the tz database, 2025b
 
 abbrev jerusalem : List ℕ → List ℕ
 jerusalem time =
@@ -114,7 +116,7 @@ pub jerusalem-file : Jerusalem
 unfolding everything
 jerusalem-file = record { beyond = refl; winter = refl; summer = refl }
 
--- ---- RFC 5545, section 3.3.5: a local time that does not occur, and one that occurs twice
+-- ---- after RFC 5545, section 3.3.5: a local time that does not occur, and one that occurs twice
 
 abbrev newYork : List ℕ
 newYork = ruledBy (text "2") (text "EST5EDT,M3.2.0,M11.1.0")

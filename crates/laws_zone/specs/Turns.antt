@@ -99,6 +99,13 @@ day-rises a b (month m w d) f h = omega (arith, month-hi a m w d (f .1), month-l
 day-rises a b (julian n) f h = omega (arith, bit-le (isLeap a && leb 60 n), dby-hi a, dby-lo b)
 day-rises a b (plain n) f h = omega (arith, dby-hi a, dby-lo b)
 
+-- within its year the day drifts by at most two weeks from one year to another
+day-drifts : (y z : ℕ) (d : Day) → DayFits d → dayIn z d + daysBeforeYear y ≤ dayIn y d + daysBeforeYear z + 14
+unfolding dayIn
+day-drifts y z (month m w d) f = omega (arith, month-hi z m w d (f .1), month-lo y m w d (f .1))
+day-drifts y z (julian n) f = omega (arith, bit-le (isLeap z && leb 60 n))
+day-drifts y z (plain n) f = omega arith
+
 -- ---- the greatest of a list is one of them, or 0
 
 max-in : (l : List ℕ) → (maximum l ≡ 0) ⊎ In (maximum l) l
@@ -164,6 +171,11 @@ module _ (o : ℕ) (r : Turn) (ho : o ≤ 187199) (f : TurnFits r) where
   pub change-rises : (a b : ℕ) → a < b → changeIn o r a ≤ changeIn o r b
   unfolding changeIn
   change-rises a b h = omega (arith, day-rises a b (r .day) (f .day-fits) h)
+
+  -- .. and within its year a change drifts by at most two weeks
+  pub change-drifts : (y z : ℕ) → 1 ≤ z → changeIn o r z + daysBeforeYear y * 86400 ≤ changeIn o r y + daysBeforeYear z * 86400 + 1209600
+  unfolding changeIn
+  change-drifts y z h = omega (arith, day-drifts y z (r .day) (f .day-fits), day-lo z (r .day) (f .day-fits), dby-lo z)
 
   -- when it comes, the clock that it ends shows the turn's time on the turn's day
   pub change-reads : (y : ℕ) → 1 ≤ y → changeIn o r y + o ≡ dayIn y (r .day) * 86400 + r .time + 93600

@@ -1,9 +1,12 @@
 -- The footer's offset and how far it stays: one law for each answer of the code.
 use mathlib.Core.Path.{_≡_, refl}
 use Prim.Native.Nat.{ℕ, _≤_, _<_, min}
+use native.Mathlib.Omega.{arith}
+use Rattle.model.specs.Footer as model
 use Rattle.model.specs.Footer.{changeIn}
 use Rattle.model.specs.Zone.{ruledAt}
-use Rattle.laws_zone.specs.Turns.{TurnFits}
+use Rattle.laws_calendar.specs.Years.{dby-hi}
+use Rattle.laws_zone.specs.Turns.{TurnFits, day-hi}
 use Rattle.laws_zone.specs.Grammar.{FooterFits}
 use Rattle.laws_zone.specs.Runs.{Run}
 use Rattle.footer.specs.Parsed.{turnIs}
@@ -29,20 +32,24 @@ pub fixed-spans : {f : Footer} (o : ℕ) {g u n : ℕ} → f ≡ Fixed g → u <
 unfolding ruledAt
 fixed-spans o e h = rw e (refl, record { on = h; same = λ v p q. refl })
 
-module _ {f : Footer} {std dst : ℕ} {start end : Turn} (e : f ≡ Rules std dst start end) (fits : FooterFits (theFooter f)) where
-  pub start-fits : TurnFits (turnIs start) × (std ≤ 187199)
-  start-fits = let h = (rw e at fits) in (h .2, h .0 .1)
+-- two rules: what holds of them holds of the footer that has them
+module _ {f : Footer} {std dst : ℕ} {start end : Turn} (e : f ≡ Rules std dst start end) where
+  pub rules-fit : FooterFits (theFooter f) → FooterFits (model.rules std dst (turnIs start) (turnIs end))
+  rules-fit h = rw e at h
 
-  pub end-fits : TurnFits (turnIs end) × (dst ≤ 187199)
-  end-fits = let h = (rw e at fits) in (h .3, h .1 .1)
+  pub rules-span : (last : ℕ) {u o n : ℕ} → (o ≡ ruledAt (model.rules std dst (turnIs start) (turnIs end)) last u)
+      × Run (ruledAt (model.rules std dst (turnIs start) (turnIs end)) last) u n → Spans f last u o n
+  rules-span last h = rw e h
 
-  module _ (o : ℕ) {u la na lb nb n : ℕ} (a : Near (changeIn std (turnIs start)) u la na) (b : Near (changeIn dst (turnIs end)) u lb nb) (q : n ≡ min na nb) where
-    pub daylight-spans : lb ≤ la → Spans f o u dst n
-    daylight-spans h =
-        let k = (rw e at fits) in
-        rw e (rules-daylight std dst (turnIs start) (turnIs end) k o a b h, rules-run std dst (turnIs start) (turnIs end) k o a b q)
+module _ (std dst : ℕ) (start end : model.Turn) (fits : FooterFits (model.rules std dst start end)) {u la na lb nb n : ℕ}
+    (a : Near (changeIn std start) u la na) (b : Near (changeIn dst end) u lb nb) (q : n ≡ min na nb) where
+  pub settled-daylight : lb ≤ la → (last : ℕ) → (dst ≡ ruledAt (model.rules std dst start end) last u) × Run (ruledAt (model.rules std dst start end) last) u n
+  settled-daylight h last = (rules-daylight std dst start end fits last a b h, rules-run std dst start end fits last a b q)
 
-    pub standard-spans : la < lb → Spans f o u std n
-    standard-spans h =
-        let k = (rw e at fits) in
-        rw e (rules-standard std dst (turnIs start) (turnIs end) k o a b h, rules-run std dst (turnIs start) (turnIs end) k o a b q)
+  pub settled-standard : la < lb → (last : ℕ) → (std ≡ ruledAt (model.rules std dst start end) last u) × Run (ruledAt (model.rules std dst start end) last) u n
+  settled-standard h last = (rules-standard std dst start end fits last a b h, rules-run std dst start end fits last a b q)
+
+-- a change of a year that has a date
+pub change-small : (o y : ℕ) (t : model.Turn) → TurnFits t → y ≤ 20801 → {r : ℕ} → r ≡ changeIn o t y → r < 1099511627776
+unfolding changeIn
+change-small o y t f h e = omega (arith, day-hi y (t .day) (f .day-fits), f .time-fits, dby-hi y)

@@ -1,14 +1,14 @@
 // The changes that a footer makes: the day and the second of a change in a year, the latest change at or before a second and the next
 // one, and the footer's offset with the second up to which it stays. Years, days and seconds are counted from -10400-01-01.
 ghost use mathlib.Core.Path.{_≡_};
-ghost use Prim.Native.Nat.{_-_, _≤_, _<_, min};
+ghost use Prim.Native.Nat.{ℕ, _-_, _≤_, _<_, min};
 ghost use Rattle.model.specs.Footer as model;
 ghost use Rattle.model.specs.Zone.{yearAt, ruledAt};
 ghost use Rattle.footer.specs.Parsed.{dayIs, turnIs};
 ghost use Rattle.laws_zone.specs.Turns.{DayFits, TurnFits};
 ghost use Rattle.laws_zone.specs.Grammar.{FooterFits};
 ghost use Rattle.laws_zone.specs.Runs as runs;
-ghost use Rattle.turns.specs.Turning.{theFooter, Near};
+ghost use Rattle.turns.specs.Turning.{theFooter, Near, Sure, Halved};
 use footer::Day;
 use footer::Footer;
 use footer::Turn;
@@ -19,7 +19,7 @@ pub struct Changes {
     pub next: u64,
 }
 
-// An offset, and the second up to which it stays.
+// An offset, and a second up to which it stays: not always the next change.
 pub struct Span {
     pub offset: u32,
     pub until: u64,
@@ -138,6 +138,83 @@ pub fn around(offset: u32, turn: Turn, u: u64) -> Changes
     Changes { last: 0, next: a }
 }
 
+// What two changes of one year tell of u: the first is at p, and the second, more than four weeks later, at q. Between them the offset is
+// `inner`, before and behind them `outer`. Where they do not tell, the span ends at or before u. 30,153,600 s are 349 days.
+fn halved(inner: u32, outer: u32, p: u64, q: u64, u: u64) -> Span
+    requires { ⌜ (p < 1099511627776) × (u < 656384601600) ⌝ }
+    ensures { λ r. ⌜ Halved inner outer p q u (r .offset) (r .until) ⌝ }
+{
+    if u < p {
+        if q <= u + 30153600 {
+            return Span {
+                offset: outer,
+                until: p,
+            };
+        }
+        return Span {
+            offset: outer,
+            until: 0,
+        };
+    }
+    if u < q {
+        if q < p + 30153600 {
+            return Span {
+                offset: inner,
+                until: q,
+            };
+        }
+        return Span {
+            offset: inner,
+            until: 0,
+        };
+    }
+    Span {
+        offset: outer,
+        until: p + 30153600,
+    }
+}
+
+// The offset at u by the two changes of one year, that of u or the next to it. Where they do not tell it, the span ends at or before u: they lie
+// close together, or u lies close to the year's end and one of them does too. 31,556,952 s are a mean year, 2,419,200 s four weeks.
+fn usual(std: u32, dst: u32, start: Turn, end: Turn, u: u64) -> Span
+    requires { ⌜ FooterFits (model.rules std dst (turnIs start) (turnIs end)) × (u < 656384601600) ⌝ }
+    ensures { λ r. ⌜ ((last : ℕ) → Sure (ruledAt (model.rules std dst (turnIs start) (turnIs end)) last) u (r .offset) (r .until)) ⌝ }
+{
+    let year = (u / 31556952) as u32;
+    if year < 2 {
+        return Span {
+            offset: std,
+            until: 0,
+        };
+    }
+    let a = change_in(std, start, year);
+    let b = change_in(dst, end, year);
+    if a + 2419200 < b {
+        return halved(dst, std, a, b, u);
+    }
+    if b + 2419200 < a {
+        return halved(std, dst, b, a, u);
+    }
+    Span {
+        offset: std,
+        until: 0,
+    }
+}
+
+// The offset at u by the latest changes of all years.
+fn settled(std: u32, dst: u32, start: Turn, end: Turn, u: u64) -> Span
+    requires { ⌜ FooterFits (model.rules std dst (turnIs start) (turnIs end)) × (u < 656384601600) ⌝ }
+    ensures { λ r. ⌜ ((last : ℕ) → (r .offset ≡ ruledAt (model.rules std dst (turnIs start) (turnIs end)) last u) × runs.Run (ruledAt (model.rules std dst (turnIs start) (turnIs end)) last) u (r .until)) ⌝ }
+{
+    let a = around(std, start, u);
+    let b = around(dst, end, u);
+    let until = least(a.next, b.next);
+    if b.last <= a.last {
+        return Span { offset: dst, until };
+    }
+    Span { offset: std, until }
+}
+
 // The offset at u where the footer counts; `last` is the table's last offset, which an empty footer leaves.
 pub fn span_at(footer: Footer, last: u32, u: u64) -> Span
     requires { ⌜ FooterFits (theFooter footer) × (u < 656384601600) ⌝ }
@@ -158,13 +235,11 @@ pub fn span_at(footer: Footer, last: u32, u: u64) -> Span
             until: far,
         },
         Footer::Rules(std, dst, start, end) => {
-            let a = around(std, start, u);
-            let b = around(dst, end, u);
-            let until = least(a.next, b.next);
-            if b.last <= a.last {
-                return Span { offset: dst, until };
+            let s = usual(std, dst, start, end, u);
+            if u < s.until {
+                return s;
             }
-            Span { offset: std, until }
+            settled(std, dst, start, end, u)
         }
     }
 }

@@ -264,18 +264,15 @@ module _ (f : List ℕ) (l : Layout) (o : Opened f l) where
 
 -- ---- the code's steps
 
--- a binary search: the count lies past a transition that is at or before u, and not past one behind it
-module _ {f : List ℕ} {l : Layout} {u lo hi x : ℕ} (o : Opened f l) (h : lo < hi) (k : hi ≤ l .count) (e : x ≡ timeAt f l (lo + (hi - lo) / 2)) where
-  pub past-time : x ≤ u → lo + (hi - lo) / 2 + 1 ≤ countAt f l u
+-- a search by halves: the count lies past a transition that is at or before u, and not past one behind it
+module _ {f : List ℕ} {l : Layout} {u j x : ℕ} (o : Opened f l) (k : j < l .count) (e : x ≡ timeAt f l j) where
+  pub past-time : x ≤ u → j < countAt f l u
   unfolding countAt
-  past-time q =
-      let r : lo + (hi - lo) / 2 < countOf (upTo (timeAt f l) u) (l .count) =
-      count-in (timeAt f l) u (l .count) (lo + (hi - lo) / 2) (times-rise f l o) (omega arith) (omega arith) in
-      omega arith
+  past-time q = count-in (timeAt f l) u (l .count) j (times-rise f l o) k (omega arith)
 
-  pub before-time : u < x → countAt f l u ≤ lo + (hi - lo) / 2
+  pub before-time : u < x → countAt f l u ≤ j
   unfolding countAt
-  before-time q = count-out (timeAt f l) u (l .count) (lo + (hi - lo) / 2) (times-rise f l o) (omega arith) (omega arith)
+  before-time q = count-out (timeAt f l) u (l .count) j (times-rise f l o) k (omega arith)
 
 -- what `table_offset` gives
 abbrev Gives : List ℕ → Layout → ℕ → ℕ → Type 0

@@ -6,6 +6,7 @@ ghost use mathlib.Core.Bool.{true};
 ghost use Prim.Native.Nat.{_+_, _*_, _≤_, _<_};
 ghost use lib.ListN.{length};
 ghost use Rattle.be.specs.Walk.{allFrom};
+ghost use Rattle.model.specs.Bytes.{lifted};
 ghost use Rattle.model.specs.Tzif.{sizeOf, countsOk, zeroOr};
 ghost use Rattle.tzif.specs.Places.{meant, Small, headOk, headAt, secondAt, keyAt, byteBelow, offsetIs, typeFits, kindsAt, typesAt, marksAt, tailAt, tailOk, timesRise, tablesOk, blockOk, layoutAt, readOf, timeAt, offsetAfter};
 ghost use Rattle.tzif.specs.Opened.{Opened, countAt, utcLayout};
@@ -114,17 +115,23 @@ fn counts_ok(h: Head) -> bool
 
 // ---- the second data block, which starts at `b`
 
-// Transition i's time with 2^63 added: the order of the signed numbers.
-fn key_at(f: &[u8], b: usize, i: usize) -> u64
-    requires { ⌜ b + 8 * i < 18446744073709551616 ⌝ }
-    ensures { λ r. ⌜ r ≡ keyAt (now (f .entry)) b i ⌝ }
+// A signed number's bits as the number with 2^63 added: the order of the signed numbers.
+fn key_of(v: u64) -> u64
+    ensures { λ r. ⌜ r ≡ lifted 8 v ⌝ }
 {
-    let v = be::be64_at(f, b + 8 * i);
     if v < 9223372036854775808 {
         v + 9223372036854775808
     } else {
         v - 9223372036854775808
     }
+}
+
+// Transition i's time with 2^63 added.
+fn key_at(f: &[u8], b: usize, i: usize) -> u64
+    requires { ⌜ b + 8 * i < 18446744073709551616 ⌝ }
+    ensures { λ r. ⌜ r ≡ keyAt (now (f .entry)) b i ⌝ }
+{
+    key_of(be::be64_at(f, b + 8 * i))
 }
 
 fn times_rise(f: &[u8], b: usize, n: usize) -> bool
@@ -332,29 +339,49 @@ pub fn time_at(f: &[u8], l: Layout, i: usize) -> u64
     requires { ⌜ Opened (now f) l × (i < l .count) ⌝ }
     ensures { λ r. ⌜ r ≡ timeAt (now (f .entry)) l i ⌝ }
 {
-    let k = key_at(f, l.times, i);
+    let v = be::eight_at(f, l.times + 8 * i);
+    let k = key_of(v);
     if k < 9223371646495255808 {
         return 0;
     }
     k - 9223371646495255808
 }
 
-// How many transitions are at or before the second u.
+// How many transitions are at or before the second u: a search that halves what is left. Its steps do not depend on u, only what they read.
+fn halved(f: &[u8], l: Layout, u: u64) -> usize
+    requires { ⌜ Opened (now f) l × (1 ≤ l .count) ⌝ }
+    ensures { λ r. ⌜ (r ≡ countAt (now (f .entry)) l u) × (r ≤ l .count) ⌝ }
+{
+    let mut lo: usize = 0;
+    let mut n: usize = l.count;
+    while n > 1 {
+        let half = n / 2;
+        if time_at(f, l, lo + half - 1) <= u {
+            lo += half;
+            n -= half;
+        } else {
+            n -= half;
+        }
+    }
+    if time_at(f, l, lo) <= u {
+        return lo + 1;
+    }
+    lo
+}
+
+// How many transitions are at or before the second u. Most often all of them are, or u lies in the table's years.
 pub fn count_at(f: &[u8], l: Layout, u: u64) -> usize
     requires { ⌜ Opened (now f) l ⌝ }
     ensures { λ r. ⌜ (r ≡ countAt (now (f .entry)) l u) × (r ≤ l .count) ⌝ }
 {
-    let mut lo: usize = 0;
-    let mut hi: usize = l.count;
-    while lo < hi {
-        let mid = lo + (hi - lo) / 2;
-        if time_at(f, l, mid) <= u {
-            lo = mid + 1;
-        } else {
-            hi = mid;
-        }
+    let n = l.count;
+    if n == 0 {
+        return 0;
     }
-    lo
+    if time_at(f, l, n - 1) <= u {
+        return n;
+    }
+    halved(f, l, u)
 }
 
 // The offset after k transitions, with 93,600 added.

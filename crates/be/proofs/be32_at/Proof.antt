@@ -1,12 +1,21 @@
 -- `be::be32_at` meets its contract.
-use Rattle.be.proofs.Parts.{be32-past}
 use Rattle.be.specs.Be.{be32}
+use Rattle.be.proofs.Parts.{be32-past}
 use borrow.Author.Needs.{needs}
 use Rattle.be.proofs.be32_at.Statement.{statement}
 use Rattle.be.proofs.be32_at.Tie as tie
 
 returns : tie.Need-returns
 returns c = search be32-past
+
+sub-if2 : tie.Need-sub-if2
+sub-if2 c = search needs
+
+four-at-requires : tie.Need-four-at-requires
+four-at-requires c κs = search needs
+
+returns-2 : tie.Need-returns-2
+returns-2 c = search needs
 
 byte-at-requires : tie.Need-byte-at-requires
 byte-at-requires c κs = search needs
@@ -59,15 +68,18 @@ wide-requires-4 c κs = search needs
 add-result-3 : tie.Need-add-result-3
 add-result-3 c = search needs
 
-returns-2 : tie.Need-returns-2
+returns-3 : tie.Need-returns-3
 unfolding be32
-returns-2 c = search needs
+returns-3 c = search needs
 
 pub be32-at-spec : {M : Type 1} → statement M
 be32-at-spec =
     tie.close
     (tie.spec
     returns
+    sub-if2
+    four-at-requires
+    returns-2
     byte-at-requires
     wide-requires
     mul-result
@@ -85,4 +97,4 @@ be32-at-spec =
     byte-at-requires-4
     wide-requires-4
     add-result-3
-    returns-2)
+    returns-3)

@@ -8,6 +8,15 @@ use Rattle.be.proofs.be64_at.Tie as tie
 returns : tie.Need-returns
 returns c = search be64-past
 
+sub-if2 : tie.Need-sub-if2
+sub-if2 c = search needs
+
+eight-at-requires : tie.Need-eight-at-requires
+eight-at-requires c κs = search needs
+
+returns-2 : tie.Need-returns-2
+returns-2 c = search needs
+
 be32-at-requires : tie.Need-be32-at-requires
 be32-at-requires c κs = search needs
 
@@ -29,15 +38,18 @@ wide64-requires-2 c κs = search needs
 add-result : tie.Need-add-result
 add-result c = search needs
 
-returns-2 : tie.Need-returns-2
+returns-3 : tie.Need-returns-3
 unfolding be64
-returns-2 c = search needs
+returns-3 c = search needs
 
 pub be64-at-spec : {M : Type 1} → statement M
 be64-at-spec =
     tie.close
     (tie.spec
     returns
+    sub-if2
+    eight-at-requires
+    returns-2
     be32-at-requires
     wide64-requires
     mul-result
@@ -45,4 +57,4 @@ be64-at-spec =
     be32-at-requires-2
     wide64-requires-2
     add-result
-    returns-2)
+    returns-3)

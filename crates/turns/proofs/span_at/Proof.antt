@@ -1,5 +1,5 @@
 -- `turns::span_at` meets its contract.
-use Rattle.turns.proofs.Spans.{empty-spans, broken-spans, fixed-spans, start-fits, end-fits, daylight-spans, standard-spans}
+use Rattle.turns.proofs.Spans.{empty-spans, broken-spans, fixed-spans, rules-fit, rules-span}
 use native.Mathlib.Omega.{arith}
 use borrow.Author.Needs.{needs}
 use Rattle.turns.proofs.span_at.Statement.{statement}
@@ -20,17 +20,14 @@ enum-known-footer c = search needs
 enum-known-footer-2 : tie.Need-enum-known-footer-2
 enum-known-footer-2 c = search needs
 
-around-requires : tie.Need-around-requires
-around-requires c κs = let h = start-fits (c .before .footer2 .given .1) ((c .before .before .before .pre) .0) in (h .0, h .1, (c .before .before .before .pre) .1)
-
-around-requires-2 : tie.Need-around-requires-2
-around-requires-2 c κs = let h = end-fits (c .before .before .footer2 .given .1) ((c .before .before .before .before .pre) .0) in (h .0, h .1, (c .before .before .before .before .pre) .1)
-
-least-requires : tie.Need-least-requires
-least-requires c κs = search needs
+usual-requires : tie.Need-usual-requires
+usual-requires c κs = (rules-fit (c .before .footer2 .given .1) ((c .before .before .before .pre) .0), (c .before .before .before .pre) .1)
 
 returns : tie.Need-returns
-returns c = daylight-spans (c .before .before .before .before .before .before .before .footer2 .given .1) ((c .before .before .before .before .before .before .before .before .before .pre) .0) _ (c .before .before .before .before .before .around .ensures) (c .before .before .before .before .around2 .ensures) (c .before .before .before .least .ensures) (omega arith)
+returns c = rules-span (c .before .before .before .before .footer2 .given .1) _ ((c .before .before .usual .ensures) _ (omega arith))
+
+settled-requires : tie.Need-settled-requires
+settled-requires c κs = (rules-fit (c .before .before .before .before .footer2 .given .1) ((c .before .before .before .before .before .before .pre) .0), (c .before .before .before .before .before .before .pre) .1)
 
 returns-2 : tie.Need-returns-2
 returns-2 c = empty-spans _ (c .enum-told .given .1) (omega arith)
@@ -42,7 +39,7 @@ returns-4 : tie.Need-returns-4
 returns-4 c = fixed-spans _ (c .before .footer .given .1) (omega arith)
 
 returns-5 : tie.Need-returns-5
-returns-5 c = standard-spans (c .before .before .before .before .before .before .before .footer2 .given .1) ((c .before .before .before .before .before .before .before .before .before .pre) .0) _ (c .before .before .before .before .before .around .ensures) (c .before .before .before .before .around2 .ensures) (c .before .before .before .least .ensures) (omega arith)
+returns-5 c = rules-span (c .before .before .before .before .before .footer2 .given .1) _ ((c .settled .ensures) _)
 
 pub span-at-spec : {M : Type 1} → statement M
 span-at-spec =
@@ -53,10 +50,9 @@ span-at-spec =
     enum-told-2
     enum-known-footer
     enum-known-footer-2
-    around-requires
-    around-requires-2
-    least-requires
+    usual-requires
     returns
+    settled-requires
     returns-2
     returns-3
     returns-4

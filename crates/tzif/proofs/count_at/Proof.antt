@@ -1,61 +1,28 @@
 -- `tzif::count_at` meets its contract.
-use Prim.Native.Nat.{_≤_, _-_}
-use mathlib.Core.Path.{_≡_}
-use Rattle.tzif.proofs.Laws.{past-time, before-time, count-most}
-use Rattle.tzif.specs.Opened.{countAt}
+use Rattle.tzif.proofs.Laws.{past-time, count-most}
+use native.Mathlib.Omega.{arith}
 use borrow.Author.Needs.{needs}
 use Rattle.tzif.proofs.count_at.Statement.{statement}
 use Rattle.tzif.proofs.count_at.Tie as tie
 
-abbrev Inv-loop : tie.InvT-loop
-Inv-loop f l u lo₀ hi₀ lo hi = (lo ≤ countAt f l u) × (countAt f l u ≤ hi) × (hi ≤ l .count)
+returns : tie.Need-returns
+returns c = let m = count-most _ ((c .before .before .args) .l) (c .before .before .pre) ((c .before .before .args) .u) in (omega (arith, m), omega arith)
 
-abbrev μ-loop : tie.MeasureT-loop
-μ-loop f l u lo₀ hi₀ lo hi = hi - lo
+sub-time-at : tie.Need-sub-time-at
+sub-time-at c = search needs
 
-loop-holds : tie.Need-loop-holds Inv-loop μ-loop
-loop-holds c = search (count-most, needs)
-
-sub-mid : tie.Need-sub-mid Inv-loop μ-loop
-sub-mid c = search needs
-
-add-mid : tie.Need-add-mid Inv-loop μ-loop
-add-mid c = search needs
-
-time-at-requires : tie.Need-time-at-requires Inv-loop μ-loop
+time-at-requires : tie.Need-time-at-requires
 time-at-requires c κs = search needs
 
-add-lo : tie.Need-add-lo Inv-loop μ-loop
-add-lo c = search needs
+returns-2 : tie.Need-returns-2
+returns-2 c = let m = count-most _ ((c .before .before .before .before .args) .l) (c .before .before .before .before .pre) ((c .before .before .before .before .args) .u) in let p = past-time {u = (c .before .before .before .before .args) .u} (c .before .before .before .before .pre) (omega arith) (c .before .time-at .ensures) (omega arith) in (omega (arith, m, p), omega arith)
 
-loop-less : tie.Need-loop-less Inv-loop μ-loop
-loop-less c = search needs
+halved-requires : tie.Need-halved-requires
+halved-requires c κs = search needs
 
-loop-again : tie.Need-loop-again Inv-loop μ-loop
-loop-again c = (search past-time, search needs, search needs)
-
-loop-less-2 : tie.Need-loop-less-2 Inv-loop μ-loop
-loop-less-2 c = search needs
-
-loop-again-2 : tie.Need-loop-again-2 Inv-loop μ-loop
-loop-again-2 c = (search needs, search before-time, search needs)
-
-returns : tie.Need-returns Inv-loop μ-loop
-returns c = search needs
+returns-3 : tie.Need-returns-3
+returns-3 c = search needs
 
 pub count-at-spec : {M : Type 1} → statement M
 count-at-spec =
-    tie.close
-    (tie.spec
-    Inv-loop
-    μ-loop
-    loop-holds
-    sub-mid
-    add-mid
-    time-at-requires
-    add-lo
-    loop-less
-    loop-again
-    loop-less-2
-    loop-again-2
-    returns)
+    tie.close (tie.spec returns sub-time-at time-at-requires returns-2 halved-requires returns-3)

@@ -1,20 +1,32 @@
 -- `tzif::time_at` meets its contract.
 use native.Mathlib.Omega.{arith}
 use Rattle.tzif.specs.Places.{timeAt}
+use Rattle.tzif.proofs.Numbers.{key-is}
 use borrow.Author.Needs.{needs}
 use Rattle.tzif.proofs.time_at.Statement.{statement}
 use Rattle.tzif.proofs.time_at.Tie as tie
 
-key-at-requires : tie.Need-key-at-requires
-key-at-requires c κs = search needs
+mul-eight-at : tie.Need-mul-eight-at
+mul-eight-at c = search needs
+
+add-eight-at : tie.Need-add-eight-at
+add-eight-at c = search needs
+
+eight-at-requires : tie.Need-eight-at-requires
+eight-at-requires c κs = search needs
+
+key-of-requires : tie.Need-key-of-requires
+key-of-requires c κs = search needs
 
 returns : tie.Need-returns
 unfolding timeAt
-returns c = omega (arith, (c .before .key-at .ensures))
+returns c = let k = key-is _ ((c .before .before .before .before .before .args) .l .times) ((c .before .before .before .before .before .args) .i) (c .before .before .eight-at .ensures) (c .before .key-of .ensures) in omega (arith, k)
 
 returns-2 : tie.Need-returns-2
 unfolding timeAt
-returns-2 c = omega (arith, (c .before .key-at .ensures))
+returns-2 c = let k = key-is _ ((c .before .before .before .before .before .args) .l .times) ((c .before .before .before .before .before .args) .i) (c .before .before .eight-at .ensures) (c .before .key-of .ensures) in omega (arith, k)
 
 pub time-at-spec : {M : Type 1} → statement M
-time-at-spec = tie.close (tie.spec key-at-requires returns returns-2)
+time-at-spec =
+    tie.close
+    (tie.spec mul-eight-at add-eight-at eight-at-requires key-of-requires returns returns-2)

@@ -1,36 +1,24 @@
+-- `zone::run_at` meets its contract.
 use Rattle.zone.proofs.Steps.{early-offset, early-run, late-offset, late-run}
 use native.Mathlib.Omega.{arith}
-use borrow.Author.Needs.{needs}
 use Rattle.zone.proofs.run_at.Statement.{statement}
 use Rattle.zone.proofs.run_at.Tie as tie
-use Rattle.zone.proofs.run_at.Reads as reads
-use Rattle.zone.proofs.run_at.Lts as lts
-use Rattle.turns.proofs.span_at.Reads as span-at-reads
-use Rattle.tzif.proofs.count_at.Reads as count-at-reads
-use Rattle.tzif.proofs.table_offset.Reads as table-offset-reads
-use Rattle.tzif.proofs.time_at.Reads as time-at-reads
 
--- src/lib.rt:68:9
 count-at-requires : tie.Need-count-at-requires
 count-at-requires c κs = c .before .before .pre .0 .table
 
--- src/lib.rt:69:9
 table-offset-requires : tie.Need-table-offset-requires
 table-offset-requires c κs = (c .before .before .before .pre .0 .table, c .count-at .ensures .1)
 
--- src/lib.rt:73:20
 time-at-requires : tie.Need-time-at-requires
-time-at-requires c κs = (c .before .before .before .before .before .before .pre .0 .table, c .if1 .taken)
+time-at-requires c κs = (c .before .before .before .before .before .before .pre .0 .table, omega arith)
 
--- src/lib.rt:71:9
 returns : tie.Need-returns
-returns c = (early-offset (c .before .before .before .before .before .before .before .pre .0 .table) _ _ (c .before .before .before .before .count-at .ensures .0) (c .before .if1 .taken) (c .before .before .before .table-offset .ensures .0), early-run (c .before .before .before .before .before .before .before .pre .0 .table) _ _ (c .before .before .before .before .count-at .ensures .0) (c .before .if1 .taken) (c .time-at .ensures))
+returns c = (early-offset (c .before .before .before .before .before .before .before .pre .0 .table) _ _ (c .before .before .before .before .count-at .ensures .0) (omega arith) (c .before .before .before .table-offset .ensures .0), early-run (c .before .before .before .before .before .before .before .pre .0 .table) _ _ (c .before .before .before .before .count-at .ensures .0) (omega arith) (c .time-at .ensures))
 
--- src/lib.rt:77:5
 span-at-requires : tie.Need-span-at-requires
 span-at-requires c κs = (c .before .before .before .before .before .before .pre .0 .fits .footer-fits, omega arith)
 
--- src/lib.rt:63:1
 returns-2 : tie.Need-returns-2
 returns-2 c = (late-offset (c .before .before .before .before .before .before .before .pre .0 .table) _ _ (c .before .before .before .before .count-at .ensures .0) (omega arith) (c .before .before .before .before .count-at .ensures .1) (c .before .before .before .table-offset .ensures .0) (c .span-at .ensures .0), late-run (c .before .before .before .before .before .before .before .pre .0 .table) _ _ (c .before .before .before .before .count-at .ensures .0) (omega arith) (c .before .before .before .before .count-at .ensures .1) (c .before .before .before .table-offset .ensures .0) (c .span-at .ensures .1))
 

@@ -1,0 +1,25 @@
+-- `turns::settled` meets its contract.
+use Rattle.turns.proofs.Spans.{settled-daylight, settled-standard}
+use native.Mathlib.Omega.{arith}
+use borrow.Author.Needs.{needs}
+use Rattle.turns.proofs.settled.Statement.{statement}
+use Rattle.turns.proofs.settled.Tie as tie
+
+around-requires : tie.Need-around-requires
+around-requires c κs = ((c .pre) .0 .2, (c .pre) .0 .0 .1, (c .pre) .1)
+
+around-requires-2 : tie.Need-around-requires-2
+around-requires-2 c κs = ((c .before .pre) .0 .3, (c .before .pre) .0 .1 .1, (c .before .pre) .1)
+
+least-requires : tie.Need-least-requires
+least-requires c κs = search needs
+
+returns : tie.Need-returns
+returns c = settled-daylight _ _ _ _ ((c .before .before .before .before .before .before .pre) .0) (c .before .before .before .before .before .around .ensures) (c .before .before .before .before .around2 .ensures) (c .before .before .before .least .ensures) (omega arith)
+
+returns-2 : tie.Need-returns-2
+returns-2 c = settled-standard _ _ _ _ ((c .before .before .before .before .before .before .pre) .0) (c .before .before .before .before .before .around .ensures) (c .before .before .before .before .around2 .ensures) (c .before .before .before .least .ensures) (omega arith)
+
+pub settled-spec : {M : Type 1} → statement M
+settled-spec =
+    tie.close (tie.spec around-requires around-requires-2 least-requires returns returns-2)

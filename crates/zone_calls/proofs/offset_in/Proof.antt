@@ -1,0 +1,52 @@
+-- `zone_calls::offset_in` meets its contract.
+use mir.Facts.{toZ-ofZ}
+use Rattle.zone_calls.specs.CallLaws.{offset-unusable, offset-out, offset-is, read-in}
+use Rattle.zone.specs.Zones.{zone-inside}
+use borrow.Author.Needs.{needs}
+use Rattle.zone_calls.proofs.offset_in.Statement.{statement}
+use Rattle.zone_calls.proofs.offset_in.Tie as tie
+
+open-requires : tie.Need-open-requires
+open-requires c κs = search needs
+
+enum-known-z : tie.Need-enum-known-z
+enum-known-z c = search needs
+
+enum-told : tie.Need-enum-told
+enum-told c = search needs
+
+returns : tie.Need-returns
+returns c = offset-unusable _ ((c .before .before .«open» .ensures) .0) _ (c .enum-told .given .1)
+
+instant-of-requires : tie.Need-instant-of-requires
+instant-of-requires c κs = search needs
+
+enum-known-t : tie.Need-enum-known-t
+enum-known-t c = search needs
+
+enum-told-2 : tie.Need-enum-told-2
+enum-told-2 c = search needs
+
+returns-2 : tie.Need-returns-2
+returns-2 c = let f = toZ-ofZ (c .before .before .before .before .before .before .before .before .fits .sec) in let g = toZ-ofZ (c .before .before .before .before .before .before .before .before .fits .ns) in let e = rw (f, g) at (c .before .before .instant-of .ensures) in offset-out _ ((c .before .before .before .before .before .before .«open» .ensures) .0) _ (c .before .before .before .before .z .given .1) e (c .enum-told2 .given .1)
+
+run-at-requires : tie.Need-run-at-requires
+run-at-requires c κs = (zone-inside ((c .before .before .before .before .before .before .before .«open» .ensures) .1) (c .before .before .before .before .before .z .given .1), read-in _ _ (c .before .before .before .instant-of .ensures) (c .before .t .given .1))
+
+returns-3 : tie.Need-returns-3
+returns-3 c = let f = toZ-ofZ (c .before .before .before .before .before .before .before .before .before .before .fits .sec) in let g = toZ-ofZ (c .before .before .before .before .before .before .before .before .before .before .fits .ns) in let e = rw (f, g) at (c .before .before .before .before .instant-of .ensures) in offset-is _ ((c .before .before .before .before .before .before .before .before .«open» .ensures) .0) _ (c .before .before .before .before .before .before .z .given .1) e (c .before .before .t .given .1) ((c .run-at .ensures) .0)
+
+pub offset-in-spec : {M : Type 1} → statement M
+offset-in-spec =
+    tie.close
+    (tie.spec
+    open-requires
+    enum-known-z
+    enum-told
+    returns
+    instant-of-requires
+    enum-known-t
+    enum-told-2
+    returns-2
+    run-at-requires
+    returns-3)
