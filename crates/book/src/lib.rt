@@ -65,7 +65,7 @@ fn hours_ok(l: &[u8], p: usize) -> bool
 }
 
 // The year of the date at p, counted from -10400; 0 for the years before.
-fn year_at(b: &[u8], p: usize) -> u32
+pub fn year_at(b: &[u8], p: usize) -> u32
     ensures { λ r. ⌜ r ≡ yearAt (now (b .entry)) p ⌝ }
 {
     let y = (be::be16_at(b, p) + 32768) % 65536;

@@ -1,5 +1,5 @@
 -- Filling a list with the blocks of rules, date by date: what a turn of either loop keeps. Assumes nothing.
-use Prim.Native.Nat.{ℕ, zero, suc, _+_, _*_, _-_, _≤_, _<_}
+use Prim.Native.Nat.{ℕ, zero, suc, _+_, _*_, _-_, _/_, _≤_, _<_}
 use mathlib.Core.Path.{_≡_, refl, sym, _∙_, ap}
 use mathlib.Core.Bool.{Bool, true, false}
 use mathlib.Core.List.{List, [], _∷_, _++_, map, append-assoc, append-nil}
@@ -12,11 +12,14 @@ use lib.Seq.{drop-cons, getD-take, length-take-le}
 use Rattle.model.specs.Basic.{if_then_else_, any, among, distinct, filter, run, joined}
 use Rattle.model.specs.Blocks.{Block}
 use Rattle.model.specs.Tzif.{Zone}
-use Rattle.model.specs.Working.{Rule, Holidays, holidayRule, firstDate, lastDate, localDates, startOf, endOf, blocksOf, blocksOfAll}
+use Rattle.model.specs.Instant.{second}
+use Rattle.model.specs.Zone.{offsetAt}
+use Rattle.dates.proofs.Facts.{local-is, first-back, last-on, kept-small}
+use Rattle.model.specs.Working.{Rule, Holidays, holidayRule, localDay, firstDate, lastDate, localDates, startOf, endOf, blocksOf, blocksOfAll}
 use Rattle.laws_base.specs.Test.{by-test}
 use Rattle.laws_zone.specs.Sound.{Sound}
 use Rattle.laws_zone.specs.Zones.{fits-sound}
-use Rattle.laws_skip.specs.Local.{first-from, last-upto}
+use Rattle.laws_skip.specs.Local.{off, first-from, last-upto}
 use Rattle.laws_skip.specs.Counts.{dates-most}
 use Rattle.zone.specs.Zones.{meant, ZoneOk}
 use Rattle.zone.specs.declared.Zone.{Zone as Zone′}
@@ -30,7 +33,7 @@ use Rattle.blocks.proofs.Walk.{stored}
 use Rattle.dates.specs.Dates.{IsDay, held, pieceOf, during, Kept, IsIn}
 use Rattle.rules.specs.declared.Rule.{Rule as Rule′}
 use Rattle.rules.specs.declared.Closed.{Closed}
-use Rattle.engine.specs.Windows.{Window, DaysOf}
+use Rattle.engine.specs.Windows.{Window, DaysOf, dayBy}
 use Rattle.engine.specs.declared.Days.{Days}
 use Rattle.rules.specs.Rules.{fileAt, ruleIs, holidaysIs, RuleFits, ClosedFits, All}
 
@@ -233,6 +236,37 @@ days-are f g z lo hi d e o w p q v =
     let u = last-upto (meant g z) s (nanos hi) (omega arith) in
     let k = dates-most (meant g z) s (nanos lo) (nanos hi) 14 (w .short) in
     record { first-is = p′; last-is = q′; low = omega arith; high = omega arith; few = omega arith; kept = rw e at v }
+
+-- by one offset around the window
+by-offset : (z : Zone) (lo hi t : Instant) (o : ℕ) → Kept z (nanos lo) (nanos hi) o → 0 < o → nanos lo ≤ nanos t → nanos t ≤ nanos hi → t .ns < 1000000000
+    → dayBy o t ≡ localDay z (nanos t)
+unfolding off
+by-offset z lo hi t o k h p q n =
+    let e = k .same h (nanos t) (omega arith) (omega arith) in
+    let s : (t .sec * 1000000000 + t .ns) / second ≡ t .sec = omega arith in
+    let g : offsetAt z (t .sec) * second ≡ o * second = rw s at e in
+    local-is z (t .sec) (t .ns) o n (omega arith)
+
+-- a zone's offset and the seconds that a window has with four days on either side
+pub kept-room : (f : List ℕ) (z : Zone′) (lo hi : Instant) (o : ℕ) → ZoneOk f z → Window 14 lo hi → Kept (meant f z) (nanos lo) (nanos hi) o → 0 < o
+    → (o ≤ 187199) × (12654842399 ≤ lo .sec) × (lo .sec ≤ hi .sec) × (hi .sec ≤ 643761381600)
+kept-room f z lo hi o s w k h =
+    let a = w .low .ns in let b = w .high .ns in let c = w .order in let l = k .low h in let u = k .high h in
+    (kept-small f z lo hi o s k c h, omega arith, omega arith, omega arith)
+
+pub days-kept : (f g : List ℕ) (z : Zone′) (lo hi : Instant) (o : ℕ) (d : Days) → f ≡ g → ZoneOk g z → Window 14 lo hi → Kept (meant f z) (nanos lo) (nanos hi) o → 0 < o
+    → d .first ≡ dayBy o lo - 2 → d .last ≡ dayBy o hi + 1 → d .offset ≡ o → DaysOf (meant g z) lo hi d
+days-kept f g z lo hi o d e s w k h p q r =
+    let m = kept-room f z lo hi o (zone-moved f g z e s) w k h in
+    let b = m .1 in let c = m .2 in let x = m .3 in
+    let i = by-offset (meant f z) lo hi lo o k h (omega arith) (w .order) (w .low .ns) in
+    let j = by-offset (meant f z) lo hi hi o k h (w .order) (omega arith) (w .high .ns) in
+    let u : 146465 ≤ dayBy o lo = omega arith in
+    let v : dayBy o hi < 7450946 = omega arith in
+    days-are f g z lo hi d e s w
+    (p ∙ first-back (meant f z) (nanos lo) (dayBy o lo) i u)
+    (q ∙ last-on (meant f z) (nanos hi) (dayBy o hi) j v)
+    (rw r k)
 
 pub day-in : (z : Zone) (lo hi : Instant) (days : Days) (d : ℕ) → DaysOf z lo hi days → days .first ≤ d → d ≤ days .last → IsDay d
 day-in z lo hi days d q a b = let l = q .low in let u = q .high in record { low = omega arith; high = omega arith }

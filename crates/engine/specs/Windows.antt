@@ -1,6 +1,6 @@
 -- What the functions on a window are asked and answer.
 use mathlib.Core.Path.{_≡_}
-use Prim.Native.Nat.{ℕ, _+_, _*_, _≤_}
+use Prim.Native.Nat.{ℕ, _+_, _*_, _-_, _/_, _≤_}
 use Rattle.model.specs.Calendar.{firstDay, lastDay}
 use Rattle.model.specs.Instant.{day}
 use Rattle.model.specs.Tzif.{Zone}
@@ -25,3 +25,7 @@ pub record DaysOf (z : Zone) (lo hi : Instant) (d : Days) : Type 0 where
   pub high : d .last ≤ lastDay
   pub few : d .last + 1 ≤ d .first + 21
   pub kept : Kept z (nanos lo) (nanos hi) (d .offset)
+
+-- the local date at t by the offset o
+abbrev pub dayBy : ℕ → Instant → ℕ
+dayBy o t = (t .sec + o - 93600) / 86400

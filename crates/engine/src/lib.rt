@@ -2,7 +2,7 @@
 // pack, dates in the lent book. A list is filled in place, rule by rule and date by date.
 ghost use mathlib.Core.Path.{_≡_};
 ghost use mathlib.Core.List.{_++_, map};
-ghost use Prim.Native.Nat.{_+_, _*_, _≤_};
+ghost use Prim.Native.Nat.{_+_, _*_, _-_, _≤_, _<_};
 ghost use lib.ListN.{length, take};
 ghost use Rattle.model.specs.Basic.{among};
 ghost use Rattle.model.specs.Calendar.{contains, weekday};
@@ -14,7 +14,7 @@ ghost use Rattle.zone.specs.Zones.{meant, ZoneOk};
 ghost use Rattle.book.specs.Meaning.{datesAt};
 ghost use Rattle.rules.specs.Rules.{fileAt, ruleIs, holidaysIs, scheduleIs, RuleFits, ClosedFits, ScheduleFits, All};
 ghost use Rattle.dates.specs.Dates.{held, pieceOf, during};
-ghost use Rattle.engine.specs.Windows.{Window, DaysOf};
+ghost use Rattle.engine.specs.Windows.{Window, DaysOf, dayBy};
 use blocks::Block;
 use blocks::Blocks;
 use book::Time;
@@ -31,15 +31,32 @@ pub struct Days {
     pub offset: u32,
 }
 
-// They are those of the zone whose file stands at `at` in the pack.
-fn days_in(pack: &[u8], at: usize, len: usize, z: Zone, lo: Instant, hi: Instant) -> Days
+// Those of a window by the offset o, which holds from four days before it to four days after it.
+fn days_by(o: u32, lo: Instant, hi: Instant) -> Days
+    requires { ⌜ (o ≤ 187199) × (12654842399 ≤ lo .sec) × (lo .sec ≤ hi .sec) × (hi .sec ≤ 643761381600) ⌝ }
+    ensures { λ r. ⌜ (r .first ≡ dayBy o lo - 2) × (r .last ≡ dayBy o hi + 1) × (r .offset ≡ o) ⌝ }
+{
+    let first = (lo.sec + o as u64 - 93600) / 86400;
+    let last = (hi.sec + o as u64 - 93600) / 86400;
+    Days {
+        first: first as u32 - 2,
+        last: last as u32 + 1,
+        offset: o,
+    }
+}
+
+// They are those of the zone whose file stands at `at` in the pack. One offset around the window gives them at once; else each end is looked up.
+pub fn days_in(pack: &[u8], at: usize, len: usize, z: Zone, lo: Instant, hi: Instant) -> Days
     requires { ⌜ ZoneOk (fileAt (now pack) at len) z × Window 14 lo hi ⌝ }
     ensures { λ r. ⌜ DaysOf (meant (fileAt (now (pack .entry)) at len) z) lo hi r ⌝ }
 {
     let f = be::part(pack, at, len);
+    let offset = dates::one_offset(f, z, lo, hi);
+    if 0 < offset {
+        return days_by(offset, lo, hi);
+    }
     let first = dates::first_date(f, z, lo);
     let last = dates::last_date(f, z, hi);
-    let offset = dates::one_offset(f, z, lo, hi);
     Days {
         first,
         last,
@@ -50,14 +67,14 @@ fn days_in(pack: &[u8], at: usize, len: usize, z: Zone, lo: Instant, hi: Instant
 // ---- work and breaks
 
 // Whether the rule takes of the date.
-fn shows(r: Rule, day: u32) -> bool
+pub fn shows(r: Rule, day: u32) -> bool
     ensures { λ b. ⌜ b ≡ contains (r .days) (weekday day) ⌝ }
 {
     civil::contains(r.days, civil::weekday_of(day))
 }
 
 // What the rule shows of a date in the window.
-fn piece_of(pack: &[u8], r: Rule, days: Days, day: u32, lo: Instant, hi: Instant) -> Block
+pub fn piece_of(pack: &[u8], r: Rule, days: Days, day: u32, lo: Instant, hi: Instant) -> Block
     requires { ⌜ RuleFits (now pack) r × Window 14 lo hi × DaysOf (ruleIs (now pack) r .zone) lo hi days × (days .first ≤ day) × (day ≤ days .last) ⌝ }
     ensures { λ x. ⌜ held x ≡ pieceOf (ruleIs (now (pack .entry)) r) (nanos lo) (nanos hi) day ⌝ }
 {
@@ -126,7 +143,7 @@ fn is_closed(book: &[u8], c: Closed, day: u32) -> bool
 }
 
 // What the record shows of a date in the window.
-fn closed_piece(pack: &[u8], c: Closed, days: Days, day: u32, lo: Instant, hi: Instant) -> Block
+pub fn closed_piece(pack: &[u8], c: Closed, days: Days, day: u32, lo: Instant, hi: Instant) -> Block
     requires { ⌜ ZoneOk (fileAt (now pack) (c .at) (c .len)) (c .zone) × Window 14 lo hi × DaysOf (meant (fileAt (now pack) (c .at) (c .len)) (c .zone)) lo hi days × (days .first ≤ day) × (day ≤ days .last) ⌝ }
     ensures { λ x. ⌜ held x ≡ pieceOf (during (meant (fileAt (now (pack .entry)) (c .at) (c .len)) (c .zone)) 0 0) (nanos lo) (nanos hi) day ⌝ }
 {

@@ -1,0 +1,4 @@
+pub mod Parts
+pub mod Moving
+pub mod Adding
+pub mod Cutting

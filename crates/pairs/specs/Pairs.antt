@@ -1,0 +1,58 @@
+-- What lent numbers mean: blocks of the definitions, each by two numbers. And what the functions on them are asked and answer.
+use mathlib.Core.Path.{_≡_}
+use mathlib.Core.List.{List, [], _∷_, _++_}
+use Prim.Native.Nat.{ℕ, zero, suc, _+_, _*_, _-_, _≤_, _<_, min, max}
+use lib.ListN.{length, getD}
+use Rattle.model.specs.Blocks.{Block, block, cut}
+use Rattle.laws_blocks.specs.Members.{From}
+
+-- n blocks, from block a on
+unfoldable pub part : ℕ → ℕ → List ℕ → List Block
+part a zero l = []
+part a (suc n) l = block (getD l (2 * a) 0) (getD l (2 * a + 1) 0) ∷ part (suc a) n l
+
+-- the first n blocks
+abbrev pub pairs : ℕ → List ℕ → List Block
+pairs n l = part 0 n l
+
+-- every block ends at s or later
+abbrev pub Reach : ℕ → List Block → Type 0
+Reach s [] = Unit {0}
+Reach s (b ∷ l) = (s ≤ b .end) × Reach s l
+
+-- of the first n blocks those from i on start behind e, and the one in front of i does not
+pub record StartsTo (l : List ℕ) (n e i : ℕ) : Type 0 where
+  pub upto : i ≤ n
+  pub behind : From (suc e) (part i (n - i) l)
+  pub last : 0 < i → getD l (2 * i - 2) 0 ≤ e
+
+-- of the first n blocks those from i on end at s or later, and the one in front of i does not
+pub record EndsFrom (l : List ℕ) (n s i : ℕ) : Type 0 where
+  pub upto : i ≤ n
+  pub reach : Reach s (part i (n - i) l)
+  pub last : 0 < i → getD l (2 * i - 1) 0 < s
+
+-- the numbers from a to b stand two places further on
+pub record Raised (l r : List ℕ) (a b : ℕ) : Type 0 where
+  pub long : length r ≡ length l
+  pub low : (x : ℕ) → x < a → getD r x 0 ≡ getD l x 0
+  pub high : (x : ℕ) → a ≤ x → x < b → getD r (x + 2) 0 ≡ getD l x 0
+
+-- n numbers from a on stand from t on
+pub record Lowered (l r : List ℕ) (t a n : ℕ) : Type 0 where
+  pub long : length r ≡ length l
+  pub low : (x : ℕ) → x < t → getD r x 0 ≡ getD l x 0
+  pub high : (x : ℕ) → x < n → getD r (t + x) 0 ≡ getD l (a + x) 0
+
+-- [s, e) made one with the blocks from j to i
+abbrev pub hull : ℕ → ℕ → ℕ → ℕ → List ℕ → Block
+hull s e j i l = block (min s (getD l (2 * j) 0)) (max e (getD l (2 * i - 1) 0))
+
+-- [s, e) without the gaps from j to m is written behind the first w blocks; the gaps up to k reach no block that starts at e or later
+pub record CutTo (off : List ℕ) (j m s e : ℕ) (out : List ℕ) (w : ℕ) (out′ : List ℕ) (w′ k : ℕ) : Type 0 where
+  pub same : pairs w′ out′ ≡ pairs w out ++ cut s e (part j (m - j) off)
+  pub rest : (s′ e′ : ℕ) → e ≤ s′ → cut s′ e′ (part k (m - k) off) ≡ cut s′ e′ (part j (m - j) off)
+  pub from : j ≤ k
+  pub upto : k ≤ m
+  pub count : w′ + j ≤ w + k + 1
+  pub long : length out′ ≡ length out

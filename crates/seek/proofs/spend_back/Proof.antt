@@ -1,0 +1,118 @@
+-- `seek::spend_back` meets its contract. Assumes nothing.
+use borrow.Author.Needs.{needs}
+use native.Mathlib.Omega.{arith}
+use Prim.Native.Nat.{suc, _+_, _*_, _-_, _≤_, _<_}
+use lib.ListN.{length, getD, length-set}
+use mathlib.Core.Path.{_≡_, refl, sym, _∙_, ap, ap₂}
+use Rattle.seek.proofs.Looks.{step-gap, step-found, step-on, step-last, step-left, on-starts, on-end, back-at, back-end}
+use Rattle.pairs.specs.Pairs.{part, pairs}
+use Rattle.pairs.proofs.Parts.{from-first}
+use Rattle.model.specs.Walk.{spend, backward}
+use lib.Dec.{ltb}
+use Rattle.seek.proofs.spend_back.Statement.{statement}
+use Rattle.seek.proofs.spend_back.Tie as tie
+
+abbrev Inv-loop : tie.InvT-loop
+Inv-loop l n t limit y last d left₀ end₀ i₀ left end i = (i ≤ n) × (spend limit y end left (backward t (pairs i l)) ≡ spend limit y last d (backward t (pairs n l)))
+
+abbrev μ-loop : tie.MeasureT-loop
+μ-loop l n t limit y last d left₀ end₀ i₀ left end i = i
+
+loop-holds : tie.Need-loop-holds Inv-loop μ-loop
+loop-holds c = (omega arith, refl)
+
+mul-minus : tie.Need-mul-minus Inv-loop μ-loop
+mul-minus c = search needs
+
+sub-minus : tie.Need-sub-minus Inv-loop μ-loop
+sub-minus c = search needs
+
+mul-minus-2 : tie.Need-mul-minus-2 Inv-loop μ-loop
+mul-minus-2 c = search needs
+
+shared-slice-read-minus : tie.Need-shared-slice-read-minus Inv-loop μ-loop
+shared-slice-read-minus c = search needs
+
+minus-requires : tie.Need-minus-requires Inv-loop μ-loop
+minus-requires c κs = search needs
+
+mul-minus-3 : tie.Need-mul-minus-3 Inv-loop μ-loop
+mul-minus-3 c = search needs
+
+sub-minus-2 : tie.Need-sub-minus-2 Inv-loop μ-loop
+sub-minus-2 c = search needs
+
+mul-minus-4 : tie.Need-mul-minus-4 Inv-loop μ-loop
+mul-minus-4 c = search needs
+
+shared-slice-read-minus-2 : tie.Need-shared-slice-read-minus-2 Inv-loop μ-loop
+shared-slice-read-minus-2 c = search needs
+
+minus-requires-2 : tie.Need-minus-requires-2 Inv-loop μ-loop
+minus-requires-2 c κs = search needs
+
+sub-i : tie.Need-sub-i Inv-loop μ-loop
+sub-i c = search needs
+
+exceeds-requires : tie.Need-exceeds-requires Inv-loop μ-loop
+exceeds-requires c κs = search needs
+
+returns : tie.Need-returns Inv-loop μ-loop
+returns c = step-gap _ _ _ _ _ _ _ _ _ (back-at _ _ _ _ _ (c .before .before .before .before .before .before .loop-test .taken) (c .before .before .before .before .minus .ensures) (c .before .before .minus2 .ensures)) (c .before .before .before .before .before .before .before .loop .inv .1) (sym (c .before .exceeds .ensures) ∙ (c .if1 .taken))
+
+minus-requires-3 : tie.Need-minus-requires-3 Inv-loop μ-loop
+minus-requires-3 c κs = search needs
+
+add-t22 : tie.Need-add-t22 Inv-loop μ-loop
+add-t22 c = omega (arith, (c .before .minus3 .ensures), (c .if2 .taken), (c .before .before .before .before .before .before .minus .ensures), (c .before .before .before .before .minus2 .ensures))
+
+returns-2 : tie.Need-returns-2 Inv-loop μ-loop
+returns-2 c = step-found _ _ _ _ _ _ _ _ _ (back-at _ _ _ _ _ (c .before .before .before .before .before .before .before .before .loop-test .taken) (c .before .before .before .before .before .before .minus .ensures) (c .before .before .before .before .minus2 .ensures)) (c .before .before .before .before .before .before .before .before .before .loop .inv .1) (sym (c .before .before .before .exceeds .ensures) ∙ (c .before .before .if1 .left)) _ (c .before .minus3 .ensures) (c .if2 .taken)
+
+sub-left : tie.Need-sub-left Inv-loop μ-loop
+sub-left c = omega (arith, (c .if2 .left))
+
+loop-less : tie.Need-loop-less Inv-loop μ-loop
+loop-less c = omega (arith, (c .before .before .before .before .before .before .before .before .loop-test .taken))
+
+loop-again : tie.Need-loop-again Inv-loop μ-loop
+loop-again c = (omega (arith, (c .before .before .before .before .before .before .before .before .before .loop .inv .0)), step-on _ _ _ _ _ _ _ _ _ (back-at _ _ _ _ _ (c .before .before .before .before .before .before .before .before .loop-test .taken) (c .before .before .before .before .before .before .minus .ensures) (c .before .before .before .before .minus2 .ensures)) (c .before .before .before .before .before .before .before .before .before .loop .inv .1) (sym (c .before .before .before .exceeds .ensures) ∙ (c .before .before .if1 .left)) _ (c .before .minus3 .ensures) (c .if2 .left))
+
+exceeds-requires-2 : tie.Need-exceeds-requires-2 Inv-loop μ-loop
+exceeds-requires-2 c κs = search needs
+
+returns-3 : tie.Need-returns-3 Inv-loop μ-loop
+returns-3 c = step-last _ _ _ _ _ _ (back-end _ _ _ (c .before .before .loop-test .left)) (c .before .before .before .loop .inv .1) (sym (c .before .exceeds2 .ensures) ∙ (c .if3 .taken))
+
+returns-4 : tie.Need-returns-4 Inv-loop μ-loop
+returns-4 c = step-left _ _ _ _ _ _ (back-end _ _ _ (c .before .before .loop-test .left)) (c .before .before .before .loop .inv .1) (sym (c .before .exceeds2 .ensures) ∙ (c .if3 .left))
+
+pub spend-back-spec : {M : Type 1} → statement M
+spend-back-spec =
+    tie.close
+    (tie.spec
+    Inv-loop
+    μ-loop
+    loop-holds
+    mul-minus
+    sub-minus
+    mul-minus-2
+    shared-slice-read-minus
+    minus-requires
+    mul-minus-3
+    sub-minus-2
+    mul-minus-4
+    shared-slice-read-minus-2
+    minus-requires-2
+    sub-i
+    exceeds-requires
+    returns
+    minus-requires-3
+    add-t22
+    returns-2
+    sub-left
+    loop-less
+    loop-again
+    exceeds-requires-2
+    returns-3
+    returns-4)

@@ -1,0 +1,4 @@
+pub mod Laws
+pub mod Fills
+pub mod Frames
+pub mod Closings
