@@ -60,7 +60,7 @@ fn exceeds(limit: Span, from: Span, to: Span) -> bool
 }
 
 // The distance of the nearer border of x.
-fn near(x: Block, back: bool, t: Instant) -> Span
+pub fn near(x: Block, back: bool, t: Instant) -> Span
     requires { ⌜ (nanos (x .start) < most) × (nanos t < most) ⌝ }
     ensures { λ r. ⌜ (size r ≡ near (wayOf back) (nanos t) (blockOf x)) × (r .ns < 1000000000) × (size r < most) ⌝ }
 {
@@ -73,7 +73,7 @@ fn near(x: Block, back: bool, t: Instant) -> Span
 }
 
 // The distance of the further border of x.
-fn far(x: Block, back: bool, t: Instant) -> Span
+pub fn far(x: Block, back: bool, t: Instant) -> Span
     requires { ⌜ (nanos (x .end) < most) × (nanos t < most) ⌝ }
     ensures { λ r. ⌜ (size r ≡ far (wayOf back) (nanos t) (blockOf x)) × (r .ns < 1000000000) × (size r < most) ⌝ }
 {
@@ -86,7 +86,7 @@ fn far(x: Block, back: bool, t: Instant) -> Span
 }
 
 // Where the i-th nearest of n blocks stands.
-fn place(back: bool, n: usize, i: usize) -> usize
+pub fn place(back: bool, n: usize, i: usize) -> usize
     requires { ⌜ i < n ⌝ }
     ensures { λ r. ⌜ (r ≡ placeOf (wayOf back) n i) × (r < n) ⌝ }
 {

@@ -1,4 +1,3 @@
-pub mod Near
 pub mod Sums
 pub mod Seeks
 pub mod Steps

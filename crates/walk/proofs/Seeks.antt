@@ -1,22 +1,20 @@
 -- The loop of `search_walk`: its invariant, and that a turn keeps it. Assumes nothing.
-use mathlib.Core.Path.{_≡_, refl, sym, _∙_, ap, ap₂}
+use mathlib.Core.Path.{_≡_, refl, sym, _∙_, ap}
 use mathlib.Core.Bool.{Bool, true, false, _&&_}
-use mathlib.Core.List.{List, [], _∷_}
-use Prim.Native.Nat.{ℕ, zero, suc, _+_, _*_, _-_, _≤_, _<_, min}
+use mathlib.Core.List.{List}
+use Prim.Native.Nat.{ℕ, _+_, _*_, _-_, _≤_, _<_, min}
 use native.Mathlib.Omega.{arith}
 use lib.Dec.{eqb, ltb}
-use borrow.Author.Tests.{eqb-true, ltb-true, ltb-false, lt-ltb}
 use Rattle.model.specs.Answer.{Answer, gives, refuses}
 use Rattle.model.specs.Instant.{week}
 use Rattle.model.specs.Blocks.{Block, total}
 use Rattle.model.specs.Working.{Schedule}
-use Rattle.model.specs.Walk.{Way, at, reach, ahead, begun, search, found, gap, left, spend}
+use Rattle.model.specs.Walk.{Way, at, reach, ahead, search, found, gap, left, spend}
 use Rattle.model.specs.Skip.{repeats, neededSearch}
-use Rattle.laws_base.specs.Test.{and-both, clash}
-use Rattle.laws_skip.specs.Edges.{Inside, spend-left}
+use Rattle.laws_skip.specs.Edges.{Inside, spend-left, end-upto}
 use Rattle.laws_skip.specs.Skips.{Kept, fresh, known, keep, maySkip, Counted, counted, skipIn, Answers}
-use Rattle.laws_skip.specs.Loops.{searchRest, more, search-start, search-done, search-finds, search-gap, search-left, search-reuses}
-use Rattle.laws_skip.specs.Schedules.{ahead-inside, search-skipping}
+use Rattle.laws_skip.specs.Loops.{searchRest, more, search-start, search-done, search-finds, search-gap, search-left, search-run}
+use Rattle.laws_skip.specs.Schedules.{search-skipping}
 use Rattle.laws_skip.specs.Books.{BuiltWell}
 
 more-more : (c k : ℕ) (r : Counted) → more c (more k r) ≡ more (c + k) r
@@ -27,58 +25,47 @@ more-nothing r = let q : 0 + r .count ≡ r .count = omega arith in λ i. record
 
 module _ (look : ℕ → ℕ → List Block) (rep : ℕ → Bool) (limit end d : ℕ) where
   -- at the distance x, with `rest` left to find: what is resolved so far, and the search from there, are the whole search
-  pub record Seeking (x last rest windows : ℕ) (k : Kept) : Type 0 where
+  pub record Seeking (x last rest windows edge : ℕ) (k : Kept) : Type 0 where
     pub upto : x ≤ end
+    -- work last ended so far before x
+    pub since : edge + last ≡ x
     pub some : 0 < rest
     pub less : rest ≤ d
     pub few : x < end → windows * week ≤ x
     pub same : more windows (searchRest look rep limit end x last rest k) ≡ searchRest look rep limit end 0 0 d fresh
 
-  pub seeking-starts : 0 < d → (k : Kept) → k ≡ fresh → Seeking 0 0 d 0 k
+  pub seeking-starts : 0 < d → (k : Kept) → k ≡ fresh → Seeking 0 0 d 0 0 k
   seeking-starts h k e = record {
     upto = omega arith;
+    since = omega arith;
     some = h;
     less = omega arith;
     few = λ u. omega arith;
     same = rw e (more-nothing (searchRest look rep limit end 0 0 d fresh));
   }
 
-  module _ (x last rest windows : ℕ) (k : Kept) (m : Seeking x last rest windows k) where
+  module _ (x last rest windows edge : ℕ) (k : Kept) (m : Seeking x last rest windows edge k) where
+    -- windows that are skipped
+    runs-on : (t n : ℕ) → k ≡ known t edge → 0 < n → x + n * week ≤ end → ((i : ℕ) → i < n → rep (x + i * week) ≡ true) → n * t < rest
+        → Seeking (x + n * week) (last + n * week) (rest - n * t) windows edge (known t edge)
+    runs-on t n f j i r u =
+        let o = m .since in let l = m .less in let w = m .few (omega arith) in
+        record {
+          upto = i;
+          since = omega arith;
+          some = omega arith;
+          less = omega arith;
+          few = λ z. omega arith;
+          same = sym (ap (more windows) (search-run look rep limit end n x last rest t edge (m .since) i r u)) ∙ (rw f at (m .same));
+        }
+
+    pub seeking-runs : (b : Bool) (t n : ℕ) → k ≡ keep b t edge → b ≡ true → 0 < n → x + n * week ≤ end → ((i : ℕ) → i < n → rep (x + i * week) ≡ true) → n * t < rest
+        → (x′ last′ rest′ : ℕ) → x′ ≡ x + n * week → last′ ≡ last + n * week → rest′ ≡ rest - n * t → Seeking x′ last′ rest′ windows edge k
+    seeking-runs b t n f q j i r u x′ last′ rest′ ex el er = let g : k ≡ known t edge = rw q at f in rw (g, ex, el, er) (runs-on t n g j i r u)
+
     module _ (h : x < end) (y : ℕ) (e : y ≡ min (x + week) end) where
-      -- a window that is skipped
-      skips-on : (t g : ℕ) → k ≡ known t g → t < rest → eqb (y - x) week ≡ true → rep x ≡ true → Seeking y (y - g) (rest - t) windows (known t g)
-      skips-on t g f u v w =
-          let q = eqb-true (y - x) week v in
-          let i : y ≡ x + week = omega arith in
-          let n = m .few h in let l = m .less in let o = m .upto in
-          record {
-            upto = omega arith;
-            some = omega arith;
-            less = omega arith;
-            few = λ z. omega arith;
-            same = rw i (moved i);
-          }
-        where
-          moved : y ≡ x + week → more windows (searchRest look rep limit end (x + week) (x + week - g) (rest - t) (known t g)) ≡ searchRest look rep limit end 0 0 d fresh
-          moved i =
-              let c : windows + 0 ≡ windows = omega arith in
-              let old : more windows (searchRest look rep limit end x last rest (known t g)) ≡ searchRest look rep limit end 0 0 d fresh = rw f at (m .same) in
-              let one = search-reuses look rep limit end x last rest t g (omega arith) w u in
-              (rw c at (sym (more-more windows 0 (searchRest look rep limit end (x + week) (x + week - g) (rest - t) (known t g))))) ∙ ap (more windows) (sym one) ∙ old
-
-      pub seeking-skips : (b : Bool) (t g : ℕ) → k ≡ keep b t g → {test : Bool} → test ≡ maySkip k rest (eqb (y - x) week && rep x) → test ≡ true
-          → (rest′ last′ : ℕ) → rest′ ≡ rest - t → last′ ≡ y - g → Seeking y last′ rest′ windows k
-      seeking-skips false t g f p q rest′ last′ u v = clash false (rw f at (sym p ∙ q)) refl
-      seeking-skips true t g f p q rest′ last′ u v =
-          let r = and-both (ltb t rest) (eqb (y - x) week && rep x) (rw f at (sym p ∙ q)) in
-          let w = and-both (eqb (y - x) week) (rep x) (r .1) in
-          rw (f, u, v) (skips-on t g f (ltb-true t rest (r .0)) (w .0) (w .1))
-
       -- one that is resolved
-      module _ {test : Bool} (p : test ≡ maySkip k rest (eqb (y - x) week && rep x)) (q : test ≡ false) where
-        no-skip : maySkip k rest (eqb (min (x + week) end - x) week && rep x) ≡ false
-        no-skip = rw e at (sym p ∙ q)
-
+      module _ (no-skip : maySkip k rest (eqb (min (x + week) end - x) week && rep x) ≡ false) where
         pub seeking-finds : (z : ℕ) → found z ≡ spend limit y last rest (look x y) → counted (gives z) (windows + 1) ≡ searchRest look rep limit end 0 0 d fresh
         seeking-finds z f =
             ap (more windows) (sym (search-finds look rep limit end x last rest k h no-skip z (rw e at (sym f)))) ∙ m .same
@@ -88,15 +75,17 @@ module _ (look : ℕ → ℕ → List Block) (rep : ℕ → Bool) (limit end d :
             ap (more windows) (sym (search-gap look rep limit end x last rest k h no-skip (rw e at (sym f)))) ∙ m .same
 
         pub seeking-left : (tidy : Inside x y (look x y)) (r l : ℕ) → left r l ≡ spend limit y last rest (look x y)
-            → (k′ : Kept) → k′ ≡ keep (eqb (y - x) week && ltb 0 (rest - r)) (rest - r) (y - l)
-            → Seeking y l r (windows + 1) k′
-        seeking-left tidy r l f k′ g =
-            let o = m .some in let i = m .less in let n = m .few h in let j = m .upto in
+            → (k′ : Kept) → k′ ≡ keep (eqb (y - x) week && ltb 0 (rest - r)) (rest - r) (y - l) → (edge′ : ℕ) → edge′ ≡ y - l
+            → Seeking y l r (windows + 1) edge′ k′
+        seeking-left tidy r l f k′ g edge′ ee =
+            let o = m .some in let i = m .less in let n = m .few h in let j = m .upto in let w = m .since in
             let v = spend-left limit x y (look x y) tidy last rest o r l (sym f) in
-            let v0 = v .0 in let v1 = v .1 in
+            let v0 = v .0 in let v1 = v .1 in let v2 = v .2 in
+            let z = end-upto x y (look x y) tidy last (omega arith) in
             let t : total (look x y) ≡ rest - r = omega arith in
             record {
               upto = omega arith;
+              since = omega arith;
               some = omega arith;
               less = omega arith;
               few = λ z. omega arith;

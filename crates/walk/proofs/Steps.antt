@@ -2,22 +2,28 @@
 use mathlib.Core.Path.{_≡_, refl, sym, _∙_, ap}
 use mathlib.Core.Bool.{Bool, true, false, _&&_}
 use mathlib.Core.List.{List, [], _∷_}
-use Prim.Native.Nat.{ℕ, _+_, _*_, _-_, _≤_, _<_, min}
+use Prim.Native.Nat.{ℕ, _+_, _*_, _-_, _/_, _≤_, _<_, min}
+use mathlib.Core.Logic.{_⊎_, inl, inr}
+use native.Mathlib.Nat.{mul-assoc, mul-le-mul, mul-le-mul-right, mul-lt-mul-of-pos-left, div-mul-le-self}
 use native.Mathlib.Omega.{arith}
 use lib.Dec.{eqb, ltb}
-use borrow.Author.Tests.{eq-eqb, ne-eqb, eqb-true, eqb-false}
+use borrow.Author.Tests.{eq-eqb, ne-eqb, eqb-true, eqb-false, le-ltb}
 use Rattle.model.specs.Instant.{second, week, lastInstant}
 use Rattle.model.specs.Blocks.{Block, total}
 use Rattle.model.specs.Working.{Schedule, working}
-use Rattle.model.specs.Walk.{Way, reach, on, back, ahead, onward, backward, spend}
+use Rattle.model.specs.Walk.{Step as Taken}
+use Rattle.model.specs.Walk.{Way, reach, at, on, back, ahead, onward, backward, spend}
+use Rattle.model.specs.Skip.{repeats}
 use Rattle.laws_base.specs.Test.{by-test}
 use Rattle.laws_skip.specs.Edges.{Inside}
 use Rattle.laws_skip.specs.Schedules.{working-inside}
-use Rattle.laws_skip.specs.Skips.{fresh, keep}
+use Rattle.laws_skip.specs.Skips.{fresh, keep, maySkip}
+use Rattle.calm.specs.Calm.{beyond, Calm}
 use Rattle.blocks.specs.Counted.{size, most}
 use Rattle.blocks.specs.declared.Span.{Span}
-use Rattle.walk.specs.Walks.{Short, Ahead}
-use Rattle.spend.specs.Spending.{stepIs, Below}
+use Rattle.walk.specs.declared.Kept.{Kept}
+use Rattle.walk.specs.Walks.{Short, Ahead, Reused, Skipped}
+use Rattle.spend.specs.Spending.{wayOf, stepIs, Below}
 use Rattle.spend.specs.declared.Step.{Step}
 use Rattle.walk.proofs.Sums.{working-most}
 
@@ -70,11 +76,155 @@ kept-part w f g p = rw p
 
 -- ---- what `spend` answers of a window
 
-pub took : (lim y last rest : ℕ) {l l′ : List Block} {r r′ : Step} → r ≡ r′ → stepIs r ≡ spend lim y last rest l → l ≡ l′ → stepIs r′ ≡ spend lim y last rest l′
-took lim y last rest p q e = rw (← p, ← e) q
+pub looked : (lim y last rest : ℕ) {l l′ : List Block} {x : Taken} → x ≡ spend (lim * second + 0) y last rest l → l ≡ l′ → x ≡ spend (lim * second) y last rest l′
+looked lim y last rest q e = let h : lim * second + 0 ≡ lim * second = omega arith in rw (← e) (rw h at q)
 
-pub limit-is : (n : ℕ) → n * second + 0 ≡ n * second
-limit-is n = omega arith
+pub took : {r r′ : Step} {x : Taken} → r ≡ r′ → stepIs r ≡ x → stepIs r′ ≡ x
+took p q = rw (← p) q
 
 pub ahead-of : (w : Way) (t : ℕ) (x y end : Span) → Short x → Short y → size end ≡ reach w t → size x ≤ size end → size y ≡ min (size x + week) (size end) → Ahead w t x y
 ahead-of w t x y end h k e i f = record { start = h; end = k; order = omega arith; near = omega arith; short = omega arith }
+
+-- ---- many windows at once
+
+-- what the product of nanoseconds stays below
+pub nanos-fit : (n k : ℕ) → n ≤ 2000000 → k < 1000000000 → n * k ≤ 2000000000000000
+nanos-fit n k h i = let p = mul-le-mul h (below k i) in omega arith
+  where
+    below : (k : ℕ) → k < 1000000000 → k ≤ 1000000000
+    below k i = omega arith
+
+-- as many windows as the seconds left hold, each taken to be a second longer than it is
+pub fits-in : (n ts tn ls ln : ℕ) → n ≡ ls / (ts + 1) → 0 < n → tn < second → n * (ts * second + tn) < ls * second + ln
+fits-in n ts tn ls ln e h k =
+    let p = div-mul-le-self ls (ts + 1) in
+    let q : n * (ts + 1) ≤ ls = rw e p in
+    let r = mul-lt-mul-of-pos-left {m = ts * second + tn} {n = (ts + 1) * second} {k = n} (omega arith) h in
+    let t = mul-assoc n (ts + 1) second in
+    omega arith
+
+and-no : (a b : Bool) → (a && (b && false)) ≡ false
+and-no true true = refl
+and-no true false = refl
+and-no false b = refl
+
+and-none : (a b : Bool) → (a && (false && b)) ≡ false
+and-none true b = refl
+and-none false b = refl
+
+-- what is left is no whole window
+part-left : (x end n : ℕ) → n ≡ (end - x) / week → n ≡ 0 → eqb (min (x + week) end - x) week ≡ false
+part-left x end n e h = ne-eqb (min (x + week) end - x) week (λ f. omega arith)
+
+whole-left : (x end n m : ℕ) → x ≤ end → n ≡ (end - x) / week → m ≤ n → x + m * week ≤ end
+whole-left x end n m h e k = omega arith
+
+module _ {known : Bool} (rep : ℕ → Bool) (x end : ℕ) (h : x ≤ end) where
+  pub reused-fresh : known ≡ false → Reused known rep x end 0
+  reused-fresh e = rw e (record { none = λ q. refl; some = λ q. absurd (omega arith); each = λ i q. absurd (omega arith); inside = omega arith })
+
+  module _ {n : ℕ} (e : n ≡ (end - x) / week) where
+    pub reused-part : n ≡ 0 → Reused known rep x end 0
+    reused-part z = record {
+      none = λ q. rw (part-left x end n e z) (and-none known (rep x));
+      some = λ q. absurd (omega arith);
+      each = λ i q. absurd (omega arith);
+      inside = omega arith;
+    }
+
+    pub reused-run : known ≡ true → (n ≡ 0 → ⊥) → {m r : ℕ} → (m ≡ 0 → rep x ≡ false) → ((i : ℕ) → i < m → rep (x + i * week) ≡ true) → r ≡ min n m → Reused known rep x end r
+    reused-run k z {m} {r} fails each f = record {
+      none = λ q. none (fails (zero-left n m r z f q));
+      some = λ q. k;
+      each = λ i q. each i (omega arith);
+      inside = whole-left x end n r h e (omega arith);
+    }
+      where
+        none : rep x ≡ false → (known && (eqb (min (x + week) end - x) week && rep x)) ≡ false
+        none q = rw q (and-no known (eqb (min (x + week) end - x) week))
+
+        zero-left : (n m r : ℕ) → (n ≡ 0 → ⊥) → r ≡ min n m → r ≡ 0 → m ≡ 0
+        zero-left n m r z f q = omega (arith, z)
+
+-- the border at the distance y further
+pub beyond-at : (w : Bool) (t x y : ℕ) → beyond w (at (wayOf w) t x) y ≡ at (wayOf w) t (x + y)
+beyond-at true t x y = omega arith
+beyond-at false t x y = omega arith
+
+may-not : (b : Bool) (t g left : ℕ) (test : Bool) → (b ≡ false) ⊎ ((ltb t left ≡ false) ⊎ (test ≡ false)) → maySkip (keep b t g) left test ≡ false
+may-not b t g left test (inl e) = rw e
+may-not true t g left test (inr (inl e)) = rw e
+may-not false t g left test (inr (inl e)) = refl
+may-not true t g left test (inr (inr e)) = rw e (only (ltb t left))
+  where
+    only : (a : Bool) → (a && false) ≡ false
+    only true = refl
+    only false = refl
+may-not false t g left test (inr (inr e)) = refl
+
+module _ (k : Kept) (left : ℕ) (rep : ℕ → Bool) (x end : ℕ) (h : x ≤ end) where
+  no-skip : (k .known ≡ false) ⊎ ((ltb (size (k .time)) left ≡ false) ⊎ ((eqb (min (x + week) end - x) week && rep x) ≡ false)) → Skipped k left rep x end 0
+  no-skip w = record {
+    none = λ q. may-not (k .known) (size (k .time)) (size (k .edge)) left (eqb (min (x + week) end - x) week && rep x) w;
+    some = λ q. absurd (omega arith);
+    less = λ q. absurd (omega arith);
+    each = λ i q. absurd (omega arith);
+    inside = omega arith;
+  }
+
+  pub skipped-fresh : k .known ≡ false → Skipped k left rep x end 0
+  skipped-fresh e = no-skip (inl e)
+
+  pub skipped-full : left ≤ size (k .time) → Skipped k left rep x end 0
+  skipped-full e = no-skip (inr (inl (le-ltb (size (k .time)) left e)))
+
+  module _ {n : ℕ} (e : n ≡ (end - x) / week) where
+    pub skipped-part : n ≡ 0 → Skipped k left rep x end 0
+    skipped-part z = no-skip (inr (inr (rw (part-left x end n e z))))
+
+    pub skipped-run : k .known ≡ true → (n ≡ 0 → ⊥) → {f : ℕ} → (f ≡ 0 → ⊥) → (0 < f → f * size (k .time) < left) → {m p r : ℕ} → (m ≡ 0 → rep x ≡ false) → ((i : ℕ) → i < m → rep (x + i * week) ≡ true)
+        → p ≡ min f n → r ≡ min p m → Skipped k left rep x end r
+    skipped-run w z {f} y less {m} {p} {r} fails each ep er = record {
+      none = λ q. may-not (k .known) (size (k .time)) (size (k .edge)) left (eqb (min (x + week) end - x) week && rep x) (inr (inr (none (fails (zero-left f n p m r z y ep er q)))));
+      some = λ q. w;
+      less = λ q. fewer f r (size (k .time)) (fit ep er) (less (some f y));
+      each = λ i q. each i (under er q);
+      inside = whole-left x end n r h e (few ep er);
+    }
+      where
+        none : rep x ≡ false → (eqb (min (x + week) end - x) week && rep x) ≡ false
+        none q = rw q (only (eqb (min (x + week) end - x) week))
+          where
+            only : (a : Bool) → (a && false) ≡ false
+            only true = refl
+            only false = refl
+
+        some : (f : ℕ) → (f ≡ 0 → ⊥) → 0 < f
+        some f y = omega (arith, y)
+
+        zero-left : (f n p m r : ℕ) → (n ≡ 0 → ⊥) → (f ≡ 0 → ⊥) → p ≡ min f n → r ≡ min p m → r ≡ 0 → m ≡ 0
+        zero-left f n p m r z y a b q = let i = some f y in let j = some n z in least f n p m r i j a b q
+          where
+            least : (f n p m r : ℕ) → 0 < f → 0 < n → p ≡ min f n → r ≡ min p m → r ≡ 0 → m ≡ 0
+            least f n p m r i j a b q = omega arith
+
+        fit : p ≡ min f n → r ≡ min p m → r ≤ f
+        fit a b = omega arith
+
+        few : p ≡ min f n → r ≡ min p m → r ≤ n
+        few a b = omega arith
+
+        under : {i : ℕ} → r ≡ min p m → i < r → i < m
+        under b q = omega arith
+
+        fewer : (f r t : ℕ) → r ≤ f → f * t < left → r * t < left
+        fewer f r t a b = let q = mul-le-mul-right t a in omega arith
+
+-- the borders from an instant on, as distances
+pub skipped-from : (s : Schedule) (w : Bool) (t x p : ℕ) {m : ℕ} → p ≡ at (wayOf w) t x → Calm w s p m
+    → (m ≡ 0 → repeats s (at (wayOf w) t x) ≡ false) × ((i : ℕ) → i < m → repeats s (at (wayOf w) t (x + i * week)) ≡ true)
+skipped-from s w t x p e c =
+    (λ z. sym (ap (repeats s) e) ∙ c .none z, λ i q. sym (ap (repeats s) (ap (λ v. beyond w v (i * week)) e ∙ beyond-at w t x (i * week))) ∙ c .each i q)
+
+pub some-of : (n : ℕ) → (n ≡ 0 → ⊥) → 0 < n
+some-of n h = omega (arith, h)

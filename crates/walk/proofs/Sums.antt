@@ -1,26 +1,25 @@
 -- The loop of `between_walk`: its invariant, and that a turn keeps it. Assumes nothing.
 use mathlib.Core.Path.{_≡_, refl, sym, _∙_, ap}
 use mathlib.Core.Bool.{Bool, true, false, _&&_}
-use mathlib.Core.Option.{Option, none, some}
-use mathlib.Core.List.{List, [], _∷_}
+use mathlib.Core.Option.{none, some}
 use Prim.Native.Nat.{ℕ, zero, suc, _+_, _*_, _-_, _≤_, _<_, min}
+use native.Mathlib.Nat.{mul-le-mul-left}
 use native.Mathlib.Omega.{arith}
-use lib.Dec.{eqb, ltb}
-use borrow.Author.Tests.{eqb-true, ltb-true, ltb-false}
+use lib.Dec.{eqb}
 use Rattle.model.specs.Basic.{given}
 use Rattle.model.specs.Instant.{week}
-use Rattle.model.specs.Blocks.{Block, total}
+use Rattle.model.specs.Blocks.{total}
 use Rattle.model.specs.Working.{Schedule, working}
-use Rattle.model.specs.Walk.{begun, timeBetween}
+use Rattle.model.specs.Walk.{timeBetween}
 use Rattle.model.specs.Skip.{repeats, neededBetween}
-use Rattle.laws_base.specs.Test.{and-both, clash}
 use Rattle.laws_blocks.specs.Count.{span, cnt, bit}
 use Rattle.laws_blocks.specs.Totals.{lists-total}
 use Rattle.laws_blocks.specs.Members.{covers}
 use Rattle.laws_skip.specs.Skips.{Summed, summed, mayReuse}
-use Rattle.laws_skip.specs.Loops.{timeRest, plus, time-done, time-start, time-resolves, time-reuses}
+use Rattle.laws_skip.specs.Loops.{timeRest, plus, time-done, time-start, time-resolves, time-run}
 use Rattle.laws_skip.specs.Schedules.{working-lists, between-skipping, between-exact}
 use Rattle.laws_skip.specs.Books.{BuiltWell}
+use Rattle.walk.specs.Walks.{Reused}
 
 -- ---- the time of a window is no more than its length
 
@@ -72,38 +71,38 @@ reuse-test : (known : Bool) (k : ℕ) (test : Bool) → mayReuse (given known k)
 reuse-test true k test = refl
 reuse-test false k test = refl
 
-module _ (s : Schedule) (a b lo sum windows : ℕ) (known : Bool) (kept : ℕ) (m : Adding s a b lo sum windows known kept) (h : lo < b) (hi : ℕ) (e : hi ≡ min (lo + week) b)
-    {test : Bool} (t : test ≡ (known && (eqb (hi - lo) week && repeats s lo))) where
-  -- a window that is skipped
-  pub adding-reuses : test ≡ true → (sum′ : ℕ) → sum′ ≡ sum + kept → Adding s a b hi sum′ windows known kept
-  adding-reuses q sum′ f =
-      let p = and-both known (eqb (hi - lo) week && repeats s lo) (sym t ∙ q) in
-      let r = and-both (eqb (hi - lo) week) (repeats s lo) (p .1) in
-      let w = eqb-true (hi - lo) week (r .0) in
-      let g : hi ≡ lo + week = omega arith in
-      let i = m .from in let j = m .upto in let x = m .part in let y = m .small in let n = m .few h in
+-- windows that are skipped
+module _ (s : Schedule) (a b lo sum windows : ℕ) (known : Bool) (kept : ℕ) (m : Adding s a b lo sum windows known kept) (n : ℕ) (k : Reused known (repeats s) lo b n) (j : 0 < n) where
+  -- their time is no more than their length
+  pub run-most : n * kept ≤ n * week
+  run-most = mul-le-mul-left n (m .small)
+
+  pub adding-reuses : (hi sum′ : ℕ) → hi ≡ lo + n * week → sum′ ≡ sum + n * kept → Adding s a b hi sum′ windows known kept
+  adding-reuses hi sum′ e f =
+      let i = m .from in let x = m .part in let y = run-most in let r = k .inside in let w = m .few (omega arith) in
       record {
         from = omega arith;
         upto = omega arith;
         part = omega arith;
-        small = y;
+        small = m .small;
         few = λ u. omega arith;
-        same = rw (f, g) (moved (p .0) (r .1) g);
+        same = rw (e, f) (moved (k .some j));
       }
     where
-      moved : known ≡ true → repeats s lo ≡ true → hi ≡ lo + week
-          → plus (sum + kept) windows (timeRest (working s) (repeats s) (lo + week) b (given known kept)) ≡ timeRest (working s) (repeats s) a b none
-      moved k r g =
+      moved : known ≡ true → plus (sum + n * kept) windows (timeRest (working s) (repeats s) (lo + n * week) b (given known kept)) ≡ timeRest (working s) (repeats s) a b none
+      moved q =
           let c : windows + 0 ≡ windows = omega arith in
-          let old : plus sum windows (timeRest (working s) (repeats s) lo b (some kept)) ≡ timeRest (working s) (repeats s) a b none = rw k at (m .same) in
-          let one = time-reuses (working s) (repeats s) lo b kept (omega arith) r in
-          let two = plus-plus sum windows kept 0 (timeRest (working s) (repeats s) (lo + week) b (some kept)) in
-          rw k ((rw c at (sym two)) ∙ ap (plus sum windows) (sym one) ∙ old)
+          let old : plus sum windows (timeRest (working s) (repeats s) lo b (some kept)) ≡ timeRest (working s) (repeats s) a b none = rw q at (m .same) in
+          let one = time-run (working s) (repeats s) n lo b kept (k .inside) (k .each) in
+          let two = plus-plus sum windows (n * kept) 0 (timeRest (working s) (repeats s) (lo + n * week) b (some kept)) in
+          rw q ((rw c at (sym two)) ∙ ap (plus sum windows) (sym one) ∙ old)
 
+module _ (s : Schedule) (a b lo sum windows : ℕ) (known : Bool) (kept : ℕ) (m : Adding s a b lo sum windows known kept) (h : lo < b) (hi : ℕ) (e : hi ≡ min (lo + week) b)
+    (t : (known && (eqb (min (lo + week) b - lo) week && repeats s lo)) ≡ false) where
   -- one that is resolved
-  pub adding-resolves : test ≡ false → (sum′ now : ℕ) → now ≡ total (working s lo hi) → sum′ ≡ sum + now → {whole : Bool} → whole ≡ eqb (hi - lo) week
+  pub adding-resolves : (sum′ now : ℕ) → now ≡ total (working s lo hi) → sum′ ≡ sum + now → {whole : Bool} → whole ≡ eqb (hi - lo) week
       → Adding s a b hi sum′ (windows + 1) whole now
-  adding-resolves q sum′ now u f {whole = whole} v =
+  adding-resolves sum′ now u f {whole = whole} v =
       let i = m .from in let j = m .upto in let x = m .part in let y = m .small in let n = m .few h in
       let k = working-most s lo hi (omega arith) in
       record {
@@ -119,7 +118,7 @@ module _ (s : Schedule) (a b lo sum windows : ℕ) (known : Bool) (kept : ℕ) (
           → plus (sum + total (working s lo hi)) (windows + 1) (timeRest (working s) (repeats s) hi b (given (eqb (hi - lo) week) (total (working s lo hi)))) ≡ timeRest (working s) (repeats s) a b none
       moved g =
           let no : mayReuse (given known kept) (eqb (min (lo + week) b - lo) week && repeats s lo) ≡ false
-          = reuse-test known kept (eqb (min (lo + week) b - lo) week && repeats s lo) ∙ (rw g at (sym t ∙ q)) in
+          = reuse-test known kept (eqb (min (lo + week) b - lo) week && repeats s lo) ∙ t in
           let one = time-resolves (working s) (repeats s) lo b (given known kept) h no in
           rw g
           (sym (plus-plus sum windows (total (working s lo (min (lo + week) b))) 1

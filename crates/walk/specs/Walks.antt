@@ -1,14 +1,14 @@
 -- What the values of the walks mean.
 use mathlib.Core.Path.{_≡_}
-use mathlib.Core.Bool.{Bool}
-use mathlib.Core.List.{List}
-use Prim.Native.Nat.{ℕ, _+_, _≤_, _<_}
+use mathlib.Core.Bool.{Bool, true, false, _&&_}
+use Prim.Native.Nat.{ℕ, _+_, _*_, _-_, _≤_, _<_, min}
+use lib.Dec.{eqb}
 use Rattle.model.specs.Answer.{Answer, gives, refuses}
 use Rattle.model.specs.Instant.{week}
 use Rattle.model.specs.Walk.{Way, reach, search}
 use Rattle.model.specs.Working as model
 use Rattle.model.specs.Skip.{neededSearch}
-use Rattle.laws_skip.specs.Skips.{Kept as Kept′, keep}
+use Rattle.laws_skip.specs.Skips.{Kept as Kept′, keep, maySkip}
 use Rattle.instant.specs.Instant.{nanos}
 use Rattle.instant.specs.declared.Instant.{Instant}
 use Rattle.blocks.specs.Counted.{size}
@@ -36,6 +36,21 @@ keptIs k = keep (k .known) (size (k .time)) (size (k .edge))
 pub record KeptExact (k : Kept) : Type 0 where
   pub time : k .time .ns < 1000000000
   pub edge : k .edge .ns < 1000000000
+
+-- n windows from x on have the time of the one before them, if that is known; and there is none only if the first has not
+pub record Reused (known : Bool) (rep : ℕ → Bool) (x end n : ℕ) : Type 0 where
+  pub none : n ≡ 0 → (known && (eqb (min (x + week) end - x) week && rep x)) ≡ false
+  pub some : 0 < n → known ≡ true
+  pub each : (i : ℕ) → i < n → rep (x + i * week) ≡ true
+  pub inside : x + n * week ≤ end
+
+-- n windows from the distance x on may be skipped in a search; and there is none only if the first may not
+pub record Skipped (k : Kept) (left : ℕ) (rep : ℕ → Bool) (x end n : ℕ) : Type 0 where
+  pub none : n ≡ 0 → maySkip (keptIs k) left (eqb (min (x + week) end - x) week && rep x) ≡ false
+  pub some : 0 < n → k .known ≡ true
+  pub less : 0 < n → n * size (k .time) < left
+  pub each : (i : ℕ) → i < n → rep (x + i * week) ≡ true
+  pub inside : x + n * week ≤ end
 
 -- the answer of a search
 abbrev pub reachedIs : Reached → Answer ℕ

@@ -1,32 +1,24 @@
-// The walk over windows of seven days, for the working time between two instants and for a search on from an instant or back from it. A window that
-// repeats the one before it is skipped. Each answer has the number of windows that were resolved.
+// The walk over windows of seven days, for the working time between two instants and for a search on from an instant or back from it. Windows that
+// repeat the one before them are skipped, many in one step. Each answer has the number of windows that were resolved.
 ghost use mathlib.Core.Path.{_≡_};
 ghost use mathlib.Core.Bool.{_&&_};
-ghost use mathlib.Core.List.{List, map};
-ghost use Prim.Native.Nat.{ℕ, _+_, _*_, _-_, _≤_, _<_, min};
+ghost use Prim.Native.Nat.{ℕ, _+_, _*_, _-_, _/_, _≤_, _<_, min};
 ghost use lib.Dec.{ltb, eqb};
-ghost use lib.ListN.{length, take};
 ghost use Rattle.instant.specs.Instant.{nanos};
-ghost use Rattle.model.specs.Basic.{any, all, isIn};
-ghost use Rattle.model.specs.Instant.{week};
-ghost use Rattle.model.specs.Skip.{ruleSteady, noneNear, neededBetween};
+ghost use Rattle.model.specs.Instant.{second, week};
+ghost use Rattle.model.specs.Skip.{neededBetween};
 ghost use Rattle.model.specs.Skip as model;
 ghost use Rattle.model.specs.Walk.{timeBetween, search, ahead};
 ghost use Rattle.model.specs.Walk as way;
-ghost use Rattle.model.specs.Working.{working};
-ghost use Rattle.laws_skip.specs.Skips.{maySkip};
 ghost use Rattle.laws_skip.specs.Skips as skips;
 ghost use Rattle.blocks.specs.Counted.{listOf, size, most};
-ghost use Rattle.book.specs.Meaning.{datesAt};
-ghost use Rattle.rules.specs.Rules.{ruleIs, holidaysIs, scheduleIs, RuleFits, ClosedFits, ScheduleFits, All};
+ghost use Rattle.rules.specs.Rules.{scheduleIs, ScheduleFits};
 ghost use Rattle.dates.specs.Dates.{InRange};
-ghost use Rattle.spend.specs.Spending.{wayOf, apart, Below};
-ghost use Rattle.walk.specs.Walks.{Ahead, Short, Stretch, keptIs, KeptExact, reachedIs, Counts};
+ghost use Rattle.spend.specs.Spending.{wayOf, apart, stepIs, Exact, Below};
+ghost use Rattle.walk.specs.Walks.{Ahead, Short, Stretch, keptIs, KeptExact, Reused, Skipped, reachedIs, Counts};
 use blocks::Blocks;
 use blocks::Span;
 use instant::Instant;
-use rules::Closed;
-use rules::Rule;
 use rules::Schedule;
 use spend::Step;
 
@@ -42,103 +34,6 @@ pub enum Reached {
     At(Span, u64),
     NoWork,
     OutOfRange,
-}
-
-// Does one of the n dates that stand at p lie among the days from first to last?
-fn has_day_in(book: &[u8], p: usize, n: usize, first: u32, last: u32) -> bool
-    requires { ⌜ p + 4 * n ≤ length (now book) ⌝ }
-    ensures { λ r. ⌜ r ≡ any (isIn first last) (datesAt (now (book .entry)) p n) ⌝ }
-{
-    let mut at = p;
-    let mut left = n;
-    while 0 < left {
-        let d = book::date_at(book, at);
-        at += 4;
-        left -= 1;
-        if first <= d {
-            if d <= last {
-                return true;
-            }
-        }
-    }
-    false
-}
-
-// Does every one of the first n rules keep its offset from a to b?
-fn all_steady(pack: &[u8], rules: [Rule; 16], n: usize, a: Instant, b: Instant) -> bool
-    requires { ⌜ (n ≤ 16) × All (RuleFits (now pack)) (take n rules) × InRange a × InRange b ⌝ }
-    ensures { λ r. ⌜ r ≡ all (ruleSteady (nanos a) (nanos b)) (map (ruleIs (now (pack .entry))) (take n rules)) ⌝ }
-{
-    let mut i = 0;
-    while i < n {
-        let r = rules[i];
-        let z = r.zone;
-        let f = be::part(pack, r.at, r.len);
-        i += 1;
-        if !zone::steady(f, z, a.sec, b.sec) {
-            return false;
-        }
-    }
-    true
-}
-
-// Has none of the first n holiday records a date among the local dates from a to b?
-fn none_near(
-    book: &[u8],
-    pack: &[u8],
-    closed: [Closed; 8],
-    n: usize,
-    a: Instant,
-    b: Instant,
-) -> bool
-    requires { ⌜ (n ≤ 8) × All (ClosedFits (now book) (now pack)) (take n closed) × InRange a × InRange b ⌝ }
-    ensures { λ r. ⌜ r ≡ all (noneNear (nanos a) (nanos b)) (map (holidaysIs (now (book .entry)) (now (pack .entry))) (take n closed)) ⌝ }
-{
-    let mut i = 0;
-    while i < n {
-        let h = closed[i];
-        let z = h.zone;
-        let f = be::part(pack, h.at, h.len);
-        let first = dates::first_date(f, z, a);
-        let last = dates::last_date(f, z, b);
-        i += 1;
-        if has_day_in(book, h.dates, h.count, first, last) {
-            return false;
-        }
-    }
-    true
-}
-
-// Do the two windows at the border t hold the same, a week apart? So they do where no offset changes and no holiday lies in the eleven days on
-// each side of it.
-pub fn repeats(book: &[u8], pack: &[u8], s: Schedule, t: Instant) -> bool
-    requires { ⌜ ScheduleFits (now book) (now pack) s × InRange t ⌝ }
-    ensures { λ r. ⌜ r ≡ model.repeats (scheduleIs (now (book .entry)) (now (pack .entry)) s) (nanos t) ⌝ }
-{
-    if t.sec < 12655447199 {
-        return false;
-    }
-    if 643760776800 < t.sec {
-        return false;
-    }
-    let a = Instant {
-        sec: t.sec - 950400,
-        ns: t.ns,
-    };
-    let b = Instant {
-        sec: t.sec + 950400,
-        ns: t.ns,
-    };
-    let work = s.work;
-    if !all_steady(pack, work, s.works, a, b) {
-        return false;
-    }
-    let breaks = s.breaks;
-    if !all_steady(pack, breaks, s.pauses, a, b) {
-        return false;
-    }
-    let closed = s.closed;
-    none_near(book, pack, closed, s.closings, a, b)
 }
 
 // ---- windows
@@ -211,18 +106,91 @@ fn is_whole(lo: Instant, hi: Instant) -> bool
     is_week(x, y)
 }
 
-// The window from lo to hi has the time of the one before it, which is known.
-fn reuses(book: &[u8], pack: &[u8], s: Schedule, known: bool, lo: Instant, hi: Instant) -> bool
-    requires { ⌜ ScheduleFits (now book) (now pack) s × InRange lo × InRange hi ⌝ }
-    ensures { λ r. ⌜ r ≡ (known && (eqb (nanos hi - nanos lo) week && model.repeats (scheduleIs (now (book .entry)) (now (pack .entry)) s) (nanos lo))) ⌝ }
+// ---- many windows at once
+
+fn least(a: u64, b: u64) -> u64
+    ensures { λ r. ⌜ r ≡ min a b ⌝ }
+{
+    if a < b {
+        return a;
+    }
+    b
+}
+
+// How many whole windows lie from x to `end`.
+fn weeks(x: Span, end: Span) -> u64
+    requires { ⌜ Short x × Short end × (size x ≤ size end) ⌝ }
+    ensures { λ r. ⌜ r ≡ (size end - size x) / week ⌝ }
+{
+    let d = spend::minus(end, x);
+    d.sec / 604800
+}
+
+// n times x.
+fn times(x: Span, n: u64) -> Span
+    requires { ⌜ (x .ns < 1000000000) × (n ≤ 2000000) × (n * size x < most) ⌝ }
+    ensures { λ r. ⌜ (size r ≡ n * size x) × (r .ns < 1000000000) ⌝ }
+{
+    let ns = n * x.ns as u64;
+    Span {
+        sec: n * x.sec + ns / 1000000000,
+        ns: (ns % 1000000000) as u32,
+    }
+}
+
+// n weeks further than x.
+fn weeks_on(x: Span, n: u64) -> Span
+    requires { ⌜ (n ≤ 2000000) × (size x < most) ⌝ }
+    ensures { λ r. ⌜ (size r ≡ size x + n * week) × (r .ns ≡ x .ns) ⌝ }
+{
+    Span {
+        sec: x.sec + n * 604800,
+        ns: x.ns,
+    }
+}
+
+// n weeks after lo, at or before b.
+fn weeks_after(lo: Instant, n: u64, b: Instant) -> Instant
+    requires { ⌜ InRange lo × InRange b × (nanos lo + n * week ≤ nanos b) ⌝ }
+    ensures { λ r. ⌜ (nanos r ≡ nanos lo + n * week) × InRange r ⌝ }
+{
+    Instant {
+        sec: lo.sec + n * 604800,
+        ns: lo.ns,
+    }
+}
+
+// How many windows from lo on have the time of the one before them, if that is known: none only if the first has not.
+fn repeated(book: &[u8], pack: &[u8], s: Schedule, known: bool, lo: Instant, b: Instant) -> u64
+    requires { ⌜ ScheduleFits (now book) (now pack) s × Stretch lo b ⌝ }
+    ensures { λ r. ⌜ Reused known (model.repeats (scheduleIs (now (book .entry)) (now (pack .entry)) s)) (nanos lo) (nanos b) r ⌝ }
 {
     if !known {
-        return false;
+        return 0;
     }
-    if !is_whole(lo, hi) {
-        return false;
+    let x = Span {
+        sec: lo.sec,
+        ns: lo.ns,
+    };
+    let end = Span {
+        sec: b.sec,
+        ns: b.ns,
+    };
+    let n = weeks(x, end);
+    if n == 0 {
+        return 0;
     }
-    repeats(book, pack, s, lo)
+    least(n, calm::borders(book, pack, s, lo, false))
+}
+
+// A number of nanoseconds as seconds and nanoseconds.
+fn spanned(n: u64) -> Span
+    ensures { λ r. ⌜ (size r ≡ n) × (r .ns < 1000000000) ⌝ }
+{
+    Span {
+        sec: n / 1000000000,
+        ns: (n % 1000000000) as u32,
+    }
 }
 
 // The working time from a to b, and how many windows were resolved for it.
@@ -234,19 +202,19 @@ pub fn between_walk(book: &[u8], pack: &[u8], s: Schedule, a: Instant, b: Instan
     let mut sum = Span { sec: 0, ns: 0 };
     let mut kept = Span { sec: 0, ns: 0 };
     let mut known = false;
-    let mut windows = 0;
+    let mut windows: u64 = 0;
     while instant::precedes(lo, b) {
-        let hi = window_end(lo, b);
-        if reuses(book, pack, s, known, lo, hi) {
-            sum = blocks::added(sum, kept);
-            lo = hi;
-        } else {
-            let w = engine::working_time(book, pack, s, lo, hi);
-            kept = blocks::total(w);
+        let n = repeated(book, pack, s, known, lo, b);
+        if n == 0 {
+            let hi = window_end(lo, b);
+            kept = spanned(week::week_time(book, pack, s, lo, hi));
             known = is_whole(lo, hi);
             sum = blocks::added(sum, kept);
             windows += 1;
             lo = hi;
+        } else {
+            sum = blocks::added(sum, times(kept, n));
+            lo = weeks_after(lo, n, b);
         }
     }
     Summed { time: sum, windows }
@@ -255,7 +223,7 @@ pub fn between_walk(book: &[u8], pack: &[u8], s: Schedule, a: Instant, b: Instan
 // ---- a search
 
 // The instant at the distance x from t.
-fn at(t: Instant, back: bool, x: Span) -> Instant
+pub fn at(t: Instant, back: bool, x: Span) -> Instant
     requires { ⌜ InRange t × Short x × (size x ≤ way.reach (wayOf back) (nanos t)) ⌝ }
     ensures { λ r. ⌜ (nanos r ≡ way.at (wayOf back) (nanos t) (size x)) × InRange r ⌝ }
 {
@@ -312,12 +280,28 @@ fn window(book: &[u8], pack: &[u8], s: Schedule, t: Instant, back: bool, x: Span
     let near = at(t, back, x);
     let far = at(t, back, y);
     if back {
-        return engine::working_time(book, pack, s, far, near);
+        return listed::window_blocks(book, pack, s, far, near);
     }
-    engine::working_time(book, pack, s, near, far)
+    listed::window_blocks(book, pack, s, near, far)
 }
 
-// The window from x to y is as the one before it, of which k is kept, and takes less than what is left to find.
+// How many windows of this time may be taken off what is left and leave some: none only if not even one. There may be more.
+fn fitting(time: Span, left: Span) -> u64
+    requires { ⌜ (time .ns < 1000000000) × (size left < most) ⌝ }
+    ensures { λ r. ⌜ (r ≡ 0 → size left ≤ size time) × (0 < r → r * size time < size left) ⌝ }
+{
+    if !spend::less(time, left) {
+        return 0;
+    }
+    let n = left.sec / (time.sec + 1);
+    if n == 0 {
+        return 1;
+    }
+    n
+}
+
+// How many windows from the distance x on are as the one before them, of which k is kept, and take less than what is left to find: none only if
+// the first is not, or takes as much.
 fn skips(
     book: &[u8],
     pack: &[u8],
@@ -327,28 +311,31 @@ fn skips(
     k: Kept,
     left: Span,
     x: Span,
-    y: Span,
-) -> bool
-    requires { ⌜ ScheduleFits (now book) (now pack) s × InRange t × Ahead (wayOf back) (nanos t) x y ⌝ }
-    ensures { λ r. ⌜ r ≡ maySkip (keptIs k) (size left) (eqb (size y - size x) week && model.repeats (scheduleIs (now (book .entry)) (now (pack .entry)) s) (way.at (wayOf back) (nanos t) (size x))) ⌝ }
+    end: Span,
+) -> u64
+    requires { ⌜ ScheduleFits (now book) (now pack) s × InRange t × Short x × Short end × (size x ≤ size end) × (size end ≤ way.reach (wayOf back) (nanos t)) × KeptExact k × (size left < most) ⌝ }
+    ensures { λ r. ⌜ Skipped k (size left) (λ y. model.repeats (scheduleIs (now (book .entry)) (now (pack .entry)) s) (way.at (wayOf back) (nanos t) y)) (size x) (size end) r ⌝ }
 {
     if !k.known {
-        return false;
+        return 0;
     }
     let time = k.time;
-    if !spend::less(time, left) {
-        return false;
+    let n = fitting(time, left);
+    if n == 0 {
+        return 0;
     }
-    if !is_week(x, y) {
-        return false;
+    let m = weeks(x, end);
+    if m == 0 {
+        return 0;
     }
-    repeats(book, pack, s, at(t, back, x))
+    let p = at(t, back, x);
+    least(least(n, m), calm::borders(book, pack, s, p, back))
 }
 
 // What is kept of the window from x to y, where `left` was to find before it, and `rest` after it, and work last ended at m.
 fn keep(x: Span, y: Span, left: Span, rest: Span, m: Span) -> Kept
     requires { ⌜ Short x × Short y × (size left < most) ⌝ }
-    ensures { λ r. ⌜ (keptIs r ≡ skips.keep (eqb (size y - size x) week && ltb 0 (size left - size rest)) (size left - size rest) (size y - size m)) × KeptExact r ⌝ }
+    ensures { λ r. ⌜ (keptIs r ≡ skips.keep (eqb (size y - size x) week && ltb 0 (size left - size rest)) (size left - size rest) (size y - size m)) × KeptExact r × (size (r .edge) ≡ size y - size m) ⌝ }
 {
     let time = spend::minus(left, rest);
     let edge = spend::minus(y, m);
@@ -357,6 +344,78 @@ fn keep(x: Span, y: Span, left: Span, rest: Span, m: Span) -> Kept
         known = spend::less(Span { sec: 0, ns: 0 }, time);
     }
     Kept { known, time, edge }
+}
+
+// What the window from x to y leaves, where `left` is to find and work last ended at `last`.
+fn look(
+    book: &[u8],
+    pack: &[u8],
+    s: Schedule,
+    t: Instant,
+    back: bool,
+    x: Span,
+    y: Span,
+    last: Span,
+    left: Span,
+) -> Step
+    requires { ⌜ ScheduleFits (now book) (now pack) s × InRange t × Ahead (wayOf back) (nanos t) x y × (last .ns < 1000000000) × (size left < most) × (left .ns < 1000000000) ⌝ }
+    ensures { λ r. ⌜ (stepIs r ≡ way.spend (s .limit * second) (size y) (size last) (size left) (ahead (wayOf back) (scheduleIs (now (book .entry)) (now (pack .entry)) s) (nanos t) (size x) (size y))) × Exact r ⌝ }
+{
+    let w = window(book, pack, s, t, back, x, y);
+    let limit = Span {
+        sec: s.limit,
+        ns: 0,
+    };
+    spend::spend(w, back, t, limit, y, last, left)
+}
+
+// The distance from t at which d of working time is spent, d not zero; `end` is the distance of the range's end.
+fn seek(
+    book: &[u8],
+    pack: &[u8],
+    s: Schedule,
+    t: Instant,
+    back: bool,
+    end: Span,
+    d: Span,
+) -> Reached
+    requires { ⌜ ScheduleFits (now book) (now pack) s × InRange t × (size end ≡ way.reach (wayOf back) (nanos t)) × Short end × (0 < size d) × (size d < most) × (d .ns < 1000000000) ⌝ }
+    ensures { λ r. ⌜ (reachedIs r ≡ search (wayOf back) (scheduleIs (now (book .entry)) (now (pack .entry)) s) (nanos t) (size d)) × Counts (wayOf back) (scheduleIs (now (book .entry)) (now (pack .entry)) s) (nanos t) (size d) r ⌝ }
+{
+    let zero = Span { sec: 0, ns: 0 };
+    let mut x = zero;
+    let mut last = zero;
+    let mut left = d;
+    let mut kept = Kept {
+        known: false,
+        time: zero,
+        edge: zero,
+    };
+    let mut resolved: u64 = 0;
+    while spend::less(x, end) {
+        let n = skips(book, pack, s, t, back, kept, left, x, end);
+        if n == 0 {
+            let y = week_on(x, end);
+            let step = look(book, pack, s, t, back, x, y, last, left);
+            resolved += 1;
+            match step {
+                Step::Found(z) => return Reached::At(z, resolved),
+                Step::Gap => return Reached::NoWork,
+                Step::Left(rest, m) => {
+                    kept = keep(x, y, left, rest, m);
+                    left = rest;
+                    last = m;
+                    x = y;
+                },
+            }
+        } else {
+            let time = kept.time;
+            left = spend::minus(left, times(time, n));
+            last = weeks_on(last, n);
+            x = weeks_on(x, n);
+        }
+    }
+    Reached::OutOfRange
 }
 
 // The distance from t at which d of working time is spent.
@@ -376,42 +435,5 @@ pub fn search_walk(
         return Reached::At(zero, 0);
     }
     let end = reach(t, back);
-    let limit = Span {
-        sec: s.limit,
-        ns: 0,
-    };
-    let mut x = zero;
-    let mut last = zero;
-    let mut left = d;
-    let mut kept = Kept {
-        known: false,
-        time: zero,
-        edge: zero,
-    };
-    let mut windows = 0;
-    while spend::less(x, end) {
-        let y = week_on(x, end);
-        if skips(book, pack, s, t, back, kept, left, x, y) {
-            let time = kept.time;
-            let edge = kept.edge;
-            left = spend::minus(left, time);
-            last = spend::minus(y, edge);
-            x = y;
-        } else {
-            let w = window(book, pack, s, t, back, x, y);
-            windows += 1;
-            let step = spend::spend(w, back, t, limit, y, last, left);
-            match step {
-                Step::Found(z) => return Reached::At(z, windows),
-                Step::Gap => return Reached::NoWork,
-                Step::Left(rest, m) => {
-                    kept = keep(x, y, left, rest, m);
-                    left = rest;
-                    last = m;
-                    x = y;
-                },
-            }
-        }
-    }
-    Reached::OutOfRange
+    seek(book, pack, s, t, back, end, d)
 }

@@ -1,6 +1,6 @@
 -- `walk::keep` meets its contract: by its test. Assumes nothing.
 use Rattle.walk.proofs.Steps.{kept-whole, kept-part}
-use mathlib.Core.Path.{refl, sym, _∙_, ap}
+use mathlib.Core.Path.{sym, _∙_}
 use borrow.Author.Needs.{needs}
 use Rattle.walk.proofs.keep.Statement.{statement}
 use Rattle.walk.proofs.keep.Tie as tie
@@ -18,10 +18,10 @@ less-requires : tie.Need-less-requires
 less-requires c κs = search needs
 
 returns : tie.Need-returns
-returns c = (kept-whole _ _ _ _ _ _ (sym (c .before .before .is-week .ensures) ∙ (c .before .if1 .taken)) (c .less .ensures) (c .before .before .before .before .minus .ensures .0) (c .before .before .before .minus2 .ensures .0), record { time = (c .before .before .before .before .minus .ensures .1); edge = (c .before .before .before .minus2 .ensures .1) })
+returns c = (kept-whole _ _ _ _ _ _ (sym (c .before .before .is-week .ensures) ∙ (c .before .if1 .taken)) (c .less .ensures) (c .before .before .before .before .minus .ensures .0) (c .before .before .before .minus2 .ensures .0), record { time = (c .before .before .before .before .minus .ensures .1); edge = (c .before .before .before .minus2 .ensures .1) }, (c .before .before .before .minus2 .ensures .0))
 
 returns-2 : tie.Need-returns-2
-returns-2 c = (kept-part _ (c .before .before .before .minus .ensures .0) (c .before .before .minus2 .ensures .0) (sym (c .before .is-week .ensures) ∙ (c .if1 .left)), record { time = (c .before .before .before .minus .ensures .1); edge = (c .before .before .minus2 .ensures .1) })
+returns-2 c = (kept-part _ (c .before .before .before .minus .ensures .0) (c .before .before .minus2 .ensures .0) (sym (c .before .is-week .ensures) ∙ (c .if1 .left)), record { time = (c .before .before .before .minus .ensures .1); edge = (c .before .before .minus2 .ensures .1) }, (c .before .before .minus2 .ensures .0))
 
 pub keep-spec : {M : Type 1} → statement M
 keep-spec =

@@ -1,44 +1,53 @@
 -- `walk::skips` meets its contract: by its tests, in order. Assumes nothing.
-use Rattle.model.specs.Skip.{repeats}
-use borrow.Author.Tests.{ltb-true, ltb-false, not-true, not-false}
-use mathlib.Core.Path.{refl, sym, _∙_, ap}
+use Rattle.walk.proofs.Steps.{skipped-fresh, skipped-full, skipped-part, skipped-run, skipped-from}
+use Rattle.blocks.specs.Counted.{size}
+use Rattle.instant.specs.Instant.{nanos}
+use borrow.Author.Tests.{not-true, not-false}
 use borrow.Author.Needs.{needs}
 use Rattle.walk.proofs.skips.Statement.{statement}
 use Rattle.walk.proofs.skips.Tie as tie
 
 returns : tie.Need-returns
-returns c = rw (not-true (c .before .before .before .before .args .k .known) (c .if1 .taken))
+returns c = skipped-fresh ((c .before .before .before .before .args .k)) _ _ _ _ ((c .before .before .before .before .pre .4)) (not-true ((c .before .before .before .before .args .k .known)) ((c .if1 .taken)))
 
-less-requires : tie.Need-less-requires
-less-requires c κs = search needs
+fitting-requires : tie.Need-fitting-requires
+fitting-requires c κs = search needs
 
 returns-2 : tie.Need-returns-2
-returns-2 c = rw (not-false (c .before .before .before .before .before .before .before .args .k .known) (c .before .before .before .if1 .left), sym (c .before .less .ensures) ∙ not-true _ (c .if2 .taken))
+returns-2 c = skipped-full ((c .before .before .before .before .before .before .before .args .k)) _ _ _ _ ((c .before .before .before .before .before .before .before .pre .4)) ((c .before .fitting .ensures .0) ((c .if2 .taken)))
 
-is-week-requires : tie.Need-is-week-requires
-is-week-requires c κs = search needs
+weeks-requires : tie.Need-weeks-requires
+weeks-requires c κs = search needs
 
 returns-3 : tie.Need-returns-3
-returns-3 c = rw (not-false (c .before .before .before .before .before .before .before .before .before .args .k .known) (c .before .before .before .before .before .if1 .left), sym (c .before .before .before .less .ensures) ∙ not-false _ (c .before .before .if2 .left), sym (c .before .is-week .ensures) ∙ not-true _ (c .if3 .taken))
+returns-3 c = skipped-part ((c .before .before .before .before .before .before .before .before .before .args .k)) _ _ _ _ ((c .before .before .before .before .before .before .before .before .before .pre .4)) ((c .before .weeks .ensures)) ((c .if3 .taken))
 
 at-requires : tie.Need-at-requires
 at-requires c κs = search needs
 
-repeats-requires : tie.Need-repeats-requires
-repeats-requires c κs = search needs
+least-requires : tie.Need-least-requires
+least-requires c κs = search needs
+
+borders-requires : tie.Need-borders-requires
+borders-requires c κs = search needs
+
+least-requires-2 : tie.Need-least-requires-2
+least-requires-2 c κs = search needs
 
 returns-4 : tie.Need-returns-4
-returns-4 c = rw (not-false (c .before .before .before .before .before .before .before .before .before .before .before .args .k .known) (c .before .before .before .before .before .before .before .if1 .left), sym (c .before .before .before .before .before .less .ensures) ∙ not-false _ (c .before .before .before .before .if2 .left), sym (c .before .before .before .is-week .ensures) ∙ not-false _ (c .before .before .if3 .left)) ((c .repeats .ensures) ∙ ap (repeats _) (c .before .at .ensures .0))
+returns-4 c = let f = skipped-from _ ((c .before .before .before .before .before .before .before .before .before .before .before .before .before .args .back)) (nanos ((c .before .before .before .before .before .before .before .before .before .before .before .before .before .args .t))) (size ((c .before .before .before .before .before .before .before .before .before .before .before .before .before .args .x))) _ ((c .before .before .before .at .ensures .0)) ((c .before .borders .ensures)) in skipped-run ((c .before .before .before .before .before .before .before .before .before .before .before .before .before .args .k)) _ _ _ _ ((c .before .before .before .before .before .before .before .before .before .before .before .before .before .pre .4)) ((c .before .before .before .before .before .weeks .ensures)) (not-false ((c .before .before .before .before .before .before .before .before .before .before .before .before .before .args .k .known)) ((c .before .before .before .before .before .before .before .before .before .if1 .left))) ((c .before .before .before .before .if3 .left)) ((c .before .before .before .before .before .before .if2 .left)) ((c .before .before .before .before .before .before .before .fitting .ensures .1)) (f .0) (f .1) ((c .before .before .least .ensures)) ((c .least2 .ensures))
 
 pub skips-spec : {M : Type 1} → statement M
 skips-spec =
     tie.close
     (tie.spec
     returns
-    less-requires
+    fitting-requires
     returns-2
-    is-week-requires
+    weeks-requires
     returns-3
     at-requires
-    repeats-requires
+    least-requires
+    borders-requires
+    least-requires-2
     returns-4)
