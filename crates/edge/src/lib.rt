@@ -22,7 +22,7 @@ const BEFORE: u64 = 377705023201;
 const AFTER: u64 = 253402207200;
 
 // x + 2^63
-fn lift(x: i64) -> u64
+pub fn lift(x: i64) -> u64
     ensures { λ r. ⌜ r ≡ off x ⌝ }
 {
     if x < 0 {
@@ -32,7 +32,7 @@ fn lift(x: i64) -> u64
 }
 
 // k - 2^63
-fn lower(k: u64) -> i64
+pub fn lower(k: u64) -> i64
     ensures { λ r. ⌜ r ≡ unoff k ⌝ }
 {
     if k < 9223372036854775808 {
@@ -240,7 +240,7 @@ pub fn is_negative(d: Duration) -> bool
 }
 
 // The duration of a sign and a size that fits.
-fn pair(minus: bool, sec: u64, ns: u32) -> Duration
+pub fn pair(minus: bool, sec: u64, ns: u32) -> Duration
     requires { ⌜ (sec ≤ 2 ^ 63) × (minus ≡ false → sec < 2 ^ 63) ⌝ }
     ensures { λ r. ⌜ r ≡ signedPair minus sec ns ⌝ }
 {

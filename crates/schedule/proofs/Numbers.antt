@@ -1,0 +1,202 @@
+-- What the answers of crate `edge` tell of the instants and durations that were read.
+use mathlib.Core.Path.{_≡_, refl, sym, ap, _∙_}
+use mathlib.Core.Bool.{Bool, true, false, not, _&&_, _||_}
+use mathlib.Core.List.{List, [], _∷_}
+use Prim.Native.Nat.{ℕ, _+_, _*_, _-_, _/_, _%_, _^_, _≤_, _<_}
+use native.Mathlib.Omega.{arith}
+use lib.Dec.{leb, ltb}
+use lib.IntN.{ℤ, pos, negsuc, natAbs}
+use mir.Syntax.{w64}
+use mir.Val.{SFits, toZ, ofZ}
+use mir.Facts.{toZ-ofZ}
+use borrow.Author.Tests.{leb-true, ltb-true}
+use Rattle.laws_base.specs.Test.{by-test, and-both, clash}
+use Rattle.model.specs.Basic.{isIn}
+use Rattle.model.specs.Answer.{Answer, gives, refuses}
+use Rattle.model.specs.Instant as M
+use Rattle.model.specs.Instant.{second, firstInstant, lastInstant, isBelow0, secondFrom, instantOf, instant, areOpposite, durationOf, duration, negated}
+use Rattle.instant.specs.Instant.{nanos}
+use Rattle.instant.specs.declared.Instant.{Instant}
+use Rattle.dates.specs.Dates.{InRange}
+use Rattle.edge.specs.Reads.{ofNanos, instantRead, secondsFrom}
+use Rattle.edge.specs.Durations.{signedPair, spanRead, negatedRead, negation}
+use Rattle.edge.specs.declared.InstantRead.{InstantRead}
+use Rattle.edge.specs.declared.InstantRead.the-variants as R
+use Rattle.edge.specs.declared.SpanRead.{SpanRead}
+use Rattle.edge.specs.declared.SpanRead.the-variants as S
+use Rattle.edge.specs.declared.Duration.{Duration}
+use Rattle.edge.specs.declared.DurationMade.{DurationMade}
+use Rattle.edge.specs.declared.DurationMade.the-variants as D
+
+never : {P : Type 0} → _≡_ {A = ℕ} 0 1 → P
+never z = absurd (omega arith)
+
+-- a signed number is the one that its 64 bits stand for
+whole : (s n : ℤ) → SFits w64 s → SFits w64 n → {A : Type 0} {r : A} (h : ℤ → ℤ → A) → r ≡ h (toZ w64 (ofZ w64 s)) (toZ w64 (ofZ w64 n)) → r ≡ h s n
+whole s n f g h e = e ∙ (λ i. h (toZ-ofZ {w = w64} f i) (toZ-ofZ {w = w64} g i))
+
+-- ---- instants
+
+abbrev isSecond : ℤ → Bool
+isSecond s = isIn (firstInstant / second) (lastInstant / second) (secondFrom s)
+
+abbrev isRest : ℤ → Bool
+isRest n = not (isBelow0 n) && ltb (natAbs n) second
+
+no-instant-read : (s n : ℤ) → instantRead (instantOf s n) ≡ R.OutOfRange → instantOf s n ≡ refuses 8 0
+unfolding instantRead instantOf
+no-instant-read s n e =
+    by-test (isSecond s && isRest n)
+    (λ t. let q : R.At (ofNanos (secondFrom s * second + natAbs n)) ≡ R.OutOfRange = simp t at e in never (cc))
+    (λ t. simp t)
+
+-- a pair of seconds and nanoseconds is the instant a
+pub record Reads (s n : ℤ) (a : Instant) : Type 0 where
+  pub means : instantOf s n ≡ gives (nanos a)
+  pub in-range : InRange a
+
+instant-read : (s n : ℤ) (a : Instant) → instantRead (instantOf s n) ≡ R.At a → Reads s n a
+unfolding instantRead instantOf
+instant-read s n a e =
+    by-test (isSecond s && isRest n)
+    (λ t.
+    let q : R.At (ofNanos (secondFrom s * second + natAbs n)) ≡ R.At a = simp t at e in
+    let r : ofNanos (secondFrom s * second + natAbs n) ≡ a = cc in
+    let x : (secondFrom s * second + natAbs n) / second ≡ a .sec = ap (λ (i : Instant). i .sec) r in
+    let y : (secondFrom s * second + natAbs n) % second ≡ a .ns = ap (λ (i : Instant). i .ns) r in
+    let p = and-both (isSecond s) (isRest n) t in
+    let u = and-both (leb 12654496799 (secondFrom s)) (leb (secondFrom s) 643761727200) (p .0) in
+    let l : 12654496799 ≤ secondFrom s = leb-true _ _ (u .0) in
+    let k : secondFrom s ≤ 643761727200 = leb-true _ _ (u .1) in
+    let h : natAbs n < second = ltb-true _ _ (and-both (not (isBelow0 n)) (ltb (natAbs n) second) (p .1) .1) in
+    let z : secondFrom s * second + natAbs n ≡ nanos a = omega arith in
+    record { means = simp t (ap gives z); in-range = record { low = omega arith; high = omega arith; ns = omega arith } })
+    (λ t. let q : R.OutOfRange ≡ R.At a = simp t at e in never (cc))
+
+-- an instant that was read
+module _ (s n : ℤ) (f : SFits w64 s) (g : SFits w64 n) {r : InstantRead} (e : r ≡ instantRead (instantOf (toZ w64 (ofZ w64 s)) (toZ w64 (ofZ w64 n)))) where
+  pub instant-no : r ≡ R.OutOfRange → instantOf s n ≡ refuses 8 0
+  instant-no h = no-instant-read s n (sym (whole s n f g (λ a b. instantRead (instantOf a b)) e) ∙ h)
+
+  pub instant-yes : {a : Instant} → r ≡ R.At a → Reads s n a
+  instant-yes {a} h = instant-read s n a (sym (whole s n f g (λ a b. instantRead (instantOf a b)) e) ∙ h)
+
+pub not-late : (a : Instant) → InRange a → nanos a ≤ lastInstant
+not-late a h = let k = h .high in let n = h .ns in omega arith
+
+pub earlier : (x y : ℕ) → ltb x y ≡ true → x ≤ y
+earlier x y t = let h = ltb-true x y t in omega arith
+
+-- the numbers of an instant
+pub instant-shown : (u : Instant) (a b : ℤ) → u .ns < 1000000000 → a ≡ secondsFrom (u .sec) → b ≡ pos (u .ns) → a ∷ b ∷ [] ≡ instant (nanos u)
+unfolding instant secondsFrom
+instant-shown u a b h p q =
+    let x : nanos u / second ≡ u .sec = omega arith in
+    let y : nanos u % second ≡ u .ns = omega arith in
+    rw (x, y, p, q)
+
+-- ---- durations
+
+abbrev isDuration : ℤ → ℤ → Bool
+isDuration s n = ltb (natAbs n) second && not (areOpposite s n)
+
+abbrev sizeOf : ℤ → ℤ → ℕ
+sizeOf s n = natAbs s * second + natAbs n
+
+abbrev span : Bool → ℕ → M.Duration
+span m d = record { minus = m; size = d }
+
+no-span-read : (s n : ℤ) → spanRead (durationOf s n) ≡ S.Malformed → durationOf s n ≡ refuses 9 0
+unfolding spanRead durationOf
+no-span-read s n e =
+    by-test (isDuration s n)
+    (λ t. let q : S.Signed (isBelow0 s || isBelow0 n) (sizeOf s n / second) (sizeOf s n % second) ≡ S.Malformed = simp t at e in never (cc))
+    (λ t. simp t)
+
+-- seconds that are not below 0
+plus-small : (s : ℤ) → SFits w64 s → (b : Bool) → (isBelow0 s || b) ≡ false → natAbs s < 2 ^ 63
+plus-small (pos k) f b e = f .sfits
+plus-small (negsuc k) f b e = clash true refl e
+
+-- a pair of seconds and nanoseconds is the duration of the sign m and the size a s, b ns
+pub record Lasts (s n : ℤ) (m : Bool) (a b : ℕ) : Type 0 where
+  pub means : durationOf s n ≡ gives (span m (a * second + b))
+  pub rest : b < second
+  pub short : m ≡ false → a < 2 ^ 63
+
+span-read : (s n : ℤ) (m : Bool) (a b : ℕ) → SFits w64 s → spanRead (durationOf s n) ≡ S.Signed m a b → Lasts s n m a b
+unfolding spanRead durationOf
+span-read s n m a b f e =
+    by-test (isDuration s n)
+    (λ t.
+    let q : S.Signed (isBelow0 s || isBelow0 n) (sizeOf s n / second) (sizeOf s n % second) ≡ S.Signed m a b = simp t at e in
+    let x : (isBelow0 s || isBelow0 n) ≡ m = cc in
+    let y : sizeOf s n / second ≡ a = cc in
+    let z : sizeOf s n % second ≡ b = cc in
+    let k : natAbs n < second = ltb-true _ _ (and-both (ltb (natAbs n) second) (not (areOpposite s n)) t .0) in
+    let w : sizeOf s n ≡ a * second + b = omega arith in
+    record {
+      means = simp t (λ i. gives (span (x i) (w i)));
+      rest = omega arith;
+      short = λ o. (let h = plus-small s f (isBelow0 n) (x ∙ o) in omega arith);
+    })
+    (λ t. let q : S.Malformed ≡ S.Signed m a b = simp t at e in never (cc))
+
+pub span-most : (a b : ℕ) → b < second → a < 2 ^ 63 → a * second + b < 2 ^ 63 * second
+span-most a b h k = omega arith
+
+-- a duration that was read
+module _ (s n : ℤ) (f : SFits w64 s) (g : SFits w64 n) {r : SpanRead} (e : r ≡ spanRead (durationOf (toZ w64 (ofZ w64 s)) (toZ w64 (ofZ w64 n)))) where
+  pub span-no : r ≡ S.Malformed → durationOf s n ≡ refuses 9 0
+  span-no h = no-span-read s n (sym (whole s n f g (λ a b. spanRead (durationOf a b)) e) ∙ h)
+
+  pub span-yes : {m : Bool} {a b : ℕ} → r ≡ S.Signed m a b → Lasts s n m a b
+  span-yes {m} {a} {b} h = span-read s n m a b f (sym (whole s n f g (λ a b. spanRead (durationOf a b)) e) ∙ h)
+
+-- ---- the negation of a negative duration of d nanoseconds
+
+module _ (s n : ℤ) (d : ℕ) (e : durationOf s n ≡ gives (span true d)) where
+  negated-is : (r : Duration) → negation s n ≡ D.Is r → (negated (span true d) ≡ gives (span false d)) × (d < 2 ^ 63 * second)
+  unfolding negation negatedRead negated
+  negated-is r h =
+      by-test (ltb d (2 ^ 63 * second))
+      (λ t. (simp t, ltb-true _ _ t))
+      (λ t. let q : D.OutOfRange ≡ D.Is r = simp (e, t) at h in never (cc))
+
+  negated-not : negation s n ≡ D.OutOfRange → negated (span true d) ≡ refuses 7 0
+  unfolding negation negatedRead negated
+  negated-not h =
+      by-test (ltb d (2 ^ 63 * second))
+      (λ t. let q : D.Is _ ≡ D.OutOfRange = simp (e, t) at h in never (cc))
+      (λ t. simp t)
+
+  never-malformed : {P : Type 0} → negation s n ≡ D.Malformed → P
+  unfolding negation negatedRead negated
+  never-malformed h =
+      by-test (ltb d (2 ^ 63 * second))
+      (λ t. let q : D.Is _ ≡ D.Malformed = simp (e, t) at h in never (cc))
+      (λ t. let q : D.OutOfRange ≡ D.Malformed = simp (e, t) at h in never (cc))
+
+-- of a duration that was read
+module _ (s n : ℤ) (f : SFits w64 s) (g : SFits w64 n) {m : Bool} {a b : ℕ} (l : Lasts s n m a b) (minus : m ≡ true)
+    {r : DurationMade} (e : r ≡ negation (toZ w64 (ofZ w64 s)) (toZ w64 (ofZ w64 n))) where
+  is-minus : durationOf s n ≡ gives (span true (a * second + b))
+  is-minus = l .means ∙ ap (λ m. gives (span m (a * second + b))) minus
+
+  pub negated-yes : {d : Duration} → r ≡ D.Is d → (negated (span true (a * second + b)) ≡ gives (span false (a * second + b))) × (a * second + b < 2 ^ 63 * second)
+  negated-yes {d} h = negated-is s n (a * second + b) is-minus d (sym (whole s n f g negation e) ∙ h)
+
+  pub negated-no : r ≡ D.OutOfRange → negated (span true (a * second + b)) ≡ refuses 7 0
+  negated-no h = negated-not s n (a * second + b) is-minus (sym (whole s n f g negation e) ∙ h)
+
+  pub negated-well : {P : Type 0} → r ≡ D.Malformed → P
+  negated-well h = never-malformed s n (a * second + b) is-minus (sym (whole s n f g negation e) ∙ h)
+
+-- the numbers of a duration that was made of a sign and a size
+pub pair-shown : (m : Bool) (a b : ℕ) (d : Duration) (x y : ℤ) → b < 1000000000 → d ≡ signedPair m a b → x ≡ d .secs → y ≡ d .nanos
+    → _≡_ {A = Answer (List ℤ)} (gives (x ∷ y ∷ [])) (gives (duration (span m (a * second + b))))
+unfolding duration
+pair-shown m a b d x y h e p q =
+    let u : (a * second + b) / second ≡ a = omega arith in
+    let v : (a * second + b) % second ≡ b = omega arith in
+    rw (p, q, e, u, v)

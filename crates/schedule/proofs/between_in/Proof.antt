@@ -1,0 +1,73 @@
+-- `schedule::between_in` meets its contract.
+use mathlib.Core.Path.{sym, _∙_}
+use borrow.Author.Tests.{ltb-false}
+use borrow.Author.Needs.{needs}
+use Rattle.schedule.proofs.Replies.{time-fits, no-start, no-end, time-turned, time-onward}
+use Rattle.schedule.proofs.Numbers.{instant-no, instant-yes, not-late, earlier}
+use Rattle.schedule.proofs.between_in.Statement.{statement}
+use Rattle.schedule.proofs.between_in.Tie as tie
+
+instant-of-requires : tie.Need-instant-of-requires
+instant-of-requires c κs = search needs
+
+enum-known-a : tie.Need-enum-known-a
+enum-known-a c = search needs
+
+enum-told : tie.Need-enum-told
+enum-told c = search needs
+
+returns : tie.Need-returns
+returns c = no-start _ _ _ _ _ (instant-no _ _ (c .before .before .before .before .before .fits .a-sec) (c .before .before .before .before .before .fits .a-ns) (c .before .before .instant-of .ensures) (c .enum-told .given .1))
+
+instant-of-requires-2 : tie.Need-instant-of-requires-2
+instant-of-requires-2 c κs = search needs
+
+enum-known-b : tie.Need-enum-known-b
+enum-known-b c = search needs
+
+enum-told-2 : tie.Need-enum-told-2
+enum-told-2 c = search needs
+
+returns-2 : tie.Need-returns-2
+returns-2 c = let a = instant-yes _ _ (c .before .before .before .before .before .before .before .before .before .fits .a-sec) (c .before .before .before .before .before .before .before .before .before .fits .a-ns) (c .before .before .before .before .before .before .instant-of .ensures) (c .before .before .before .before .a .given .1) in no-end _ _ _ _ _ _ (a .means) (instant-no _ _ (c .before .before .before .before .before .before .before .before .before .fits .b-sec) (c .before .before .before .before .before .before .before .before .before .fits .b-ns) (c .before .before .instant-of2 .ensures) (c .enum-told2 .given .1))
+
+precedes-requires : tie.Need-precedes-requires
+precedes-requires c κs = search needs
+
+between-walk-requires : tie.Need-between-walk-requires
+between-walk-requires c κs = let a = instant-yes _ _ (c .before .before .before .before .before .before .before .before .before .before .before .before .fits .a-sec) (c .before .before .before .before .before .before .before .before .before .before .before .before .fits .a-ns) (c .before .before .before .before .before .before .before .before .before .instant-of .ensures) (c .before .before .before .before .before .before .before .a .given .1) in let b = instant-yes _ _ (c .before .before .before .before .before .before .before .before .before .before .before .before .fits .b-sec) (c .before .before .before .before .before .before .before .before .before .before .before .before .fits .b-ns) (c .before .before .before .before .before .instant-of2 .ensures) (c .before .before .before .b .given .1) in ((c .before .before .before .before .before .before .before .before .before .before .before .before .pre), record { start = b .in-range; end = a .in-range; order = earlier _ _ (sym (c .before .precedes .ensures) ∙ (c .if1 .taken)) })
+
+told-requires : tie.Need-told-requires
+told-requires c κs = let a = instant-yes _ _ (c .before .before .before .before .before .before .before .before .before .before .before .before .before .fits .a-sec) (c .before .before .before .before .before .before .before .before .before .before .before .before .before .fits .a-ns) (c .before .before .before .before .before .before .before .before .before .before .instant-of .ensures) (c .before .before .before .before .before .before .before .before .a .given .1) in (time-fits _ (c .between-walk .result .time) _ _ (earlier _ _ (sym (c .before .before .precedes .ensures) ∙ (c .before .if1 .taken))) (not-late _ (a .in-range)) (c .between-walk .ensures .0), (c .between-walk .ensures .2))
+
+returns-3 : tie.Need-returns-3
+returns-3 c = let a = instant-yes _ _ (c .before .before .before .before .before .before .before .before .before .before .before .before .before .before .fits .a-sec) (c .before .before .before .before .before .before .before .before .before .before .before .before .before .before .fits .a-ns) (c .before .before .before .before .before .before .before .before .before .before .before .instant-of .ensures) (c .before .before .before .before .before .before .before .before .before .a .given .1) in let b = instant-yes _ _ (c .before .before .before .before .before .before .before .before .before .before .before .before .before .before .fits .b-sec) (c .before .before .before .before .before .before .before .before .before .before .before .before .before .before .fits .b-ns) (c .before .before .before .before .before .before .before .instant-of2 .ensures) (c .before .before .before .before .before .b .given .1) in time-turned _ _ _ _ _ _ (a .means) _ (b .means) _ _ _ (sym (c .before .before .before .precedes .ensures) ∙ (c .before .before .if1 .taken)) (c .before .between-walk .ensures .0) (c .told .ensures .0) ((c .told .ensures .1) ∙ (c .before .between-walk .ensures .1))
+
+between-walk-requires-2 : tie.Need-between-walk-requires-2
+between-walk-requires-2 c κs = let a = instant-yes _ _ (c .before .before .before .before .before .before .before .before .before .before .before .before .fits .a-sec) (c .before .before .before .before .before .before .before .before .before .before .before .before .fits .a-ns) (c .before .before .before .before .before .before .before .before .before .instant-of .ensures) (c .before .before .before .before .before .before .before .a .given .1) in let b = instant-yes _ _ (c .before .before .before .before .before .before .before .before .before .before .before .before .fits .b-sec) (c .before .before .before .before .before .before .before .before .before .before .before .before .fits .b-ns) (c .before .before .before .before .before .instant-of2 .ensures) (c .before .before .before .b .given .1) in ((c .before .before .before .before .before .before .before .before .before .before .before .before .pre), record { start = a .in-range; end = b .in-range; order = ltb-false _ _ (sym (c .before .precedes .ensures) ∙ (c .if1 .left)) })
+
+told-requires-2 : tie.Need-told-requires-2
+told-requires-2 c κs = let b = instant-yes _ _ (c .before .before .before .before .before .before .before .before .before .before .before .before .before .fits .b-sec) (c .before .before .before .before .before .before .before .before .before .before .before .before .before .fits .b-ns) (c .before .before .before .before .before .before .instant-of2 .ensures) (c .before .before .before .before .b .given .1) in (time-fits _ (c .between-walk2 .result .time) _ _ (ltb-false _ _ (sym (c .before .before .precedes .ensures) ∙ (c .before .if1 .left))) (not-late _ (b .in-range)) (c .between-walk2 .ensures .0), (c .between-walk2 .ensures .2))
+
+returns-4 : tie.Need-returns-4
+returns-4 c = let a = instant-yes _ _ (c .before .before .before .before .before .before .before .before .before .before .before .before .before .before .fits .a-sec) (c .before .before .before .before .before .before .before .before .before .before .before .before .before .before .fits .a-ns) (c .before .before .before .before .before .before .before .before .before .before .before .instant-of .ensures) (c .before .before .before .before .before .before .before .before .before .a .given .1) in let b = instant-yes _ _ (c .before .before .before .before .before .before .before .before .before .before .before .before .before .before .fits .b-sec) (c .before .before .before .before .before .before .before .before .before .before .before .before .before .before .fits .b-ns) (c .before .before .before .before .before .before .before .instant-of2 .ensures) (c .before .before .before .before .before .b .given .1) in time-onward _ _ _ _ _ _ (a .means) _ (b .means) _ _ _ (sym (c .before .before .before .precedes .ensures) ∙ (c .before .before .if1 .left)) (c .before .between-walk2 .ensures .0) (c .told2 .ensures .0) ((c .told2 .ensures .1) ∙ (c .before .between-walk2 .ensures .1))
+
+pub between-in-spec : {M : Type 1} → statement M
+between-in-spec =
+    tie.close
+    (tie.spec
+    instant-of-requires
+    enum-known-a
+    enum-told
+    returns
+    instant-of-requires-2
+    enum-known-b
+    enum-told-2
+    returns-2
+    precedes-requires
+    between-walk-requires
+    told-requires
+    returns-3
+    between-walk-requires-2
+    told-requires-2
+    returns-4)
