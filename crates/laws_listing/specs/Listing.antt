@@ -57,7 +57,8 @@ module _ (s : Schedule) (lo hi : ℕ) (h : lo ≤ hi) where
   abbrev pub listedAt : ℕ → Bool
   listedAt = covers (listed (begun (hi - lo)) (working s) lo hi)
 
-  windows-list : Lists listedAt lo hi (listed (begun (hi - lo)) (working s) lo hi)
+  -- the windows one behind the other list them
+  pub windows-list : Lists listedAt lo hi (listed (begun (hi - lo)) (working s) lo hi)
   windows-list = listed-self (working s) (working-lists s) (begun (hi - lo)) lo hi h
 
   -- sorted, apart, not empty, maximal

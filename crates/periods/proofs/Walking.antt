@@ -1,0 +1,236 @@
+-- The loop of `period_walk`: its invariant, and that a turn keeps it. Assumes nothing.
+use mathlib.Core.Path.{_≡_, refl, sym, _∙_, ap}
+use mathlib.Core.Bool.{Bool, true, false, not, _||_}
+use mathlib.Core.List.{List, [], _∷_}
+use Prim.Native.Nat.{ℕ, suc, _+_, _*_, _-_, _≤_, _<_, min}
+use native.Mathlib.Omega.{arith}
+use native.Mathlib.Decide.{decLe}
+use lib.Dec.{leb, ltb, eqb}
+use borrow.Author.Tests.{eqb-true, ltb-true, ltb-false, le-leb, lt-leb}
+use Rattle.model.specs.Instant.{second, week}
+use Rattle.model.specs.Answer.{Answer, gives, refuses}
+use Rattle.model.specs.Blocks.{Block, block}
+use Rattle.model.specs.Working.{Schedule}
+use Rattle.model.specs.Walk.{Way, Hunt, nothing, growing, ended, tooFar, hunt, huntFrom, capped, atRangeEnd, begun, reach, ahead, period}
+use Rattle.laws_base.specs.Test.{by-test}
+use Rattle.laws_skip.specs.Edges.{Inside}
+use Rattle.blocks.specs.Counted.{size, most}
+use Rattle.blocks.specs.declared.Span.{Span}
+use Rattle.hunt.specs.Hunts.{soFar, huntIs}
+use Rattle.hunt.specs.declared.Known.{Known}
+use Rattle.windows.specs.Distances.{Short}
+use Rattle.periods.specs.Found.{PeriodFits}
+
+-- ---- the definition turn by turn
+
+-- one window less is begun behind it
+begun-less : (x y : ℕ) → x < y → begun (y - x) ≡ suc (begun (y - min (x + week) y))
+begun-less x y h = go (decLe (x + week) y)
+  where
+    go : Dec (x + week ≤ y) → begun (y - x) ≡ suc (begun (y - min (x + week) y))
+    go (yes k) = let e : min (x + week) y ≡ x + week = omega arith in rw e (more k)
+      where
+        more : x + week ≤ y → begun (y - x) ≡ suc (begun (y - (x + week)))
+        more k = omega arith
+    go (no k) = let e : min (x + week) y ≡ y = omega arith in rw e (omega arith)
+
+-- the walk from the distance x to the range's end
+unfoldable pub huntRest : (ℕ → ℕ → List Block) → ℕ → ℕ → ℕ → Hunt → Answer Block
+huntRest look limit end x h = huntFrom (begun (end - x)) look limit end x h
+
+module _ (look : ℕ → ℕ → List Block) (limit end x : ℕ) (h : Hunt) where
+  rest-done : end ≤ x → huntRest look limit end x h ≡ atRangeEnd limit h
+  unfolding huntRest huntFrom
+  rest-done k = let e : begun (end - x) ≡ 0 = omega arith in rw e
+
+  module _ (k : x < end) where
+    rest-nothing : hunt limit h (look x (min (x + week) end)) ≡ nothing → ltb limit (min (x + week) end) ≡ false → huntRest look limit end x h ≡ huntRest look limit end (min (x + week) end) nothing
+    unfolding huntRest huntFrom
+    rest-nothing p q = rw (begun-less x end k, p, q, huntFrom)
+
+    rest-no-work : hunt limit h (look x (min (x + week) end)) ≡ nothing → ltb limit (min (x + week) end) ≡ true → huntRest look limit end x h ≡ refuses 6 0
+    unfolding huntRest huntFrom
+    rest-no-work p q = rw (begun-less x end k, p, q, huntFrom)
+
+    rest-grows : (f e : ℕ) → hunt limit h (look x (min (x + week) end)) ≡ growing f e → (ltb e (min (x + week) end) || leb limit (e - f)) ≡ false
+        → huntRest look limit end x h ≡ huntRest look limit end (min (x + week) end) (growing f e)
+    unfolding huntRest huntFrom
+    rest-grows f e p q = rw (begun-less x end k, p, q, huntFrom)
+
+    rest-whole : (f e : ℕ) → hunt limit h (look x (min (x + week) end)) ≡ growing f e → (ltb e (min (x + week) end) || leb limit (e - f)) ≡ true
+        → huntRest look limit end x h ≡ gives (capped limit f e)
+    unfolding huntRest huntFrom
+    rest-whole f e p q = rw (begun-less x end k, p, q, huntFrom)
+
+    rest-ended : (f e : ℕ) → hunt limit h (look x (min (x + week) end)) ≡ ended f e → huntRest look limit end x h ≡ gives (capped limit f e)
+    unfolding huntRest huntFrom
+    rest-ended f e p = rw (begun-less x end k, p, huntFrom)
+
+    rest-far : hunt limit h (look x (min (x + week) end)) ≡ tooFar → huntRest look limit end x h ≡ refuses 6 0
+    unfolding huntRest huntFrom
+    rest-far p = rw (begun-less x end k, p, huntFrom)
+
+-- ---- a period lies in the windows passed
+
+-- it ends at or before y
+abbrev pub Upto : ℕ → Hunt → Type 0
+Upto y nothing = Unit {0}
+Upto y (growing f e) = (f ≤ e) × (e ≤ y)
+Upto y (ended f e) = (f ≤ e) × (e ≤ y)
+Upto y tooFar = Unit {0}
+
+upto-more : (x y : ℕ) (h : Hunt) → x ≤ y → Upto x h → Upto y h
+upto-more x y nothing k u = tt
+upto-more x y (growing f e) k u = (u .0, omega arith)
+upto-more x y (ended f e) k u = (u .0, omega arith)
+upto-more x y tooFar k u = tt
+
+hunt-upto : (limit x y : ℕ) (h : Hunt) (l : List Block) → Inside x y l → Upto y h → Upto y (hunt limit h l)
+unfolding hunt
+hunt-upto limit x y h [] i u = go h u
+  where
+    go : (h : Hunt) → Upto y h → Upto y (hunt limit h [])
+    go nothing u = u
+    go (growing f e) u = u
+    go (ended f e) u = u
+    go tooFar u = u
+hunt-upto limit x y nothing (b ∷ l) i u =
+    by-test (ltb limit (b .start)) (λ q. rw q tt) (λ q. rw q (hunt-upto limit x y (growing (b .start) (b .end)) l (i .3) (omega arith, i .2)))
+hunt-upto limit x y (growing f e) (b ∷ l) i u =
+    by-test (eqb (b .start) e)
+    (λ q. let z = eqb-true (b .start) e q in rw q (hunt-upto limit x y (growing f (b .end)) l (i .3) (omega arith, i .2)))
+    (λ q. rw q u)
+hunt-upto limit x y (ended f e) (b ∷ l) i u = u
+hunt-upto limit x y tooFar (b ∷ l) i u = u
+
+-- there is a period
+abbrev Some : Hunt → Type 0
+Some nothing = ⊥
+Some (growing f e) = Unit {0}
+Some (ended f e) = Unit {0}
+Some tooFar = ⊥
+
+-- a period that there is stays
+still-some : (limit f e : ℕ) (l : List Block) → Some (hunt limit (growing f e) l)
+unfolding hunt
+still-some limit f e [] = tt
+still-some limit f e (b ∷ l) = by-test (eqb (b .start) e) (λ u. rw u (still-some limit f (b .end) l)) (λ u. rw u tt)
+
+still-none : (limit : ℕ) (some : Bool) (f e : ℕ) (l : List Block) → hunt limit (soFar some f e) l ≡ nothing → some ≡ false
+still-none limit true f e l q = absurd (rw q at (still-some limit f e l))
+still-none limit false f e l q = refl
+
+-- ---- the loop
+
+module _ (look : ℕ → ℕ → List Block) (limit end : ℕ) where
+  -- at the distance x, with the period from f to e if there is one: the walk from there is the whole walk
+  pub record Walking (x : ℕ) (some : Bool) (f e : ℕ) : Type 0 where
+    pub upto : x ≤ end
+    pub inside : Upto x (soFar some f e)
+    pub same : huntRest look limit end x (soFar some f e) ≡ huntRest look limit end 0 nothing
+
+  pub walking-starts : Walking 0 false 0 0
+  walking-starts = record { upto = omega arith; inside = tt; same = refl }
+
+  module _ (x : ℕ) (some : Bool) (f e : ℕ) (m : Walking x some f e) where
+    module _ (h : x < end) (y : ℕ) (p : y ≡ min (x + week) end) where
+      pub walking-nothing : nothing ≡ hunt limit (soFar some f e) (look x y) → ltb limit y ≡ false → Walking y some f e
+      walking-nothing q u =
+          let z = still-none limit some f e (look x y) (sym q) in
+          record {
+            upto = omega arith;
+            inside = rw z tt;
+            same = rw z (moved z);
+          }
+        where
+          moved : some ≡ false → huntRest look limit end y nothing ≡ huntRest look limit end 0 nothing
+          moved z = rw p (sym (rest-nothing look limit end x (soFar some f e) h (rw p at (sym q)) (rw p at u)) ∙ m .same)
+
+      pub walking-no-work : nothing ≡ hunt limit (soFar some f e) (look x y) → ltb limit y ≡ true → refuses 6 0 ≡ huntRest look limit end 0 nothing
+      walking-no-work q u = sym (rest-no-work look limit end x (soFar some f e) h (rw p at (sym q)) (rw p at u)) ∙ m .same
+
+      pub walking-far : tooFar ≡ hunt limit (soFar some f e) (look x y) → refuses 6 0 ≡ huntRest look limit end 0 nothing
+      walking-far q = sym (rest-far look limit end x (soFar some f e) h (rw p at (sym q))) ∙ m .same
+
+      module _ (i : Inside x y (look x y)) (a b : ℕ) where
+        pub ended-upto : ended a b ≡ hunt limit (soFar some f e) (look x y) → (a ≤ b) × (b ≤ end)
+        ended-upto q =
+            let u : Upto y (ended a b) = rw (← q) at (hunt-upto limit x y (soFar some f e) (look x y) i (upto-more x y (soFar some f e) (omega arith) (m .inside))) in
+            (u .0, omega arith)
+
+        pub growing-upto : growing a b ≡ hunt limit (soFar some f e) (look x y) → (a ≤ b) × (b ≤ y) × (b ≤ end)
+        growing-upto q =
+            let u : Upto y (growing a b) = rw (← q) at (hunt-upto limit x y (soFar some f e) (look x y) i (upto-more x y (soFar some f e) (omega arith) (m .inside))) in
+            (u .0, u .1, omega arith)
+
+        -- a period that has ended, its further border cut to c
+        pub walking-ended : ended a b ≡ hunt limit (soFar some f e) (look x y) → (c : ℕ) → c ≡ min b (a + limit) → gives (block a c) ≡ huntRest look limit end 0 nothing
+        walking-ended q c u = ap (λ z. gives (block a z)) u ∙ sym (rest-ended look limit end x (soFar some f e) h a b (rw p at (sym q))) ∙ m .same
+
+        module _ (q : growing a b ≡ hunt limit (soFar some f e) (look x y)) {test : Bool} (o : test ≡ (ltb b y || leb limit (b - a))) where
+          -- one that goes no further
+          pub walking-whole : test ≡ true → (c : ℕ) → c ≡ min b (a + limit) → gives (block a c) ≡ huntRest look limit end 0 nothing
+          walking-whole v c u = ap (λ z. gives (block a z)) u ∙ sym (rest-whole look limit end x (soFar some f e) h a b (rw p at (sym q)) (rw p at (sym o ∙ v))) ∙ m .same
+
+          -- one that may go on in the next window
+          pub walking-grows : test ≡ false → Walking y true a b
+          walking-grows v =
+              let u = growing-upto q in
+              record {
+                upto = omega arith;
+                inside = (u .0, u .1);
+                same = rw p (sym (rest-grows look limit end x (soFar some f e) h a b (rw p at (sym q)) (rw p at (sym o ∙ v))) ∙ m .same);
+              }
+
+    module _ (h : end ≤ x) where
+      done : atRangeEnd limit (soFar some f e) ≡ huntRest look limit end 0 nothing
+      done = sym (rest-done look limit end x (soFar some f e) h) ∙ m .same
+
+      -- a period that goes on to the range's end
+      pub walking-last : some ≡ true → (c : ℕ) → c ≡ min e (f + limit) → gives (block f c) ≡ huntRest look limit end 0 nothing
+      walking-last q c u = ap (λ z. gives (block f z)) u ∙ (rw q at done)
+
+      pub last-upto : some ≡ true → (f ≤ e) × (e ≤ end)
+      last-upto q = let u : Upto x (growing f e) = rw q at (m .inside) in let o = m .upto in (u .0, omega arith)
+
+      -- no period up to the range's end
+      pub walking-ends : some ≡ false → refuses 7 0 ≡ huntRest look limit end 0 nothing
+      walking-ends q = rw q at done
+
+-- ---- the answer
+
+module _ (s : Schedule) (w : Way) (t limit end : ℕ) (l : limit ≡ s .limit) (e : end ≡ reach w t) where
+  pub walked : (a : Answer Block) → a ≡ huntRest (ahead w s t) limit end 0 nothing → a ≡ period w s t
+  unfolding huntRest
+  walked a q = let z : reach w t - 0 ≡ reach w t = omega arith in rw z at (rw (l, e) at q)
+
+pub limit-is : (n : ℕ) → n * second + 0 ≡ n * second
+limit-is n = omega arith
+
+-- ---- a test
+
+-- a length that is not below the limit reaches it
+pub reaches : (limit len n : ℕ) → len ≡ n → not (ltb len limit) ≡ leb limit n
+reaches limit len n q =
+    rw q
+    (by-test (ltb n limit)
+    (λ u. rw u (sym (lt-leb limit n (ltb-true n limit u))))
+    (λ u. rw u (sym (le-leb limit n (ltb-false n limit u)))))
+
+-- ---- what a window's blocks make known
+
+pub knows : (limit : ℕ) (h : Hunt) {l l′ : List Block} {r r′ : Known} → r ≡ r′ → huntIs r ≡ hunt limit h l → l ≡ l′ → huntIs r′ ≡ hunt limit h l′
+knows limit h p q e = rw (← p, ← e) q
+
+-- ---- what fits
+
+-- a period of the windows passed, its further border cut to c
+pub fits : (w : Way) (t : ℕ) (f c : Span) (e limit end : ℕ) → f .ns < 1000000000 → c .ns < 1000000000 → (size f ≤ e) × (e ≤ end) → end ≡ reach w t → size c ≡ min e (size f + limit) → PeriodFits w t f c
+fits w t f c e limit end h k o p q = let i = o .0 in let j = o .1 in record { start-ns = h; end-ns = k; order = omega arith; near = omega arith }
+
+-- the cut's sum stays small
+pub cut-fits : (f e end : Span) (limit : ℕ) → (size f ≤ size e) × (size e ≤ size end) → Short end → limit ≤ 341280000 → size f + (limit * 1000000000 + 0) < most
+cut-fits f e end limit o h k = let i = o .0 in let j = o .1 in let x = h .sec in let y = h .ns in omega arith
+
+pub end-fits : (e end : Span) → size e ≤ size end → Short end → size e < most
+end-fits e end o h = let x = h .sec in let y = h .ns in omega arith
