@@ -1,0 +1,24 @@
+-- `stretch::seconds` meets its contract.
+use Rattle.edge.specs.Reads.{secondsFrom}
+use mathlib.Core.Path.{ap, _∙_}
+use native.Mathlib.Omega.{arith}
+use mir.Facts.{toZ-ofZ}
+use mir.Syntax.{w64}
+use borrow.Author.Needs.{needs}
+use Rattle.stretch.proofs.seconds.Statement.{statement}
+use Rattle.stretch.proofs.seconds.Tie as tie
+
+cast-seconds-of : tie.Need-cast-seconds-of
+cast-seconds-of c = search needs
+
+add-seconds-of : tie.Need-add-seconds-of
+add-seconds-of c = search needs
+
+seconds-of-requires : tie.Need-seconds-of-requires
+seconds-of-requires c κs = search needs
+
+returns : tie.Need-returns
+returns c = toZ-ofZ {w = w64} (record { sfits = c .seconds-of .ok }) ∙ c .seconds-of .ensures ∙ ap secondsFrom (omega arith)
+
+pub seconds-spec : {M : Type 1} → statement M
+seconds-spec = tie.close (tie.spec cast-seconds-of add-seconds-of seconds-of-requires returns)
