@@ -1,0 +1,143 @@
+// From a query to its answer line.
+ghost use mathlib.Core.Path.{_≡_};
+ghost use Prim.Native.Nat.{_+_, _≤_};
+ghost use lib.ListN.{length};
+ghost use Rattle.model.specs.Answer.{gives};
+ghost use Rattle.model.specs.Build as definition;
+ghost use Rattle.model.specs.Lines.{replyIn, leastOnly};
+ghost use Rattle.rules.specs.Rules.{scheduleIs, ScheduleFits};
+ghost use Rattle.lines.specs.Reading.{queryIs};
+ghost use Rattle.reply.specs.Placed.{Placed};
+ghost use Rattle.answers.specs.Answering.{timeText, movedText, nextText, previousText, isBad, refusedText, Stands};
+use build::Built;
+use lines::Query;
+use period_calls::NextPeriod;
+use period_calls::PreviousPeriod;
+use rules::Schedule;
+use schedule::Moved;
+use schedule::TimeAnswer;
+
+// ---- the line of an answer
+
+fn put_time(out: &mut [u8], at: usize, r: TimeAnswer) -> usize
+    requires { ⌜ at + 128 ≤ length (now out) ⌝ }
+    ensures { λ e. ⌜ Placed (now (out .entry)) (now (out .exit)) at e (timeText r) × (e ≤ at + 128) ⌝ }
+{
+    match r {
+        TimeAnswer::Is(sec, ns, windows) => reply::put_counted(out, at, sec, ns, windows),
+        TimeAnswer::Refused(number, place) => reply::put_refused(
+            out,
+            at,
+            number as u64,
+            place as u64,
+        ),
+    }
+}
+
+fn put_moved(out: &mut [u8], at: usize, r: Moved) -> usize
+    requires { ⌜ at + 128 ≤ length (now out) ⌝ }
+    ensures { λ e. ⌜ Placed (now (out .entry)) (now (out .exit)) at e (movedText r) × (e ≤ at + 128) ⌝ }
+{
+    match r {
+        Moved::At(sec, ns, windows) => reply::put_counted(out, at, sec, ns, windows),
+        Moved::Refused(number, place) => reply::put_refused(out, at, number as u64, place as u64),
+    }
+}
+
+fn put_next(out: &mut [u8], at: usize, r: NextPeriod) -> usize
+    requires { ⌜ at + 128 ≤ length (now out) ⌝ }
+    ensures { λ e. ⌜ Placed (now (out .entry)) (now (out .exit)) at e (nextText r) × (e ≤ at + 128) ⌝ }
+{
+    match r {
+        NextPeriod::Is(a, b, c, d) => reply::put_period(out, at, a, b, c, d),
+        NextPeriod::Refused(number, place) => reply::put_refused(
+            out,
+            at,
+            number as u64,
+            place as u64,
+        ),
+    }
+}
+
+fn put_previous(out: &mut [u8], at: usize, r: PreviousPeriod) -> usize
+    requires { ⌜ at + 128 ≤ length (now out) ⌝ }
+    ensures { λ e. ⌜ Placed (now (out .entry)) (now (out .exit)) at e (previousText r) × (e ≤ at + 128) ⌝ }
+{
+    match r {
+        PreviousPeriod::Is(a, b, c, d) => reply::put_period(out, at, a, b, c, d),
+        PreviousPeriod::Refused(number, place) => reply::put_refused(
+            out,
+            at,
+            number as u64,
+            place as u64,
+        ),
+    }
+}
+
+// ---- the line of a query
+
+// The answer of a schedule that was built.
+fn put_answer(book: &[u8], pack: &[u8], s: Schedule, q: Query, out: &mut [u8], at: usize) -> usize
+    requires { ⌜ ScheduleFits (now book) (now pack) s × (at + 128 ≤ length (now out)) ⌝ }
+    ensures { λ e. ⌜ Placed (now (out .entry)) (now (out .exit)) at e (replyIn leastOnly (gives (scheduleIs (now (book .entry)) (now (pack .entry)) s)) (queryIs q)) × (e ≤ at + 128) ⌝ }
+{
+    match q {
+        Query::Between(a, b, c, d) => {
+            let r = schedule::between_in(book, pack, s, a, b, c, d);
+            put_time(out, at, r)
+        }
+        Query::Add(a, b, c, d) => {
+            let r = schedule::move_in(book, pack, s, false, a, b, c, d);
+            put_moved(out, at, r)
+        }
+        Query::Sub(a, b, c, d) => {
+            let r = schedule::move_in(book, pack, s, true, a, b, c, d);
+            put_moved(out, at, r)
+        }
+        Query::Next(a, b) => {
+            let r = period_calls::next_in(book, pack, s, a, b);
+            put_next(out, at, r)
+        }
+        Query::Previous(a, b) => {
+            let r = period_calls::previous_in(book, pack, s, a, b);
+            put_previous(out, at, r)
+        }
+        Query::Bad => reply::put_bad(out, at),
+    }
+}
+
+fn is_bad(q: Query) -> bool
+    ensures { λ r. ⌜ r ≡ isBad q ⌝ }
+{
+    match q {
+        Query::Between(_, _, _, _) => false,
+        Query::Add(_, _, _, _) => false,
+        Query::Sub(_, _, _, _) => false,
+        Query::Next(_, _) => false,
+        Query::Previous(_, _) => false,
+        Query::Bad => true,
+    }
+}
+
+// The answer of a book that does not build: its refusal to every query.
+fn put_refusal(number: u64, place: u64, q: Query, out: &mut [u8], at: usize) -> usize
+    requires { ⌜ at + 128 ≤ length (now out) ⌝ }
+    ensures { λ e. ⌜ Placed (now (out .entry)) (now (out .exit)) at e (refusedText number place (queryIs q)) × (e ≤ at + 128) ⌝ }
+{
+    if is_bad(q) {
+        return reply::put_bad(out, at);
+    }
+    reply::put_refused(out, at, number, place)
+}
+
+// Writes the answer line of a query, from what `build` answered.
+pub fn answer(book: &[u8], pack: &[u8], b: Built, q: Query, out: &mut [u8], at: usize) -> usize
+    requires { ⌜ Stands (now book) (now pack) b × (at + 128 ≤ length (now out)) ⌝ }
+    ensures { λ e. ⌜ Placed (now (out .entry)) (now (out .exit)) at e (replyIn leastOnly (definition.build (now (book .entry)) (now (pack .entry))) (queryIs q)) × (e ≤ at + 128) ⌝ }
+{
+    if b.number == 0 {
+        let s = b.schedule;
+        return put_answer(book, pack, s, q, out, at);
+    }
+    put_refusal(b.number as u64, b.place as u64, q, out, at)
+}

@@ -1,0 +1,10 @@
+-- `lines::start` meets its contract.
+use Rattle.lines.proofs.Starting.{started}
+use Rattle.lines.proofs.start.Statement.{statement}
+use Rattle.lines.proofs.start.Tie as tie
+
+returns : tie.Need-returns
+returns c = started
+
+pub start-spec : {M : Type 1} → statement M
+start-spec = tie.close (tie.spec returns)
