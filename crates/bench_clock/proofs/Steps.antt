@@ -1,0 +1,171 @@
+-- Laws of the functions that are timed: what each answer is, one turn of each loop, and the whole. Assumes nothing.
+use mathlib.Core.Path.{_≡_, refl, sym, ap, _∙_}
+use mathlib.Core.List.{List, [], _∷_}
+use Prim.Native.Nat.{ℕ, zero, suc, _+_, _*_, _-_, _/_, _≤_, _<_}
+use native.Mathlib.Omega.{arith}
+use lib.Dec.{eqb}
+use lib.IntN.{ℤ, pos}
+use lib.ListN.{length, getD, set, take, drop, length-set}
+use mir.Syntax.{w64}
+use mir.Val.{SFits, toZ, ofZ}
+use mir.Facts.{toZ-ofZ}
+use borrow.Author.Tests.{eq-eqb, ne-eqb}
+use Rattle.laws.specs.Demand3.{said}
+use Rattle.model.specs.Answer.{Answer, gives, refuses}
+use Rattle.model.specs.Build.{build}
+use Rattle.model.specs.Calls.{Reply, betweenCall, moveCall, periodCall, listCall}
+use Rattle.model.specs.Instant.{second}
+use Rattle.model.specs.Walk.{on, back}
+use Rattle.model.specs.Working.{Schedule}
+use Rattle.rules.specs.Rules.{scheduleIs}
+use Rattle.build.specs.Read.{answerIs}
+use Rattle.build.specs.declared.Built.{Built}
+use Rattle.schedule.specs.declared.TimeAnswer.{TimeAnswer}
+use Rattle.schedule.specs.declared.TimeAnswer.the-variants as T
+use Rattle.schedule.specs.declared.Moved.{Moved}
+use Rattle.schedule.specs.declared.Moved.the-variants as M
+use Rattle.schedule.specs.Answers.{timeIs, movedIs}
+use Rattle.period_calls.specs.declared.NextPeriod.{NextPeriod}
+use Rattle.period_calls.specs.declared.NextPeriod.the-variants as N
+use Rattle.period_calls.specs.declared.PreviousPeriod.{PreviousPeriod}
+use Rattle.period_calls.specs.declared.PreviousPeriod.the-variants as P
+use Rattle.period_calls.specs.Replies.{nextIs, previousIs}
+use Rattle.listing.specs.Listings.{numbersOf}
+use Rattle.bench_clock.specs.declared.Told.{Told}
+use Rattle.bench_clock.specs.declared.Told.the-variants as A
+use Rattle.bench_clock.specs.Asked.{toldIs, asked, written, writtenAt, answered, groupsFrom, groups, groupsOf, limitIn, limitOf, listed, listedOf}
+
+-- ---- the calls' answers
+
+pub time-two : {r : TimeAnswer} {d : Answer (List ℤ)} {x y : ℤ} {c : ℕ} → timeIs r ≡ d → r ≡ T.Is x y c → (u v : ℤ) → u ≡ x → v ≡ y → gives (u ∷ v ∷ []) ≡ d
+time-two k e u v p q = rw (p, q) (rw e at k)
+
+pub time-no : {r : TimeAnswer} {d : Answer (List ℤ)} {n p : ℕ} → timeIs r ≡ d → r ≡ T.Refused n p → refuses n p ≡ d
+time-no k e = rw e at k
+
+pub moved-two : {r : Moved} {d : Answer (List ℤ)} {x y : ℤ} {c : ℕ} → movedIs r ≡ d → r ≡ M.At x y c → (u v : ℤ) → u ≡ x → v ≡ y → gives (u ∷ v ∷ []) ≡ d
+moved-two k e u v p q = rw (p, q) (rw e at k)
+
+pub moved-no : {r : Moved} {d : Answer (List ℤ)} {n p : ℕ} → movedIs r ≡ d → r ≡ M.Refused n p → refuses n p ≡ d
+moved-no k e = rw e at k
+
+pub next-four : {r : NextPeriod} {d : Answer Reply} {x y z w : ℤ} → nextIs r ≡ d → r ≡ N.Is x y z w
+    → (a b e f : ℤ) → a ≡ x → b ≡ y → e ≡ z → f ≡ w → gives (a ∷ b ∷ e ∷ f ∷ []) ≡ said d
+next-four k h a b e f p q u v = rw (p, q, u, v) (ap said (rw h at k))
+
+pub next-no : {r : NextPeriod} {d : Answer Reply} {n p : ℕ} → nextIs r ≡ d → r ≡ N.Refused n p → refuses n p ≡ said d
+next-no k h = ap said (rw h at k)
+
+pub previous-four : {r : PreviousPeriod} {d : Answer Reply} {x y z w : ℤ} → previousIs r ≡ d → r ≡ P.Is x y z w
+    → (a b e f : ℤ) → a ≡ x → b ≡ y → e ≡ z → f ≡ w → gives (a ∷ b ∷ e ∷ f ∷ []) ≡ said d
+previous-four k h a b e f p q u v = rw (p, q, u, v) (ap said (rw h at k))
+
+pub previous-no : {r : PreviousPeriod} {d : Answer Reply} {n p : ℕ} → previousIs r ≡ d → r ≡ P.Refused n p → refuses n p ≡ said d
+previous-no k h = ap said (rw h at k)
+
+-- ---- by the kind of the question
+
+module _ (k : ℕ) (s : Schedule) (a b c d : ℤ) {x : Answer (List ℤ)} where
+  pub as-time : k ≡ 0 → x ≡ said (betweenCall s a b c d) → x ≡ asked k s a b c d
+  unfolding asked
+  as-time h e = rw (eq-eqb k 0 h) e
+
+  pub as-add : (k ≡ 0 → ⊥) → k ≡ 1 → x ≡ said (moveCall on s a b c d) → x ≡ asked k s a b c d
+  unfolding asked
+  as-add f h e = rw (ne-eqb k 0 f, eq-eqb k 1 h) e
+
+  pub as-sub : (k ≡ 0 → ⊥) → (k ≡ 1 → ⊥) → k ≡ 2 → x ≡ said (moveCall back s a b c d) → x ≡ asked k s a b c d
+  unfolding asked
+  as-sub f g h e = rw (ne-eqb k 0 f, ne-eqb k 1 g, eq-eqb k 2 h) e
+
+  pub as-next : (k ≡ 0 → ⊥) → (k ≡ 1 → ⊥) → (k ≡ 2 → ⊥) → k ≡ 3 → x ≡ said (periodCall on s a b) → x ≡ asked k s a b c d
+  unfolding asked
+  as-next f g i h e = rw (ne-eqb k 0 f, ne-eqb k 1 g, ne-eqb k 2 i, eq-eqb k 3 h) e
+
+  pub as-previous : (k ≡ 0 → ⊥) → (k ≡ 1 → ⊥) → (k ≡ 2 → ⊥) → (k ≡ 3 → ⊥) → x ≡ said (periodCall back s a b) → x ≡ asked k s a b c d
+  unfolding asked
+  as-previous f g i h e = rw (ne-eqb k 0 f, ne-eqb k 1 g, ne-eqb k 2 i, ne-eqb k 3 h) e
+
+-- ---- writing
+
+module _ (i : ℕ) (e : List ℤ) {r : Told} where
+  pub two-put : {p q : ℤ} → r ≡ A.Two p q → (a b : ℤ) → a ≡ p → b ≡ q → set (set e i a) (i + 1) b ≡ writtenAt i (toldIs r) e
+  unfolding written
+  two-put t a b h k = rw (t, h, k)
+
+  pub four-put : {p q x y : ℤ} → r ≡ A.Four p q x y → (a b c d : ℤ) → a ≡ p → b ≡ q → c ≡ x → d ≡ y
+      → set (set (set (set e i a) (i + 1) b) (i + 1 + 1) c) (i + 1 + 1 + 1) d ≡ writtenAt i (toldIs r) e
+  unfolding written
+  four-put t a b c d h k l m = rw (t, h, k, l, m)
+
+  pub refused-put : {n p : ℕ} → r ≡ A.Refused n p → (a : ℤ) → a ≡ pos n → set e i a ≡ writtenAt i (toldIs r) e
+  refused-put t a h = rw (t, h)
+
+-- one question answered, where each number fits
+pub turn-is : (k : ℕ) (s : Schedule) (i : ℕ) (e : List ℤ) (r : Told) {x : List ℤ}
+    → SFits w64 (getD e i (pos 0)) → SFits w64 (getD e (i + 1) (pos 0)) → SFits w64 (getD e (i + 1 + 1) (pos 0)) → SFits w64 (getD e (i + 1 + 1 + 1) (pos 0))
+    → toldIs r ≡ asked k s (toZ w64 (ofZ w64 (getD e i (pos 0)))) (toZ w64 (ofZ w64 (getD e (i + 1) (pos 0)))) (toZ w64 (ofZ w64 (getD e (i + 1 + 1) (pos 0))))
+    (toZ w64 (ofZ w64 (getD e (i + 1 + 1 + 1) (pos 0)))) → x ≡ writtenAt i (toldIs r) e → x ≡ answered k s i e
+unfolding answered
+turn-is k s i e r f g h j p q = q ∙ ap (λ l. writtenAt i l e) (rw (toZ-ofZ f, toZ-ofZ g, toZ-ofZ h, toZ-ofZ j) at p)
+
+-- ---- the questions, one after the other
+
+groups-turn : (k : ℕ) (s : Schedule) (n i : ℕ) (e : List ℤ) → 0 < n → groupsFrom k s n i e ≡ groupsFrom k s (n - 1) (i + 4) (answered k s i e)
+unfolding groupsFrom
+groups-turn k s zero i e h = absurd (omega arith)
+groups-turn k s (suc n) i e h = let p : n ≡ suc n - 1 = omega arith in ap (λ m. groupsFrom k s m (i + 4) (answered k s i e)) p
+
+pub groups-turned : (k : ℕ) (s : Schedule) (n i : ℕ) (e : List ℤ) {x g : List ℤ} → 0 < n → x ≡ answered k s i e → groupsFrom k s n i e ≡ g → groupsFrom k s (n - 1) (i + 4) x ≡ g
+groups-turned k s n i e h p q = ap (groupsFrom k s (n - 1) (i + 4)) p ∙ sym (groups-turn k s n i e h) ∙ q
+
+pub groups-none : (k : ℕ) (s : Schedule) (n i : ℕ) (e : List ℤ) → n ≤ 0 → groupsFrom k s n i e ≡ e
+unfolding groupsFrom
+groups-none k s zero i e h = refl
+groups-none k s (suc n) i e h = absurd (omega arith)
+
+lists-turn : (n : ℕ) (s : Schedule) (a b c d : ℤ) (e : List ℤ) → 0 < n → listed n s a b c d e ≡ listed (n - 1) s a b c d (numbersOf (listCall s a b c d e) e)
+unfolding listed
+lists-turn zero s a b c d e h = absurd (omega arith)
+lists-turn (suc n) s a b c d e h = let p : n ≡ suc n - 1 = omega arith in ap (λ m. listed m s a b c d (numbersOf (listCall s a b c d e) e)) p
+
+pub lists-turned : (n : ℕ) (s : Schedule) (a b c d : ℤ) (e : List ℤ) {x g : List ℤ} → 0 < n → x ≡ numbersOf (listCall s a b c d e) e → listed n s a b c d e ≡ g → listed (n - 1) s a b c d x ≡ g
+lists-turned n s a b c d e h p q = ap (listed (n - 1) s a b c d) p ∙ sym (lists-turn n s a b c d e h) ∙ q
+
+pub lists-none : (n : ℕ) (s : Schedule) (a b c d : ℤ) (e : List ℤ) → n ≤ 0 → listed n s a b c d e ≡ e
+unfolding listed
+lists-none zero s a b c d e h = refl
+lists-none (suc n) s a b c d e h = absurd (omega arith)
+
+-- ---- the book
+
+module _ (b p : List ℕ) (r : Built) {d : Answer Schedule} (e : answerIs b p r ≡ d) where
+  pub all-answered : (k : ℕ) (x : List ℤ) {y : List ℤ} → r .number ≡ 0 → y ≡ groups k (scheduleIs b p (r .schedule)) x → y ≡ groupsOf k d x
+  all-answered k x z q = rw (← e, eq-eqb (r .number) 0 z) q
+
+  pub none-answered : (k : ℕ) (x : List ℤ) → (r .number ≡ 0 → ⊥) → x ≡ groupsOf k d x
+  none-answered k x z = rw (← e, ne-eqb (r .number) 0 z)
+
+  pub all-listed : (n : ℕ) (a₁ a₂ b₁ b₂ : ℤ) (x : List ℤ) {y : List ℤ} → r .number ≡ 0 → y ≡ listed n (scheduleIs b p (r .schedule)) a₁ a₂ b₁ b₂ x → y ≡ listedOf n d a₁ a₂ b₁ b₂ x
+  all-listed n a₁ a₂ b₁ b₂ x z q = rw (← e, eq-eqb (r .number) 0 z) q
+
+  pub none-listed : (n : ℕ) (a₁ a₂ b₁ b₂ : ℤ) (x : List ℤ) → (r .number ≡ 0 → ⊥) → x ≡ listedOf n d a₁ a₂ b₁ b₂ x
+  none-listed n a₁ a₂ b₁ b₂ x z = rw (← e, ne-eqb (r .number) 0 z)
+
+  limit-yes : r .number ≡ 0 → r .schedule .limit ≡ limitIn d
+  limit-yes z = let h : r .schedule .limit ≡ (r .schedule .limit * second) / second = omega arith in rw (← e, eq-eqb (r .number) 0 z) h
+
+  limit-no : (r .number ≡ 0 → ⊥) → r .number ≡ limitIn d
+  limit-no z = rw (← e, ne-eqb (r .number) 0 z)
+
+module _ (book p part : List ℕ) (n : ℕ) (r : Built) (h : part ≡ take n (drop 0 book)) (e : answerIs part p r ≡ build part p) where
+  same : build part p ≡ build (take n book) p
+  same = ap (λ l. build l p) h
+
+  pub limit-is : r .number ≡ 0 → r .schedule .limit ≡ limitOf book p n
+  unfolding limitOf
+  limit-is z = limit-yes part p r e z ∙ ap limitIn same
+
+  pub limit-refused : (r .number ≡ 0 → ⊥) → r .number ≡ limitOf book p n
+  unfolding limitOf
+  limit-refused z = limit-no part p r e z ∙ ap limitIn same

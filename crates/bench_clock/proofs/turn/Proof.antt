@@ -1,0 +1,71 @@
+-- `turn` answers in place.
+use mathlib.Core.Path.{_∙_}
+use Rattle.bench_clock.proofs.Steps.{turn-is}
+use borrow.Author.Needs.{needs}
+use Rattle.bench_clock.proofs.turn.Statement.{statement}
+use Rattle.bench_clock.proofs.turn.Tie as tie
+
+add-j : tie.Need-add-j
+add-j c = search needs
+
+add-k : tie.Need-add-k
+add-k c = search needs
+
+add-l : tie.Need-add-l
+add-l c = search needs
+
+mul-answer : tie.Need-mul-answer
+mul-answer c = search needs
+
+slice-copy-out-answer : tie.Need-slice-copy-out-answer
+slice-copy-out-answer c = search needs
+
+mul-answer-2 : tie.Need-mul-answer-2
+mul-answer-2 c = search needs
+
+slice-copy-out-answer-2 : tie.Need-slice-copy-out-answer-2
+slice-copy-out-answer-2 c = search needs
+
+mul-answer-3 : tie.Need-mul-answer-3
+mul-answer-3 c = search needs
+
+slice-copy-out-answer-3 : tie.Need-slice-copy-out-answer-3
+slice-copy-out-answer-3 c = search needs
+
+mul-answer-4 : tie.Need-mul-answer-4
+mul-answer-4 c = search needs
+
+slice-copy-out-answer-4 : tie.Need-slice-copy-out-answer-4
+slice-copy-out-answer-4 c = search needs
+
+answer-requires : tie.Need-answer-requires
+answer-requires c κs = search needs
+
+put-requires : tie.Need-put-requires
+put-requires c κs = search needs
+
+same-length : tie.Need-same-length
+same-length c = search needs
+
+returns : tie.Need-returns
+returns c = turn-is _ _ _ _ (c .before .before .before .answer .result) (record { sfits = c .before .before .before .before .before .before .before .answer-arg .given }) (record { sfits = c .before .before .before .before .before .before .answer-arg2 .given }) (record { sfits = c .before .before .before .before .before .answer-arg3 .given }) (record { sfits = c .before .before .before .before .answer-arg4 .given }) (c .before .before .before .answer .ensures) (c .before .put .ensures)
+
+pub turn-spec : {M : Type 1} → statement M
+turn-spec =
+    tie.close
+    (tie.spec
+    add-j
+    add-k
+    add-l
+    mul-answer
+    slice-copy-out-answer
+    mul-answer-2
+    slice-copy-out-answer-2
+    mul-answer-3
+    slice-copy-out-answer-3
+    mul-answer-4
+    slice-copy-out-answer-4
+    answer-requires
+    put-requires
+    same-length
+    returns)

@@ -1,0 +1,226 @@
+// The calls for a program that times them (bench/clock): many answers, builds and listings of one book in a call, so that the book is built once
+// for all answers. What is asked stands in the lent numbers and the answers come in their place: so no two of them are known to be equal before.
+ghost use mathlib.Core.Path.{_≡_};
+ghost use mathlib.Core.List.{List};
+ghost use Prim.Native.Nat.{ℕ, _+_, _≤_};
+ghost use lib.ListN.{length, getD};
+ghost use lib.IntN.{ℤ};
+ghost use Rattle.laws.specs.Demand3.{said};
+ghost use Rattle.model.specs.Build as definition;
+ghost use Rattle.model.specs.Calls.{betweenCall, moveCall, periodCall};
+ghost use Rattle.model.specs.Walk as way;
+ghost use Rattle.rules.specs.Rules.{scheduleIs, ScheduleFits};
+ghost use Rattle.spend.specs.Spending.{wayOf};
+ghost use Rattle.bench_week.specs.Weeks.{Each};
+ghost use Rattle.bench_clock.specs.Asked.{toldIs, asked, writtenAt, answered, groups, groupsOf, limitOf, listed, listedOf};
+use period_calls::NextPeriod;
+use period_calls::PreviousPeriod;
+use rules::Schedule;
+use schedule::Moved;
+use schedule::TimeAnswer;
+
+// An answer: two numbers, four, or a refusal's number and place.
+pub enum Told {
+    Two(i64, i64),
+    Four(i64, i64, i64, i64),
+    Refused(u32, usize),
+}
+
+// ---- answers
+
+fn time(book: &[u8], pack: &[u8], s: Schedule, a: i64, b: i64, c: i64, d: i64) -> Told
+    requires { ⌜ ScheduleFits (now book) (now pack) s ⌝ }
+    ensures { λ r. ⌜ toldIs r ≡ said (betweenCall (scheduleIs (now (book .entry)) (now (pack .entry)) s) «a» «b» «c» «d») ⌝ }
+{
+    match schedule::between_in(book, pack, s, a, b, c, d) {
+        TimeAnswer::Is(sec, ns, _) => Told::Two(sec, ns),
+        TimeAnswer::Refused(number, place) => Told::Refused(number, place),
+    }
+}
+
+fn moved(book: &[u8], pack: &[u8], s: Schedule, back: bool, a: i64, b: i64, c: i64, d: i64) -> Told
+    requires { ⌜ ScheduleFits (now book) (now pack) s ⌝ }
+    ensures { λ r. ⌜ toldIs r ≡ said (moveCall (wayOf back) (scheduleIs (now (book .entry)) (now (pack .entry)) s) «a» «b» «c» «d») ⌝ }
+{
+    match schedule::move_in(book, pack, s, back, a, b, c, d) {
+        Moved::At(sec, ns, _) => Told::Two(sec, ns),
+        Moved::Refused(number, place) => Told::Refused(number, place),
+    }
+}
+
+fn next(book: &[u8], pack: &[u8], s: Schedule, a: i64, b: i64) -> Told
+    requires { ⌜ ScheduleFits (now book) (now pack) s ⌝ }
+    ensures { λ r. ⌜ toldIs r ≡ said (periodCall way.on (scheduleIs (now (book .entry)) (now (pack .entry)) s) «a» «b») ⌝ }
+{
+    match period_calls::next_in(book, pack, s, a, b) {
+        NextPeriod::Is(p, q, x, y) => Told::Four(p, q, x, y),
+        NextPeriod::Refused(number, place) => Told::Refused(number, place),
+    }
+}
+
+fn previous(book: &[u8], pack: &[u8], s: Schedule, a: i64, b: i64) -> Told
+    requires { ⌜ ScheduleFits (now book) (now pack) s ⌝ }
+    ensures { λ r. ⌜ toldIs r ≡ said (periodCall way.back (scheduleIs (now (book .entry)) (now (pack .entry)) s) «a» «b») ⌝ }
+{
+    match period_calls::previous_in(book, pack, s, a, b) {
+        PreviousPeriod::Is(p, q, x, y) => Told::Four(p, q, x, y),
+        PreviousPeriod::Refused(number, place) => Told::Refused(number, place),
+    }
+}
+
+// The answer to one question: kind 0 is between, 1 add, 2 sub, 3 the next period, any other the previous one. Periods do not look at c and d.
+fn answer(book: &[u8], pack: &[u8], s: Schedule, kind: u8, a: i64, b: i64, c: i64, d: i64) -> Told
+    requires { ⌜ ScheduleFits (now book) (now pack) s ⌝ }
+    ensures { λ r. ⌜ toldIs r ≡ asked kind (scheduleIs (now (book .entry)) (now (pack .entry)) s) «a» «b» «c» «d» ⌝ }
+{
+    if kind == 0 {
+        return time(book, pack, s, a, b, c, d);
+    }
+    if kind == 1 {
+        return moved(book, pack, s, false, a, b, c, d);
+    }
+    if kind == 2 {
+        return moved(book, pack, s, true, a, b, c, d);
+    }
+    if kind == 3 {
+        return next(book, pack, s, a, b);
+    }
+    previous(book, pack, s, a, b)
+}
+
+// Writes an answer's two or four numbers from i on; of a refusal its number.
+fn put(xs: &mut [i64], i: usize, r: Told)
+    requires { ⌜ i + 4 ≤ length (now xs) ⌝ }
+    ensures { λ _. ⌜ now (xs .exit) ≡ writtenAt i (toldIs r) (now (xs .entry)) ⌝ }
+{
+    match r {
+        Told::Two(p, q) => {
+            let j = i + 1;
+            xs[i] = p;
+            xs[j] = q;
+            return;
+        }
+        Told::Four(p, q, x, y) => {
+            let j = i + 1;
+            let k = j + 1;
+            let l = k + 1;
+            xs[i] = p;
+            xs[j] = q;
+            xs[k] = x;
+            xs[l] = y;
+            return;
+        }
+        Told::Refused(number, _) => {
+            xs[i] = number as i64;
+        }
+    }
+}
+
+// Answers the question whose four numbers begin at i, in their place.
+fn turn(book: &[u8], pack: &[u8], s: Schedule, kind: u8, xs: &mut [i64], i: usize)
+    requires { ⌜ ScheduleFits (now book) (now pack) s × (i + 4 ≤ length (now xs)) ⌝ }
+    ensures { λ _. ⌜ now (xs .exit) ≡ answered kind (scheduleIs (now (book .entry)) (now (pack .entry)) s) i (now (xs .entry)) ⌝ }
+{
+    let j = i + 1;
+    let k = j + 1;
+    let l = k + 1;
+    let r = answer(book, pack, s, kind, xs[i], xs[j], xs[k], xs[l]);
+    put(xs, i, r);
+}
+
+fn turns(book: &[u8], pack: &[u8], s: Schedule, kind: u8, xs: &mut [i64])
+    requires { ⌜ ScheduleFits (now book) (now pack) s ⌝ }
+    ensures { λ _. ⌜ now (xs .exit) ≡ groups kind (scheduleIs (now (book .entry)) (now (pack .entry)) s) (now (xs .entry)) ⌝ }
+{
+    let mut i: usize = 0;
+    let mut left = xs.len() / 4;
+    while 0 < left {
+        turn(book, pack, s, kind, xs, i);
+        i += 4;
+        left -= 1;
+    }
+}
+
+// Answers the questions of one kind, four numbers each, in their place. A book that is refused changes nothing.
+#[no_mangle]
+pub extern "C" fn bench_clock_answers(book: &[u8], pack: &[u8], kind: u8, xs: &mut [i64])
+    ensures { λ _. ⌜ now (xs .exit) ≡ groupsOf kind (definition.build (now (book .entry)) (now (pack .entry))) (now (xs .entry)) ⌝ }
+{
+    let b = build::build(book, pack);
+    if b.number != 0 {
+        return;
+    }
+    let s = b.schedule;
+    turns(book, pack, s, kind, xs);
+}
+
+// ---- builds
+
+// The search limit of the schedule of the book's first n bytes, in seconds, or the number of the refusal.
+fn limit(book: &[u8], pack: &[u8], n: u64) -> u64
+    ensures { λ r. ⌜ r ≡ limitOf (now (book .entry)) (now (pack .entry)) n ⌝ }
+{
+    let r = build::build(be::part(book, 0, n as usize), pack);
+    if r.number != 0 {
+        return r.number as u64;
+    }
+    let s = r.schedule;
+    s.limit
+}
+
+// Builds once for each of the numbers, which are lengths of the book, and puts the search limits in their place.
+#[no_mangle]
+pub extern "C" fn bench_clock_builds(book: &[u8], pack: &[u8], xs: &mut [u64])
+    ensures { λ _. ⌜ Each (limitOf (now (book .entry)) (now (pack .entry))) (now (xs .entry)) (now (xs .exit)) ⌝ }
+{
+    let mut i: usize = 0;
+    while i < xs.len() {
+        xs[i] = limit(book, pack, xs[i]);
+        i += 1;
+    }
+}
+
+// ---- listings
+
+fn lists(
+    book: &[u8],
+    pack: &[u8],
+    s: Schedule,
+    times: usize,
+    a: i64,
+    b: i64,
+    c: i64,
+    d: i64,
+    out: &mut [i64],
+)
+    requires { ⌜ ScheduleFits (now book) (now pack) s ⌝ }
+    ensures { λ _. ⌜ now (out .exit) ≡ listed times (scheduleIs (now (book .entry)) (now (pack .entry)) s) «a» «b» «c» «d» (now (out .entry)) ⌝ }
+{
+    let mut left = times;
+    while 0 < left {
+        listing::list_in(book, pack, s, a, b, c, d, out);
+        left -= 1;
+    }
+}
+
+// Lists the stretches from one instant to another, several times over the same numbers. A book that is refused changes nothing.
+#[no_mangle]
+pub extern "C" fn bench_clock_lists(
+    book: &[u8],
+    pack: &[u8],
+    times: usize,
+    a: i64,
+    b: i64,
+    c: i64,
+    d: i64,
+    out: &mut [i64],
+)
+    ensures { λ _. ⌜ now (out .exit) ≡ listedOf times (definition.build (now (book .entry)) (now (pack .entry))) «a» «b» «c» «d» (now (out .entry)) ⌝ }
+{
+    let r = build::build(book, pack);
+    if r.number != 0 {
+        return;
+    }
+    let s = r.schedule;
+    lists(book, pack, s, times, a, b, c, d, out);
+}

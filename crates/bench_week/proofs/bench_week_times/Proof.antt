@@ -1,0 +1,26 @@
+-- `bench_week_times` fills in the schedule that the book is.
+use Rattle.bench_week.proofs.Steps.{weeks-all, weeks-none}
+use borrow.Author.Needs.{needs}
+use Rattle.bench_week.proofs.bench_week_times.Statement.{statement}
+use Rattle.bench_week.proofs.bench_week_times.Tie as tie
+
+build-requires : tie.Need-build-requires
+build-requires c κs = search needs
+
+returns : tie.Need-returns
+returns c = weeks-none _ _ (c .before .before .build .result) (c .before .before .build .ensures .0) _ (c .if1 .taken)
+
+weeks-requires : tie.Need-weeks-requires
+weeks-requires c κs = (c .before .before .before .before .build .ensures) .1 (c .before .before .if1 .left)
+
+same-length : tie.Need-same-length
+same-length c = search needs
+
+returns-2 : tie.Need-returns-2
+returns-2 c =
+    weeks-all _ _ (c .before .before .before .before .before .before .before .build .result) (c .before .before .before .before .before .before .before .build .ensures .0)
+    (c .before .before .before .before .before .if1 .left) (c .before .before .weeks .ensures)
+
+pub bench-week-times-spec : {M : Type 1} → statement M
+bench-week-times-spec =
+    tie.close (tie.spec build-requires returns weeks-requires same-length returns-2)
