@@ -14,7 +14,7 @@ use Rattle.laws_base.specs.Test.{by-test, clash}
 use Rattle.laws_base.specs.Members.{any-in}
 use Rattle.laws_zone.specs.Changes.{any-none}
 use Rattle.laws_zone.specs.Sound.{Sound}
-use Rattle.laws_skip.specs.Local.{off-low, off-high, day-is, first-from, last-upto, first-near, last-near}
+use Rattle.laws.specs.Local.{off-low, off-high, day-is, first-from, last-upto, first-near, last-near}
 use Rattle.book.specs.Meaning.{dayAt, datesAt}
 use Rattle.laws_zone.specs.Zones.{fits-sound}
 use Rattle.rules.specs.Rules.{fileAt, holidaysIs, ClosedFits}

@@ -16,7 +16,7 @@ use Rattle.laws_base.specs.Test.{by-test}
 use Rattle.laws_zone.specs.Sound.{Sound}
 use Rattle.laws_zone.specs.Zones.{fits-sound}
 use Rattle.laws_zone.specs.Runs.{Run}
-use Rattle.laws_skip.specs.Local.{off, off-high}
+use Rattle.laws.specs.Local.{off, off-high}
 use Rattle.laws_skip.specs.Steady.{less, till, const-date}
 use Rattle.instant.specs.Instant.{nanos}
 use Rattle.instant.specs.declared.Instant.{Instant}

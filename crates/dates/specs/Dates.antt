@@ -11,7 +11,7 @@ use mathlib.Core.List.{List, []}
 use Rattle.model.specs.Blocks.{Block, put, clipped}
 use Rattle.model.specs.Working.{Rule, firstDate, lastDate, startOf, endOf}
 use Rattle.blocks.specs.declared.Block.{Block as Item}
-use Rattle.laws_skip.specs.Local.{off}
+use Rattle.laws.specs.Local.{off}
 use Rattle.instant.specs.Instant.{nanos}
 use Rattle.instant.specs.declared.Instant.{Instant}
 

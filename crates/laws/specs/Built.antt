@@ -78,16 +78,16 @@ or-done n p (some a) (value h) = done h
 
 -- ---- times of day
 
-abbrev HoursOk : Hours → Type 0
+abbrev pub HoursOk : Hours → Type 0
 HoursOk h = (h .from < day) × (h .to < day)
 
-abbrev BodyOk : Body → Type 0
+abbrev pub BodyOk : Body → Type 0
 BodyOk default = Unit {0}
 BodyOk (work h) = HoursOk h
 BodyOk (pause h) = HoursOk h
 BodyOk (holidays l) = Unit {0}
 
-abbrev EntryOk : Entry → Type 0
+abbrev pub EntryOk : Entry → Type 0
 EntryOk e = BodyOk (e .body)
 
 given-made : {A : Type 0} {P : A → Type 0} (c : Bool) (a : A) → (c ≡ true → P a) → Made P (given c a)
@@ -135,6 +135,9 @@ entries-made : (book : List ℕ) → Made (Each EntryOk) (entriesOf book)
 unfolding entriesOf
 entries-made book = next (partsOf book) (anything (partsOf book)) (λ l _. each-made entryOf entry-made l)
 
+pub entries-fit : (book : List ℕ) (l : List Entry) → entriesOf book ≡ some l → Each EntryOk l
+entries-fit book l e = made-is (entriesOf book) l (entries-made book) e
+
 -- ---- zones
 
 lookup-sound : (files : List Named) (e : Entry) → Done Sound (lookup files e)
@@ -149,6 +152,13 @@ default-sound files (some e) = lookup-sound files e
 
 rule-sound : (files : List Named) (z : Zone) → Sound z → (e : Entry) → Done Sound (ruleZone files z e)
 rule-sound files z s e = by-test (eqb (length (e .name)) 0) (λ p. rw p (done s)) (λ p. rw p (lookup-sound files e))
+
+-- the default zone and the zone of a record are sound where there are any
+pub default-is : (files : List Named) (o : Option Entry) (z : Zone) → defaultZone files o ≡ gives z → Sound z
+default-is files o z e = done-is (defaultZone files o) z (default-sound files o) e
+
+pub zone-is : (files : List Named) (z : Zone) → Sound z → (e : Entry) (y : Zone) → ruleZone files z e ≡ gives y → Sound y
+zone-is files z s e y p = done-is (ruleZone files z e) y (rule-sound files z s e) p
 
 each-append : {A : Type 0} (P : A → Type 0) (l k : List A) → Each P l → Each P k → Each P (l ++ k)
 each-append P [] k a b = b
@@ -238,7 +248,7 @@ module _ (P : Zone → Type 0) where
       goes (orRefuse 2 0 (given (withinLimits l) l)) (or-done 2 0 (given (withinLimits l) l) (anything (given (withinLimits l) l))) (λ _ _.
       goes (orRefuse 3 0 (packOf pack)) (or-done 3 0 (packOf pack) (made (packOf pack) (λ files g. g))) (λ files g.
       goes (defaultZone files (lastDefault none l)) (done-by (defaultZone files (lastDefault none l)) (λ z d. d)) (λ z d.
-      goes (rulesOf files z l) (rules-done files z l (made-is (entriesOf book) l (entries-made book) e) (f l files z e g d)) (λ s r.
+      goes (rulesOf files z l) (rules-done files z l (entries-fit book l e) (f l files z e g d)) (λ s r.
       or-done 6 0 (given (worksIn2001 s) s) (given-made (worksIn2001 s) s (λ _. r)))))))
 
 -- ---- books that build
@@ -257,7 +267,7 @@ of-rules P Q f s r = (each-map (Has P) Q f (s .work) (r .work), each-append Q (s
 
 pub built : (book pack : List ℕ) (s : Schedule) → build book pack ≡ gives s → Built s
 built book pack s e =
-    let r = done-is (build book pack) s (build-done Sound book pack (λ l files z _ _ d. used-sound files z (done-is (defaultZone files (lastDefault none l)) z (default-sound files (lastDefault none l)) d) l)) e in
+    let r = done-is (build book pack) s (build-done Sound book pack (λ l files z _ _ d. used-sound files z (default-is files (lastDefault none l) z d) l)) e in
     record { ok = of-rules Sound RuleOk (λ r h. record { sound = h .zone; from-day = h .from-day; to-day = h .to-day }) s r; limit = r .limit }
 
 -- what each zone of the book has, the zone of each rule has

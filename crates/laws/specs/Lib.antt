@@ -1,6 +1,7 @@
 pub mod Walks
 pub mod Distance
 pub mod Zones
+pub mod Local
 pub mod Windows
 pub mod Demand
 pub mod Built

@@ -4,23 +4,24 @@ use mathlib.Core.Path.{_≡_, refl, sym, _∙_, ap₂}
 use mathlib.Core.Bool.{Bool, true, false, not, _&&_, _||_}
 use mathlib.Core.List.{List, [], _∷_, _++_, map}
 use mathlib.Core.Logic.{_⊎_, inl, inr, ⊎-elim}
-use Prim.Native.Nat.{ℕ, zero, suc, _+_, _*_, _-_, _/_, _%_, _≤_, _<_}
+use Prim.Native.Nat.{ℕ, zero, suc, _+_, _*_, _-_, _/_, _≤_, _<_}
 use native.Mathlib.Omega.{arith}
 use lib.Dec.{leb, ltb, eqb}
-use borrow.Author.Tests.{ltb-true, ltb-false, leb-true, leb-false, lt-ltb, le-ltb, le-leb, eqb-true, eqb-false}
+use borrow.Author.Tests.{ltb-true, ltb-false, leb-true, lt-ltb, le-leb, eqb-true, eqb-false}
 use Rattle.model.specs.Basic.{filter, run, joined}
-use Rattle.model.specs.Calendar.{firstDay, lastDay, dayOfYearZero}
+use Rattle.model.specs.Calendar.{firstDay, lastDay}
 use Rattle.model.specs.Instant.{second, day, firstInstant, lastInstant}
 use Rattle.model.specs.Tzif.{Zone}
-use Rattle.model.specs.Zone.{offsetAt, secondOf, resolve}
+use Rattle.model.specs.Zone.{offsetAt, resolve}
 use Rattle.model.specs.Blocks.{Block, clipped}
 use Rattle.model.specs.Working.{Rule, Schedule, holidayRule, localDay, firstDate, lastDate, localDates, startOf, endOf, blocksOf, blocksOfAll, working}
 use Rattle.laws_base.specs.Test.{by-test, clash, and-both}
 use Rattle.laws_blocks.specs.Lists.{Lists}
 use Rattle.laws_blocks.specs.Members.{In, covers, NonEmpty, in-covers, not-covers, append-in, append-nonempty, clipped-in, clipped-nonempty}
 use Rattle.laws_blocks.specs.Left.{left-lists}
-use Rattle.laws_zone.specs.Sound.{Sound, Near, dawn}
+use Rattle.laws_zone.specs.Sound.{Sound, Near}
 use Rattle.laws.specs.Zones.{Each}
+use Rattle.laws.specs.Local.{raw, InRange, kept, early, late, raw-takes, in-range, first-from, last-upto}
 
 -- what every rule of a built book has
 pub record RuleOk (r : Rule) : Type 0 where
@@ -40,34 +41,6 @@ NearRule r = Near (r .zone)
 
 -- ---- local times
 
--- the instant of a local time before it is brought into the range
-abbrev raw : Zone → ℕ → ℕ → ℕ
-raw z d time = secondOf z (d * 86400 + time / second + 93600) * second + time % second
-
--- it is the local time less an offset of the zone
-raw-some : (z : Zone) → Sound z → (d time : ℕ) → firstDay ≤ d → (w : ℕ) × (dawn ≤ w) × (raw z d time + offsetAt z w * second ≡ d * day + time + 93600 * second)
-raw-some z s d time h =
-    let k = s .some (d * 86400 + time / second + 93600) (omega arith) in
-    let k2 = k .2 in
-    (k .0, k .1, omega arith)
-
--- brought into the range
-data InRange (r : ℕ) : ℕ → Type 0 where
-  kept : firstInstant ≤ r → r ≤ lastInstant → InRange r r
-  early : r < firstInstant → InRange r firstInstant
-  late : lastInstant < r → InRange r lastInstant
-
-in-range : (z : Zone) → Sound z → (d time : ℕ) → firstDay ≤ d → d ≤ lastDay → time < day → InRange (raw z d time) (resolve z d time)
-unfolding resolve
-in-range z s d time a b c =
-    let k = raw-some z s d time a in let e = k .2 in
-    let h = s .high (k .0) in let l = s .low (k .0) in
-    by-test (leb firstInstant (raw z d time))
-    (λ p. by-test (leb (raw z d time) lastInstant)
-    (λ q. rw (p, q) (kept (leb-true firstInstant (raw z d time) p) (leb-true (raw z d time) lastInstant q)))
-    (λ q. let v = leb-false (raw z d time) lastInstant q in rw (p, q, le-ltb d dayOfYearZero (omega arith)) (late v)))
-    (λ p. let v = leb-false firstInstant (raw z d time) p in rw (p, lt-ltb d dayOfYearZero (omega arith)) (early v))
-
 -- the local date at an instant
 day-low : (z : Zone) → Sound z → (t : ℕ) → firstInstant ≤ t → localDay z t * day + 93600 * second ≤ t + offsetAt z (t / second) * second
 unfolding localDay
@@ -80,9 +53,6 @@ day-high z t = omega arith
 day-last : (z : Zone) → Sound z → (t : ℕ) → t ≤ lastInstant → localDay z t ≤ lastDay
 unfolding localDay
 day-last z s t h = let a = s .high (t / second) in omega arith
-
-day-first : (z : Zone) → Sound z → (t : ℕ) → firstInstant ≤ t → firstDay ≤ localDay z t
-day-first z s t h = let a = s .low (t / second) in let b = day-high z t in omega arith
 
 day-third : (z : Zone) → Sound z → (t : ℕ) → (firstDay + 5) * day ≤ t → firstDay + 2 ≤ localDay z t
 day-third z s t h = let a = s .low (t / second) in let b = day-high z t in omega arith
@@ -208,22 +178,6 @@ module _ (r : Rule) where
 -- ---- a rule's dates near a window
 
 module _ (r : Rule) (ok : RuleOk r) where
-  first-from : (lo : ℕ) → firstInstant ≤ lo → firstDay ≤ firstDate (r .zone) lo
-  unfolding firstDate
-  first-from lo h =
-      let q = day-first (r .zone) (ok .sound) lo h in
-      by-test (leb (firstDay + 2) (localDay (r .zone) lo))
-      (λ p. rw p (omega (arith, leb-true (firstDay + 2) (localDay (r .zone) lo) p)))
-      (λ p. rw p q)
-
-  last-upto : (hi : ℕ) → hi ≤ lastInstant → lastDate (r .zone) hi ≤ lastDay
-  unfolding lastDate
-  last-upto hi h =
-      let q = day-last (r .zone) (ok .sound) hi h in
-      by-test (ltb (localDay (r .zone) hi) lastDay)
-      (λ p. rw p (omega (arith, ltb-true (localDay (r .zone) hi) lastDay p)))
-      (λ p. rw p q)
-
   module _ (near : NearRule r) where
     below : (hi x y : ℕ) → hi ≤ lastInstant → InRange x y → y < hi → x < hi
     below hi x y l (kept a b) h = h
@@ -234,7 +188,7 @@ module _ (r : Rule) (ok : RuleOk r) where
     start-near : (d u hi : ℕ) → firstDay ≤ d → d ≤ lastDay → startOf r d ≤ u → u < hi → hi ≤ lastInstant → firstInstant ≤ hi → d ≤ lastDate (r .zone) hi
     unfolding startOf lastDate
     start-near d u hi a b s t l m =
-        let k = raw-some (r .zone) (ok .sound) d (r .from) a in
+        let k = raw-takes (r .zone) (ok .sound) d (r .from) a in
         let e = k .2 in
         let f = near (k .0) (hi / second) (k .1) (omega arith) in
         let g = below hi (raw (r .zone) d (r .from)) (resolve (r .zone) d (r .from)) l (in-range (r .zone) (ok .sound) d (r .from) a b (ok .from-day)) (omega arith) in
@@ -251,7 +205,7 @@ module _ (r : Rule) (ok : RuleOk r) where
 
     reaches : (d k lo : ℕ) → k ≤ d + 1 → firstDay ≤ k → k ≤ lastDay → firstInstant ≤ lo → lo < resolve (r .zone) k (r .to) → localDay (r .zone) lo - 2 ≤ d
     reaches d k lo c e f l g =
-        let w = raw-some (r .zone) (ok .sound) k (r .to) e in
+        let w = raw-takes (r .zone) (ok .sound) k (r .to) e in
         let v = w .2 in
         let y = near (lo / second) (w .0) (omega arith) (w .1) in
         let o = ok .to-day in
@@ -277,8 +231,8 @@ module _ (r : Rule) (ok : RuleOk r) where
     rule-covers lo hi u a b c e =
         let f = firstDate (r .zone) lo in
         let g = lastDate (r .zone) hi in
-        let x = first-from lo (omega arith) in
-        let y = last-upto hi b in
+        let x = first-from (r .zone) (ok .sound) lo (omega arith) in
+        let y = last-upto (r .zone) (ok .sound) hi b in
         by-test (holdsFrom r (lastDay + 1 - firstDay) firstDay u)
         (λ p. let k = from-holds r (lastDay + 1 - firstDay) firstDay u p in
         let k1 = k .1 in let k2 = k .2 in

@@ -23,8 +23,9 @@ use Rattle.laws_blocks.specs.Move.{moves}
 use Rattle.laws_zone.specs.Sound.{Sound}
 use Rattle.laws.specs.Zones.{Each}
 use Rattle.laws.specs.Windows.{RuleOk, OfRules, offRules}
+use Rattle.laws.specs.Built.{HoursOk, BodyOk, EntryOk, entries-fit, default-is, zone-is}
 use Rattle.laws_skip.specs.Steady.{WeeklyRules, shift-weekly, repeats-week, each-both}
-use Rattle.laws_skip.specs.Records.{step-gave, or-gave, test-gave, HoursFit, BodyFits, EntryFits, entries-fit, default-sound, rule-sound}
+use Rattle.laws_skip.specs.Records.{step-gave, or-gave, test-gave}
 use Rattle.laws_skip.specs.Counts.{Few, work-seven, off-seven, working-seven}
 use Rattle.laws_skip.specs.Skips.{fresh, skipTime, skipIn, Answers}
 use Rattle.laws_skip.specs.Loops.{timeRest, time-start, searchRest, search-start}
@@ -49,14 +50,14 @@ one-more : {a b : ℕ} → a ≡ b → suc a ≡ 1 + b
 one-more p = omega arith
 
 -- a shift's rule is right, and a holiday's
-shift-ok : (z : Zone) (h : Hours) → Sound z → HoursFit h → RuleOk (shiftRule z h)
+shift-ok : (z : Zone) (h : Hours) → Sound z → HoursOk h → RuleOk (shiftRule z h)
 shift-ok z h s f = record { sound = s; from-day = f .0; to-day = f .1 }
 
 free-ok : (h : Holidays) → Sound (h .zone) → RuleOk (holidayRule h)
 free-ok h s = record { sound = s; from-day = omega arith; to-day = omega arith }
 
 module _ (files : List Named) (z : Zone) (sound : Sound z) where
-  made-more : (e : Entry) (b : Body) → e .body ≡ b → BodyFits b → (l : List Entry) (y : Zone) → zoneUsed files z e b ≡ gives y → (s : Schedule) → Made s l → Made (withRule b y s) (e ∷ l)
+  made-more : (e : Entry) (b : Body) → e .body ≡ b → BodyOk b → (l : List Entry) (y : Zone) → zoneUsed files z e b ≡ gives y → (s : Schedule) → Made s l → Made (withRule b y s) (e ∷ l)
   unfolding sum
   made-more e default p f l y u s m = record {
     work-ok = m .work-ok;
@@ -69,7 +70,7 @@ module _ (files : List Named) (z : Zone) (sound : Sound z) where
     enough = m .enough;
   }
   made-more e (work h) p f l y u s m = record {
-    work-ok = (shift-ok y h (rule-sound files z sound e y u) f, m .work-ok);
+    work-ok = (shift-ok y h (zone-is files z sound e y u) f, m .work-ok);
     breaks-ok = m .breaks-ok;
     holidays-ok = m .holidays-ok;
     weekly = ((shift-weekly y h, m .weekly .0), m .weekly .1);
@@ -80,7 +81,7 @@ module _ (files : List Named) (z : Zone) (sound : Sound z) where
   }
   made-more e (pause h) p f l y u s m = record {
     work-ok = m .work-ok;
-    breaks-ok = (shift-ok y h (rule-sound files z sound e y u) f, m .breaks-ok);
+    breaks-ok = (shift-ok y h (zone-is files z sound e y u) f, m .breaks-ok);
     holidays-ok = m .holidays-ok;
     weekly = (m .weekly .0, (shift-weekly y h, m .weekly .1));
     work-many = rw p (no-more (m .work-many));
@@ -91,7 +92,7 @@ module _ (files : List Named) (z : Zone) (sound : Sound z) where
   made-more e (holidays d) p f l y u s m = record {
     work-ok = m .work-ok;
     breaks-ok = m .breaks-ok;
-    holidays-ok = (free-ok (record { zone = y; dates = distinct d }) (rule-sound files z sound e y u), m .holidays-ok);
+    holidays-ok = (free-ok (record { zone = y; dates = distinct d }) (zone-is files z sound e y u), m .holidays-ok);
     weekly = m .weekly;
     work-many = rw p (no-more (m .work-many));
     breaks-many = rw p (no-more (m .breaks-many));
@@ -99,7 +100,7 @@ module _ (files : List Named) (z : Zone) (sound : Sound z) where
     enough = (let a = m .enough in omega arith);
   }
 
-  rules-made : (l : List Entry) → Each EntryFits l → (s : Schedule) → rulesOf files z l ≡ gives s → Made s l
+  rules-made : (l : List Entry) → Each EntryOk l → (s : Schedule) → rulesOf files z l ≡ gives s → Made s l
   unfolding rulesOf sum
   rules-made [] f s e =
       let p : noRules ≡ s = cc in
@@ -132,7 +133,7 @@ within-few l e =
 pub rules-well : (book : List ℕ) (l : List Entry) → entriesOf book ≡ some l → withinLimits l ≡ true
     → (files : List Named) (z : Zone) → defaultZone files (lastDefault none l) ≡ gives z → (s : Schedule) → rulesOf files z l ≡ gives s → BuiltWell s
 rules-well book l e lim files z d s r =
-    let m = rules-made files z (default-sound files (lastDefault none l) z d) l (entries-fit book l e) s r in
+    let m = rules-made files z (default-is files (lastDefault none l) z d) l (entries-fit book l e) s r in
     let w = within-few l lim in
     let w0 = w .0 in let w1 = w .1 in let w2 = w .2 in
     let a = m .work-many in let b = m .breaks-many in let c = m .holidays-many in let i = m .enough in

@@ -19,7 +19,7 @@ use Rattle.laws_blocks.specs.Count672.{left-length}
 use Rattle.laws.specs.Zones.{Each}
 use Rattle.laws.specs.Windows.{RuleOk, OfRules, offRules, all-nonempty}
 use Rattle.laws_skip.specs.Steady.{each-apart}
-use Rattle.laws_skip.specs.Local.{off-low, off-high, day-is, first-near, last-near}
+use Rattle.laws.specs.Local.{off-low, off-high, day-is, first-near, last-near}
 
 -- ---- dates
 

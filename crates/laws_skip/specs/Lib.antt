@@ -1,4 +1,3 @@
-pub mod Local
 pub mod Steady
 pub mod Edges
 pub mod Skips

@@ -18,7 +18,7 @@ use Rattle.laws_zone.specs.Changes.{any-none, none-any, same-steady}
 use Rattle.laws_zone.specs.Sound.{Sound}
 use Rattle.laws.specs.Zones.{Each}
 use Rattle.laws.specs.Windows.{RuleOk, OfRules}
-use Rattle.laws_skip.specs.Local.{off-low, off-high, day-is, first-near, first-upto, last-near, last-from}
+use Rattle.laws.specs.Local.{off-low, off-high, day-is, first-near, first-upto, last-near, last-from}
 use Rattle.laws_skip.specs.Steady.{all-head, each-apart, each-both}
 
 -- the borders from t to u, whole weeks apart

@@ -25,7 +25,7 @@ use Rattle.laws_zone.specs.Sound.{Sound}
 use Rattle.laws_blocks.specs.Move.{moves, moves-append, clipped-moved, union-moved, subtract-moved}
 use Rattle.laws.specs.Zones.{Each}
 use Rattle.laws.specs.Windows.{RuleOk, OfRules}
-use Rattle.laws_skip.specs.Local.{bias, off, raw, InRange, kept, early, late, off-low, off-high, raw-some, raw-least, in-range, same-off, day-is, first-from, last-upto, first-upto, last-from}
+use Rattle.laws.specs.Local.{bias, off, raw, InRange, kept, early, late, off-low, off-high, raw-some, raw-least, in-range, same-off, day-is, first-from, last-upto, first-upto, last-from}
 
 -- ---- clipped blocks
 

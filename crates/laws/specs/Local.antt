@@ -5,14 +5,13 @@ use Prim.Native.Nat.{ℕ, _+_, _*_, _-_, _/_, _%_, _≤_, _<_}
 use native.Mathlib.Omega.{arith}
 use lib.Dec.{leb, ltb}
 use borrow.Author.Tests.{leb-true, leb-false, lt-ltb, le-ltb, ltb-true}
-use Rattle.model.specs.Basic.{if_then_else_}
 use Rattle.model.specs.Calendar.{firstDay, lastDay, dayOfYearZero}
 use Rattle.model.specs.Instant.{second, day, firstInstant, lastInstant}
 use Rattle.model.specs.Tzif.{Zone}
 use Rattle.model.specs.Zone.{offsetAt, secondOf, resolve, steady}
 use Rattle.model.specs.Working.{localDay, firstDate, lastDate}
 use Rattle.laws_base.specs.Test.{by-test}
-use Rattle.laws_zone.specs.Sound.{Sound}
+use Rattle.laws_zone.specs.Sound.{Sound, dawn}
 
 -- offsets are kept with 26 hours added
 abbrev pub bias : ℕ
@@ -42,13 +41,19 @@ module _ (z : Zone) (s : Sound z) where
   off-high t = let h = s .high (t / second) in omega arith
 
   -- a local time takes that time less an offset of the zone
-  pub raw-some : (d time : ℕ) → firstDay ≤ d → (w : ℕ) × (raw z d time + off z w ≡ d * day + time + bias)
-  unfolding raw off
-  raw-some d time h =
+  pub raw-takes : (d time : ℕ) → firstDay ≤ d → (w : ℕ) × (dawn ≤ w) × (raw z d time + offsetAt z w * second ≡ d * day + time + bias)
+  unfolding raw
+  raw-takes d time h =
       let k = s .some (d * 86400 + time / second + 93600) (omega arith) in
-      let e : (k .0 * second) / second ≡ k .0 = omega arith in
       let k2 = k .2 in
-      (k .0 * second, rw e (omega arith))
+      (k .0, k .1, omega arith)
+
+  pub raw-some : (d time : ℕ) → firstDay ≤ d → (w : ℕ) × (raw z d time + off z w ≡ d * day + time + bias)
+  unfolding off
+  raw-some d time h =
+      let k = raw-takes d time h in
+      let e : (k .0 * second) / second ≡ k .0 = omega arith in
+      (k .0 * second, rw e (k .2))
 
   -- the least instant that reads so, if there is one
   pub raw-least : (u d time : ℕ) → firstDay ≤ d → u + off z u ≡ d * day + time + bias → (raw z d time + off z (raw z d time) ≡ d * day + time + bias) × (raw z d time ≤ u)
