@@ -5,20 +5,23 @@ usage: zone_answers.py ZONEINFO OUT
 
 ZONEINFO is a folder of compiled zone files (Debian's package tzdata installs one), OUT the folder to write to. zones.bin is a zone pack in
 document 01's layout with the zones named below and one made here, whose offsets lie at both limits. answers-KKK.bin belongs to record KKK of the
-pack: pairs of signed 64-bit numbers, a local second (counted as if it were UTC) and the second that it is, big-endian. A zone that is refused
-has an empty file of answers.
+pack: pairs of signed 64-bit numbers, a local second (counted as if it were UTC) and the second that it is, big-endian; then pairs of a second with
+656,384,508,000 added, which is beyond the local times, and the second of the next change of the offset after it. A zone that is refused has an empty
+file of answers.
 
 The answers for real zones come from Python's zoneinfo, which reads the same files with code of its own: fold=0 gives the earlier of two repeated
 times, and for a skipped time the offset before the change. zoneinfo takes no offset of 24 hours or more, so those for the made zone come from a
-search over every offset of it, written here from RFC 8536 and document 01.
+search over every offset of it, written here from RFC 8536 and document 01. Changes of the offset are looked for from 1900 to 2100 between the table's
+transitions and the first days of all months.
 """
-import datetime, os, struct, sys
+import bisect, datetime, os, struct, sys
 from zoneinfo import ZoneInfo
 
 REAL = ["Europe/Berlin", "America/New_York", "Asia/Kolkata", "Pacific/Apia", "Australia/Lord_Howe", "Africa/Casablanca", "America/Nuuk",
         "Europe/Dublin", "Antarctica/Troll", "Asia/Kathmandu"]
 EPOCH = datetime.datetime(1970, 1, 1)
 YEARS = range(1900, 2101)
+BEYOND = 656384508000   # added to a second whose next change is stored
 
 
 def parse(f):
@@ -40,13 +43,20 @@ def by_zoneinfo(zone, local):
     return local - int(wall.replace(tzinfo=zone, fold=0).utcoffset().total_seconds())
 
 
-def by_search(times, offs, initial, local):
+def in_table(times, offs, initial):
     def off(u):
-        o = initial
-        for t, p in zip(times, offs):
-            if t <= u:
-                o = p
-        return o
+        i = bisect.bisect_right(times, u)
+        return offs[i - 1] if i else initial
+    return off
+
+
+def in_zone(zone):
+    utc = EPOCH.replace(tzinfo=datetime.timezone.utc)
+    return lambda u: int((utc + datetime.timedelta(seconds=u)).astimezone(zone).utcoffset().total_seconds())
+
+
+def by_search(times, offs, initial, local):
+    off = in_table(times, offs, initial)
     reads = [local - o for o in set(offs) | {initial} if off(local - o) == o]
     if reads:
         return min(reads)
@@ -75,6 +85,30 @@ def locals_of(times, offs, initial):
     return sorted(out)
 
 
+def changes_of(off, times):
+    """the seconds from 1900 to 2100 at which the offset is another than a second before"""
+    firsts = [int((datetime.datetime(y, m, 1) - EPOCH).total_seconds()) for y in YEARS for m in range(1, 13)]
+    inside = [t for t in times if firsts[0] < t < firsts[-1]]
+    points = sorted(set(firsts) | set(inside) | {t - 1 for t in inside})
+    out = []
+    for a, b in zip(points, points[1:]):
+        before = off(a)
+        if before != off(b):
+            while b - a > 1:
+                middle = (a + b) // 2
+                a, b = (middle, b) if off(middle) == before else (a, middle)
+            out.append(b)
+    return out
+
+
+def next_pairs(off, times):
+    """about each change, and every tenth year, a second and the next change after it"""
+    changes = changes_of(off, times)
+    first = int((datetime.datetime(YEARS[0], 1, 1) - EPOCH).total_seconds())
+    asked = {first + 315576000 * k for k in range(20)} | {u for c in changes for u in (c - 1, c)}
+    return [(u + BEYOND, changes[bisect.bisect_right(changes, u)]) for u in sorted(asked) if changes and u < changes[-1]]
+
+
 def made():
     """a zone without footer whose offsets lie at both limits"""
     times = [-10 ** 9, 0, 10 ** 8, 10 ** 9, 10 ** 9 + 100000]
@@ -101,9 +135,10 @@ def main(folder, out):
         pairs = []
         if name == "Made/Limits":
             pairs = [(x, by_search(times, offs, initial, x)) for x in locals_of(times, offs, initial)]
+            pairs += next_pairs(in_table(times, offs, initial), times)
         elif name != "America/Nuuk":   # its rule time is -1 hours: refused
             zone = ZoneInfo.from_file(open(os.path.join(folder, name), "rb"))
-            pairs = [(x, by_zoneinfo(zone, x)) for x in locals_of(times, offs, initial)]
+            pairs = [(x, by_zoneinfo(zone, x)) for x in locals_of(times, offs, initial)] + next_pairs(in_zone(zone), times)
         open(os.path.join(out, f"answers-{k:03}.bin"), "wb").write(b"".join(struct.pack(">qq", *p) for p in pairs))
         print(name, len(f), "bytes,", len(times), "changes,", len(pairs), "answers")
 

@@ -6,8 +6,8 @@ usage: zone_survey.py ZONEINFO [PROGRAM [DAMAGED]]
 ZONEINFO is a folder of compiled zone files (Debian's package tzdata installs one). Every file below it is a record of a zone pack, under its path
 in the folder; a pack has at most 1,024 records and 65,536 bytes, so there are many. The judgement below is written from document 01 and RFC 8536
 and shares nothing with the crates. PROGRAM is zone_test as `rt check zone_test` builds it (target/bin/zone_test): it is run on each pack, and what
-it calls usable is compared. Beside a pack lie answers of Python's zoneinfo for local times about every change and four times a year (made as
-zone_answers.py makes them), which the program compares. DAMAGED is a number of files more, made from those that are usable by changing, dropping
+it calls usable is compared. Beside a pack lie answers of Python's zoneinfo for local times about every change and four times a year, and in a second
+run for the next change of the offset (made as zone_answers.py makes them), which the program compares. DAMAGED is a number of files more, made from those that are usable by changing, dropping
 or adding a byte, from a fixed seed, and as many files whose footers are put together at random from good and bad parts: they are judged and
 compared too, without answers.
 
@@ -17,7 +17,7 @@ differs.
 import collections, io, os, random, re, struct, subprocess, sys, tempfile
 from zoneinfo import ZoneInfo
 sys.dont_write_bytecode = True
-from zone_answers import by_zoneinfo, locals_of, parse
+from zone_answers import by_zoneinfo, in_zone, locals_of, next_pairs, parse
 
 NAME = rb"(?:[A-Za-z]{3,}|<[A-Za-z0-9+-]{3,}>)"
 CLOCK = rb"[0-9]{1,2}(?::[0-9]{2}(?::[0-9]{2})?)?"
@@ -199,7 +199,15 @@ def answers(f, known={}):
     return known[f]
 
 
-def run(program, files, asked):
+def next_answers(f, known={}):
+    """pairs of a second and the next change after it"""
+    if f not in known:
+        zone = ZoneInfo.from_file(io.BytesIO(f))
+        known[f] = b"".join(struct.pack(">qq", *p) for p in next_pairs(in_zone(zone), parse(f)[0]))
+    return known[f]
+
+
+def run(program, files, asked, answers):
     """what the program says of each file: whether it is usable, and how many answers are equal and how many are not"""
     said = {}
     for part in packs_of(files):
@@ -230,12 +238,17 @@ def report(title, files, program, whole):
             print("    " + " ".join(x for x in judged if judged[x] == r))
     if program is None:
         return 0
-    said = run(program, files, {n for n in judged if whole and judged[n] is None})
+    asked = {n for n in judged if whole and judged[n] is None}
+    said = run(program, files, asked, answers)
     differ = [n for n in judged if said[n][0] != (judged[n] is None)]
     print(f"  the program judges {len(differ)} otherwise: {' '.join(differ)}")
     wrong = [n for n in judged if said[n][2] != 0]
     if whole:
         print(f"  answers: {sum(x[1] for x in said.values())} equal, {sum(x[2] for x in said.values())} different: {' '.join(wrong)}")
+        said = run(program, files, asked, next_answers)
+        late = [n for n in judged if said[n][2] != 0]
+        print(f"  next changes: {sum(x[1] for x in said.values())} equal, {sum(x[2] for x in said.values())} different: {' '.join(late)}")
+        wrong += late
     return len(differ) + len(wrong)
 
 

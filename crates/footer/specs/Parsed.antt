@@ -1,14 +1,9 @@
 -- What the answers of the code mean: a place stands for the text from there on.
-use mathlib.Core.Bool.{Bool, true, false}
 use mathlib.Core.Option.{Option, none, some}
 use mathlib.Core.List.{List}
-use Prim.Native.Nat.{ℕ, _-_}
+use Prim.Native.Nat.{ℕ}
 use lib.ListN.{drop}
 use Rattle.model.specs.Footer as model
-use Rattle.footer.specs.declared.Num.{Num}
-use Rattle.footer.specs.declared.Num.the-variants.{Val, Bad}
-use Rattle.footer.specs.declared.Skip.{Skip}
-use Rattle.footer.specs.declared.Skip.the-variants.{To, Not}
 use Rattle.footer.specs.declared.Day.{Day}
 use Rattle.footer.specs.declared.Day.the-variants.{Month, Julian, Plain}
 use Rattle.footer.specs.declared.Turn.{Turn}
@@ -18,25 +13,6 @@ use Rattle.footer.specs.declared.TurnAt.{TurnAt}
 use Rattle.footer.specs.declared.TurnAt.the-variants.{When, Wrong}
 use Rattle.footer.specs.declared.Footer.{Footer}
 use Rattle.footer.specs.declared.Footer.the-variants.{Empty, Fixed, Rules, Broken}
-
-abbrev pub numberIn : List ℕ → Num → Option (ℕ × List ℕ)
-numberIn s (Val v a) = some (v, drop a s)
-numberIn s Bad = none
-
--- the number, and 0 where there is none
-abbrev pub valueOf : Num → ℕ
-valueOf (Val v a) = v
-valueOf Bad = 0
-
--- a text that may be missing at the place `at`
-abbrev pub markIn : List ℕ → ℕ → Skip → Option (Bool × List ℕ)
-markIn s at (To a) = some (true, drop a s)
-markIn s at Not = some (false, drop at s)
-
--- a text that must be there
-abbrev pub skipIn : List ℕ → Skip → Option (Bool × List ℕ)
-skipIn s (To a) = some (true, drop a s)
-skipIn s Not = none
 
 abbrev pub dayIs : Day → model.Day
 dayIs (Month m w d) = model.month m w d
@@ -60,10 +36,7 @@ abbrev pub turnFrom : List ℕ → TurnAt → Option (model.Turn × List ℕ)
 turnFrom s (When t a) = some (turnIs t, drop a s)
 turnFrom s Wrong = none
 
--- ---- parts of the model's grammar that the code reads in functions of their own
-
-unfoldable pub westText : model.Parser ℕ
-westText = model._>>=_ model.clock (λ t. model.pure (93600 - t))
+-- ---- a part of the model's grammar that the code reads in a function of its own
 
 unfoldable pub rulesText : ℕ → ℕ → model.Parser model.Footer
 rulesText std dst = model._>>=_ model.turnText (λ start. model._>>=_ (model.byte 44) (λ _. model._>>=_ model.turnText (λ end. model._>>=_ model.atEnd (λ done. model.only done (model.rules std dst start end)))))

@@ -17,7 +17,8 @@ use Rattle.laws_zone.specs.Grammar.{FooterFits}
 use Rattle.laws_zone.specs.Runs.{Run, run-steady, run-changes}
 use Rattle.be.proofs.Walk.{rises, Rises}
 use Rattle.tzif.specs.declared.Layout.{Layout}
-use Rattle.tzif.specs.Places.{keyAt, timeAt, offsetAfter}
+use Rattle.tzif_block.specs.Parts.{keyAt}
+use Rattle.tzif.specs.Places.{timeAt, offsetAfter}
 use Rattle.tzif.specs.Opened.{Opened, zoneAt, countAt}
 use Rattle.tzif.proofs.Laws.{count-most, count-past, count-next, count-is, offset-early, offset-late}
 use Rattle.footer.specs.Parsed.{turnIs}

@@ -23,9 +23,11 @@ use Rattle.be.specs.Be.{be32}
 use Rattle.be.specs.Walk.{allFrom, rising}
 use Rattle.be.proofs.Lists.{at-4, at-8, word-at, piece-at, words-length, pieces-length, all-index}
 use Rattle.be.proofs.Walk.{all-at}
-use Rattle.tzif.specs.declared.Head.{Head}
+use Rattle.tzif_head.specs.declared.Head.{Head}
 use Rattle.tzif.specs.Table.{Table, tableIn, tableOf}
-use Rattle.tzif.specs.Places.{meant, headOk, headAt, secondAt, keyAt, byteBelow, offsetIs, typeFits, kindsAt, typesAt, marksAt, tailAt, tailOk, timesRise, tablesOk, blockOk, layoutAt, usable, layoutOf, timeAt, offsetAfter, changesFrom, changesAt, tableAt}
+use Rattle.tzif_head.specs.Heads.{meant, headOk, headAt, secondAt}
+use Rattle.tzif_block.specs.Parts.{keyAt, byteBelow, offsetIs, typeFits, kindsAt, typesAt, marksAt, tailAt, tailOk, timesRise, tablesOk, blockOk}
+use Rattle.tzif.specs.Places.{layoutAt, usable, layoutOf, timeAt, offsetAfter, changesFrom, changesAt, tableAt}
 
 -- ---- headers
 

@@ -18,11 +18,13 @@ use Rattle.laws_zone.specs.Runs.{Run}
 use Rattle.be.specs.Be.{be32}
 use Rattle.be.specs.Walk.{allFrom, countOf, upTo}
 use Rattle.be.proofs.Walk.{all-at, rises, Rises, count-in, count-out, count-le}
-use Rattle.tzif.specs.declared.Head.{Head}
+use Rattle.tzif_head.specs.declared.Head.{Head}
 use Rattle.tzif.specs.declared.Layout.{Layout}
 use Rattle.tzif.specs.declared.TzifRead.the-variants as R
 use Rattle.tzif.specs.Table.{tableOf, zone-splits}
-use Rattle.tzif.specs.Places.{meant, headOk, headAt, secondAt, keyAt, byteBelow, offsetIs, typeFits, kindsAt, typesAt, marksAt, tailAt, tailOk, timesRise, tablesOk, blockOk, layoutAt, usable, layoutOf, readOf, timeAt, offsetAfter, changesFrom, lineAt, tableAt}
+use Rattle.tzif_head.specs.Heads.{meant, headOk, headAt, secondAt}
+use Rattle.tzif_block.specs.Parts.{keyAt, byteBelow, offsetIs, typeFits, kindsAt, typesAt, marksAt, tailAt, tailOk, timesRise, tablesOk, blockOk}
+use Rattle.tzif.specs.Places.{layoutAt, usable, layoutOf, readOf, timeAt, offsetAfter, changesFrom, lineAt, tableAt}
 use Rattle.tzif.specs.Opened.{Opened, zoneAt, countAt}
 use Rattle.tzif.proofs.Bridge.{table-is, block-in}
 

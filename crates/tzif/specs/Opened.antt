@@ -12,7 +12,8 @@ use Rattle.model.specs.Zone.{utc}
 use Rattle.be.specs.Walk.{allFrom, countOf, upTo}
 use Rattle.tzif.specs.declared.Layout.{Layout}
 use Rattle.tzif.specs.Table.{ruledBy}
-use Rattle.tzif.specs.Places.{kindsAt, typesAt, timesRise, timeAt, offsetAfter, changesFrom, tableAt}
+use Rattle.tzif_block.specs.Parts.{kindsAt, typesAt, timesRise}
+use Rattle.tzif.specs.Places.{timeAt, offsetAfter, changesFrom, tableAt}
 
 pub record Opened (f : List ℕ) (l : Layout) : Type 0 where
   pub few : l .count ≤ 2048

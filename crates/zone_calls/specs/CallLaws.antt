@@ -22,7 +22,7 @@ use Rattle.civil.specs.declared.TimeRead.{TimeRead}
 use Rattle.civil.specs.declared.TimeRead.the-variants as T
 use Rattle.instant.specs.declared.Instant.{Instant}
 use Rattle.instant.specs.Instant.{nanos}
-use Rattle.edge.specs.Reads.{ofNanos, instantRead}
+use Rattle.edge.specs.Reads.{ofNanos, instantRead, secondsFrom}
 use Rattle.edge.specs.ReadLaws.{parts}
 use Rattle.edge.specs.declared.InstantRead.{InstantRead}
 use Rattle.edge.specs.declared.InstantRead.the-variants as I
@@ -30,7 +30,12 @@ use Rattle.zone.specs.Zones.{meant, zoneRead}
 use Rattle.zone.specs.declared.Zone.{Zone}
 use Rattle.zone.specs.declared.ZoneRead.{ZoneRead}
 use Rattle.zone.specs.declared.ZoneRead.the-variants as Z
-use Rattle.zone_calls.specs.Calls.{offsetRead, resolvedBy, resolveRead}
+use Rattle.next_change.specs.NextChange.{nextChange, theNext}
+use Rattle.next_change.specs.NextLaws.{next-in}
+use Rattle.next_change.specs.declared.Next.{Next}
+use Rattle.next_change.specs.declared.Next.the-variants as N
+use Rattle.zone_calls.specs.Calls.{offsetRead, changedAt, changeRead, resolvedBy, resolveRead}
+use Rattle.zone_calls.specs.declared.ChangeRead.the-variants as C
 use Rattle.zone_calls.specs.declared.OffsetRead.the-variants as O
 use Rattle.zone_calls.specs.declared.ResolveRead.the-variants as R
 
@@ -83,6 +88,41 @@ read-in s n {i} {t} p q =
     let k : (secondFrom s * second + natAbs n) / second ≡ t .sec = ap (λ (j : Instant). j .sec) m in
     omega (arith, k, leb-true (secondFrom s) 643761727200 (b .1), ltb-true (natAbs n) second (d .1)))
     (λ e. let g : I.OutOfRange ≡ I.At t = simp e at (sym p ∙ q) in never (cc))
+
+-- ---- the next change
+
+change-answer-out : (z : model.Zone) (a : Answer ℕ) → instantRead a ≡ I.OutOfRange → C.OutOfRange ≡ changeRead (some z) a
+unfolding instantRead changeRead
+change-answer-out z (gives n) e = never (cc)
+change-answer-out z (refuses n p) e = refl
+
+change-answer : (z : model.Zone) (a : Answer ℕ) (t : Instant) {o : Option ℕ} → instantRead a ≡ I.At t → o ≡ nextChange z (t .sec) → changedAt o ≡ changeRead (some z) a
+unfolding instantRead changeRead
+change-answer z (gives n) t e h = let q : ofNanos n ≡ t = cc in ap changedAt (h ∙ ap (λ (i : Instant). nextChange z (i .sec)) (sym q))
+change-answer z (refuses n p) t e h = never (cc)
+
+module _ (f : List ℕ) {r : ZoneRead} (e : zoneRead f r ≡ zoneOf f) where
+  pub change-unusable : (a : Answer ℕ) → r ≡ Z.Unusable → C.Unusable ≡ changeRead (zoneOf f) a
+  unfolding changeRead
+  change-unusable a u = rw (refused f e u)
+
+  pub change-out : {z : Zone} {i : InstantRead} (a : Answer ℕ) → r ≡ Z.Opened z → i ≡ instantRead a → i ≡ I.OutOfRange → C.OutOfRange ≡ changeRead (zoneOf f) a
+  change-out {z} a u p q = rw (opened f e u) (change-answer-out (meant f z) a (sym p ∙ q))
+
+  module _ {z : Zone} {i : InstantRead} {t : Instant} (n : Next) (a : Answer ℕ) (u : r ≡ Z.Opened z) (p : i ≡ instantRead a) (q : i ≡ I.At t)
+      (h : theNext n ≡ nextChange (meant f z) (t .sec)) where
+    change-is : changedAt (theNext n) ≡ changeRead (zoneOf f) a
+    change-is = rw (opened f e u) (change-answer (meant f z) a t (sym p ∙ q) h)
+
+    pub change-never : n ≡ N.Never → C.Never ≡ changeRead (zoneOf f) a
+    change-never k = (rw k at change-is)
+
+    pub change-at : {v : ℕ} {s : ℤ} → n ≡ N.At v → s ≡ secondsFrom v → C.At s ≡ changeRead (zoneOf f) a
+    change-at k l = ap C.At l ∙ (rw k at change-is)
+
+-- a change that is told lies in the range
+pub change-in : (z : model.Zone) (u : ℕ) {n : Next} {v : ℕ} → theNext n ≡ nextChange z u → n ≡ N.At v → v ≤ 643761727200
+change-in z u {n} {v} h k = next-in z u v (sym h ∙ ap theNext k)
 
 -- ---- the instant
 

@@ -1,16 +1,17 @@
-// A zone file's calls for one who has its bytes and nothing else: the offset at an instant, and the instant of a local time. Each call opens the
-// file, checks what it is given and answers for all of it.
+// A zone file's calls for one who has its bytes and nothing else: the offset at an instant, the next change of the offset after an instant, and the
+// instant of a local time. Each call opens the file, checks what it is given and answers for all of it.
 ghost use mathlib.Core.Path.{_≡_};
 ghost use Rattle.model.specs.Tzif.{zoneOf};
 ghost use Rattle.model.specs.Instant.{instantOf};
 ghost use Rattle.civil.specs.Dates.{dayRead, timeRead};
-ghost use Rattle.zone_calls.specs.Calls.{offsetRead, resolveRead};
+ghost use Rattle.zone_calls.specs.Calls.{offsetRead, changeRead, resolveRead};
 use book::Time;
 use civil::Date;
 use civil::DayRead;
 use civil::TimeRead;
 use edge::InstantRead;
 use instant::Instant;
+use next_change::Next;
 use zone::ZoneRead;
 
 // Seconds east of Greenwich with 93,600 added; a file that is not usable; an instant or its nanoseconds out of range.
@@ -32,6 +33,30 @@ pub fn offset_in(file: &[u8], sec: i64, ns: i64) -> OffsetRead
     };
     let r = zone::run_at(file, z, t.sec);
     OffsetRead::Is(r.offset)
+}
+
+// The seconds from 1970 of a change; none up to the range's end; a file that is not usable; an instant or its nanoseconds out of range.
+pub enum ChangeRead {
+    At(i64),
+    Never,
+    Unusable,
+    OutOfRange,
+}
+
+// The next change of the offset after an instant, seconds from 1970 and nanoseconds.
+pub fn next_change_in(file: &[u8], sec: i64, ns: i64) -> ChangeRead
+    ensures { λ r. ⌜ r ≡ changeRead (zoneOf (now (file .entry))) (instantOf sec ns) ⌝ }
+{
+    let ZoneRead::Opened(z) = zone::open(file) else {
+        return ChangeRead::Unusable;
+    };
+    let InstantRead::At(t) = edge::instant_of(sec, ns) else {
+        return ChangeRead::OutOfRange;
+    };
+    let Next::At(v) = next_change::next_change(file, z, t.sec) else {
+        return ChangeRead::Never;
+    };
+    ChangeRead::At(edge::seconds_of(v))
 }
 
 // An instant; a file that is not usable; what is no date of the years -9999 to 9999; what is no time of day.

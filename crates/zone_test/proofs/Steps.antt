@@ -2,7 +2,8 @@
 use mathlib.Core.Path.{_≡_, refl, sym, ap, _∙_}
 use mathlib.Core.Bool.{Bool, true, false}
 use mathlib.Core.List.{List}
-use Prim.Native.Nat.{ℕ, suc, _+_, _*_, _%_, _^_, _≤_, _<_}
+use mathlib.Core.Option.{Option}
+use Prim.Native.Nat.{ℕ, suc, _+_, _*_, _-_, _%_, _^_, _≤_, _<_}
 use native.Mathlib.Numerals.{add-one}
 use native.Mathlib.Omega.{arith}
 use lib.Dec.{ltb, leb, eqb}
@@ -10,22 +11,35 @@ use borrow.Author.Tests.{lt-ltb, le-ltb, le-leb, lt-leb}
 use Rattle.be.specs.Be.{be64}
 use Rattle.be.specs.Walk.{both, pickN, countOf}
 use Rattle.model.specs.Zone.{secondOf}
+use Rattle.next_change.specs.NextChange.{nextChange, theNext}
+use Rattle.next_change.specs.declared.Next.{Next}
+use Rattle.next_change.specs.declared.Next.the-variants as N
 use Rattle.zone.specs.Zones.{meant}
 use Rattle.zone.specs.declared.Zone.{Zone}
-use Rattle.zone_test.specs.Answers.{shifted, localAt, answerAt, agreesAt}
+use Rattle.zone_test.specs.Answers.{shifted, localAt, answerAt, isNext, agreesAt}
 
 pub shifted-is : (a : List ℕ) (i k : ℕ) {b r : ℕ} → b ≡ be64 a i → r ≡ (b + k) % 2 ^ 64 → r ≡ shifted a i k
 unfolding shifted
 shifted-is a i k e q = rw (← e) q
+
+-- the next change that the code gives
+module _ (o : Option ℕ) (v : ℕ) {n : Next} (e : theNext n ≡ o) where
+  pub next-none : n ≡ N.Never → false ≡ isNext o v
+  unfolding isNext
+  next-none q = rw (← e, q)
+
+  pub next-some : {w : ℕ} → n ≡ N.At w → eqb w v ≡ isNext o v
+  unfolding isNext
+  next-some q = rw (← e, q)
 
 module _ (f : List ℕ) (z : Zone) (a : List ℕ) (i : ℕ) {x : ℕ} (e : x ≡ localAt a i) where
   pub early : x < 187200 → false ≡ agreesAt f z a i
   unfolding agreesAt
   early h = rw (← e, lt-leb 187200 x h)
 
-  pub late : 187200 ≤ x → 656384601600 ≤ x → false ≡ agreesAt f z a i
+  pub beyond : {b : Bool} {y : ℕ} → 187200 ≤ x → 656384601600 ≤ x → y ≡ answerAt a i → b ≡ isNext (nextChange (meant f z) (x - 656384601600)) y → b ≡ agreesAt f z a i
   unfolding agreesAt
-  late g h = rw (← e, le-leb 187200 x g, le-ltb x 656384601600 h)
+  beyond {b} {y} g h q p = rw (← e, le-leb 187200 x g, le-ltb x 656384601600 h, ← q) p
 
   pub inside : {s y : ℕ} → 187200 ≤ x → x < 656384601600 → s ≡ secondOf (meant f z) x → y ≡ answerAt a i → eqb s y ≡ agreesAt f z a i
   unfolding agreesAt

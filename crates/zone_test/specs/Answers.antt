@@ -1,11 +1,14 @@
 -- A stored answer: where its two numbers stand, and what makes it the zone's own.
 use mathlib.Core.Bool.{Bool, true, false}
+use mathlib.Core.Option.{Option, none, some}
 use mathlib.Core.List.{List}
-use Prim.Native.Nat.{ℕ, _+_, _*_, _%_, _^_}
+use Prim.Native.Nat.{ℕ, _+_, _*_, _-_, _%_, _^_}
 use lib.Dec.{ltb, leb, eqb}
 use Rattle.be.specs.Be.{be64}
 use Rattle.be.specs.Walk.{both}
+use Rattle.model.specs.Basic.{if_then_else_}
 use Rattle.model.specs.Zone.{secondOf}
+use Rattle.next_change.specs.NextChange.{nextChange}
 use Rattle.zone.specs.Zones.{meant}
 use Rattle.zone.specs.declared.Zone.{Zone}
 
@@ -19,6 +22,13 @@ localAt a i = shifted a (16 * i) 390359613600
 abbrev pub answerAt : List ℕ → ℕ → ℕ
 answerAt a i = shifted a (16 * i + 8) 390359520000
 
--- pair i is a local time that can be asked for, and the zone gives its second
+-- there is a next change, and it is at v
+unfoldable pub isNext : Option ℕ → ℕ → Bool
+isNext none v = false
+isNext (some w) v = eqb w v
+
+-- pair i is a local time that can be asked for, and the zone gives its second; or it lies beyond those, and the zone's next change is its second number
 unfoldable pub agreesAt : List ℕ → Zone → List ℕ → ℕ → Bool
-agreesAt f z a i = both (leb 187200 (localAt a i)) (both (ltb (localAt a i) 656384601600) (eqb (secondOf (meant f z) (localAt a i)) (answerAt a i)))
+agreesAt f z a i =
+    both (leb 187200 (localAt a i))
+    (if ltb (localAt a i) 656384601600 then eqb (secondOf (meant f z) (localAt a i)) (answerAt a i) else isNext (nextChange (meant f z) (localAt a i - 656384601600)) (answerAt a i))

@@ -1,12 +1,15 @@
 // Reads a zone pack, zones.bin, and writes a line for each of its zones: refused, or usable with the number of stored answers that the code
 // gives too and the number that it does not. The answers for record K stand in answers-K.bin, K with three digits (tools/zone_answers.py makes
-// both): pairs of signed 64-bit numbers, a local second as if it were UTC and the second that it is. A zone without that file has none.
+// both): pairs of signed 64-bit numbers, a local second as if it were UTC and the second that it is; or, where the first number lies beyond the local
+// times, a second with 656,384,508,000 added and the second of the next change of the offset after it. A zone without that file has none.
 ghost use mathlib.Core.Path.{_≡_};
 ghost use Prim.Native.Nat.{_≤_, _<_};
 ghost use Rattle.be.specs.Walk.{countOf};
-ghost use Rattle.zone.specs.Zones.{ZoneOk};
-ghost use Rattle.zone_test.specs.Answers.{localAt, answerAt, agreesAt};
+ghost use Rattle.zone.specs.Zones.{meant, ZoneOk};
+ghost use Rattle.next_change.specs.NextChange.{nextChange};
+ghost use Rattle.zone_test.specs.Answers.{localAt, answerAt, isNext, agreesAt};
 use libc::STDOUT_FILENO;
+use next_change::Next;
 use zone::Zone;
 use zone::ZoneRead;
 
@@ -28,7 +31,18 @@ fn answer_at(a: &[u8], i: usize) -> u64
     std::num::wrapping_add_u64(be::be64_at(a, 16 * i + 8), 390359520000)
 }
 
-// Does the zone give pair i's second for its local second?
+// Is the next change of the zone's offset after u at v?
+fn turns_at(f: &[u8], z: Zone, u: u64, v: u64) -> bool
+    requires { ⌜ ZoneOk (now f) z ⌝ }
+    ensures { λ r. ⌜ r ≡ isNext (nextChange (meant (now (f .entry)) z) u) v ⌝ }
+{
+    let Next::At(w) = next_change::next_change(f, z, u) else {
+        return false;
+    };
+    w == v
+}
+
+// Does the zone give pair i's second for its local second, or as its next change?
 fn agrees_at(f: &[u8], z: Zone, a: &[u8], i: usize) -> bool
     requires { ⌜ ZoneOk (now f) z × (i < 65536) ⌝ }
     ensures { λ r. ⌜ r ≡ agreesAt (now (f .entry)) z (now (a .entry)) i ⌝ }
@@ -38,7 +52,7 @@ fn agrees_at(f: &[u8], z: Zone, a: &[u8], i: usize) -> bool
         return false;
     }
     if x >= 656384601600 {
-        return false;
+        return turns_at(f, z, x - 656384601600, answer_at(a, i));
     }
     zone::second_of(f, z, x) == answer_at(a, i)
 }

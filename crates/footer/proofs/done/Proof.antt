@@ -1,5 +1,5 @@
 -- `footer::done` meets its contract.
-use Rattle.footer.proofs.Places.{end-no, end-yes}
+use Rattle.footer_numbers.proofs.Places.{end-no, end-yes}
 use Rattle.footer.proofs.done.Statement.{statement}
 use Rattle.footer.proofs.done.Tie as tie
 

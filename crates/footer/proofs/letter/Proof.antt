@@ -1,5 +1,5 @@
 -- `footer::letter` meets its contract.
-use Rattle.footer.proofs.Places.{letter-low}
+use Rattle.footer_numbers.proofs.Places.{letter-low}
 use borrow.Author.Needs.{needs}
 use Rattle.footer.proofs.Tests.{tests}
 use Rattle.footer.proofs.letter.Statement.{statement}

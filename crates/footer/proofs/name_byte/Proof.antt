@@ -1,5 +1,5 @@
 -- `footer::name_byte` meets its contract.
-use Rattle.footer.proofs.Places.{quoted-plus, quoted-minus, quoted-low, quoted-digit}
+use Rattle.footer_numbers.proofs.Places.{quoted-plus, quoted-minus, quoted-low, quoted-digit}
 use Rattle.model.specs.Footer.{isNameByte}
 use borrow.Author.Tests.{not-true, not-false}
 use Rattle.footer.proofs.Tests.{tests}

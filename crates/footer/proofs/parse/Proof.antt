@@ -1,6 +1,6 @@
 -- `footer::parse` meets its contract.
-use Rattle.footer.proofs.Numbers.{value-le}
-use Rattle.footer.proofs.Numbers.{footer-empty, footer-is}
+use Rattle.footer_numbers.proofs.Numbers.{value-le}
+use Rattle.footer_numbers.proofs.Numbers.{footer-empty, footer-is}
 use native.Mathlib.Omega.{arith}
 use borrow.Author.Needs.{needs}
 use Rattle.model.specs.Footer.{footerText}

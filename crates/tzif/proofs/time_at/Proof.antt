@@ -1,7 +1,7 @@
 -- `tzif::time_at` meets its contract.
 use native.Mathlib.Omega.{arith}
 use Rattle.tzif.specs.Places.{timeAt}
-use Rattle.tzif.proofs.Numbers.{key-is}
+use Rattle.tzif_block.proofs.Numbers.{key-is}
 use borrow.Author.Needs.{needs}
 use Rattle.tzif.proofs.time_at.Statement.{statement}
 use Rattle.tzif.proofs.time_at.Tie as tie

@@ -1,5 +1,5 @@
 -- `agrees_at` tests one pair as the definition does.
-use Rattle.zone_test.proofs.Steps.{early, late, inside}
+use Rattle.zone_test.proofs.Steps.{early, beyond, inside}
 use native.Mathlib.Omega.{arith}
 use borrow.Author.Needs.{needs}
 use Rattle.zone_test.proofs.agrees_at.Statement.{statement}
@@ -11,19 +11,33 @@ local-at-requires c κs = search needs
 returns : tie.Need-returns
 returns c = early _ _ _ _ (c .before .local-at .ensures) (omega arith)
 
+answer-at-requires : tie.Need-answer-at-requires
+answer-at-requires c κs = search needs
+
+turns-at-requires : tie.Need-turns-at-requires
+turns-at-requires c κs = search needs
+
 returns-2 : tie.Need-returns-2
-returns-2 c = late _ _ _ _ (c .before .before .local-at .ensures) (omega arith) (omega arith)
+returns-2 c = beyond _ _ _ _ (c .before .before .before .before .local-at .ensures) (omega arith) (omega arith) (c .before .answer-at .ensures) (c .turns-at .ensures)
 
 second-of-requires : tie.Need-second-of-requires
 second-of-requires c κs = search needs
 
-answer-at-requires : tie.Need-answer-at-requires
-answer-at-requires c κs = search needs
+answer-at-requires-2 : tie.Need-answer-at-requires-2
+answer-at-requires-2 c κs = search needs
 
 returns-3 : tie.Need-returns-3
-returns-3 c = inside _ _ _ _ (c .before .before .before .before .local-at .ensures) (omega arith) (omega arith) (c .before .second-of .ensures) (c .answer-at .ensures)
+returns-3 c = inside _ _ _ _ (c .before .before .before .before .local-at .ensures) (omega arith) (omega arith) (c .before .second-of .ensures) (c .answer-at2 .ensures)
 
 pub agrees-at-spec : {M : Type 1} → statement M
 agrees-at-spec =
     tie.close
-    (tie.spec local-at-requires returns returns-2 second-of-requires answer-at-requires returns-3)
+    (tie.spec
+    local-at-requires
+    returns
+    answer-at-requires
+    turns-at-requires
+    returns-2
+    second-of-requires
+    answer-at-requires-2
+    returns-3)

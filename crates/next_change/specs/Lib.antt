@@ -1,0 +1,3 @@
+pub mod NextChange
+pub mod NextLaws
+pub mod Examples
