@@ -42,7 +42,7 @@ fn run_union(times: usize, width: u64, down: bool) -> usize
     while k < times {
         let mut c = b;
         c.items[0].start.ns = (k % 100) as u32;
-        let r = blocks::union(c);
+        let r = merge::union(c);
         sum = (sum + r.len) % 1000;
         k += 1;
     }

@@ -1,6 +1,4 @@
 pub mod Front
-pub mod Stable
-pub mod Ordering
 pub mod Merge
 pub mod Minus
 pub mod Walk

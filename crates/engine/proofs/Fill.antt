@@ -19,7 +19,7 @@ use Rattle.model.specs.Working.{Rule, Holidays, holidayRule, localDay, firstDat
 use Rattle.laws_base.specs.Test.{by-test}
 use Rattle.laws_zone.specs.Sound.{Sound}
 use Rattle.laws_zone.specs.Zones.{fits-sound}
-use Rattle.laws_skip.specs.Local.{off, first-from, last-upto}
+use Rattle.laws.specs.Local.{off, first-from, last-upto}
 use Rattle.laws_skip.specs.Counts.{dates-most}
 use Rattle.zone.specs.Zones.{meant, ZoneOk}
 use Rattle.zone.specs.declared.Zone.{Zone as Zone′}

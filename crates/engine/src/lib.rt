@@ -217,7 +217,7 @@ pub fn working_time(book: &[u8], pack: &[u8], s: Schedule, lo: Instant, hi: Inst
     let on = shift_blocks(blocks::none(), work, s.works, pack, lo, hi);
     let pauses = shift_blocks(blocks::none(), breaks, s.pauses, pack, lo, hi);
     let off = closed_blocks(pauses, closed, s.closings, book, pack, lo, hi);
-    blocks::subtract(blocks::union(on), blocks::union(off))
+    minus::subtract(merge::union(on), merge::union(off))
 }
 
 // Work without breaks, holidays ignored, in a window of at most 14 days.
@@ -229,5 +229,5 @@ pub fn bare_time(book: &[u8], pack: &[u8], s: Schedule, lo: Instant, hi: Instant
     let breaks = s.breaks;
     let on = shift_blocks(blocks::none(), work, s.works, pack, lo, hi);
     let off = shift_blocks(blocks::none(), breaks, s.pauses, pack, lo, hi);
-    blocks::subtract(blocks::union(on), blocks::union(off))
+    minus::subtract(merge::union(on), merge::union(off))
 }

@@ -62,7 +62,7 @@ pub fn union_lent(s: &mut [Block], n: usize) -> usize
         b = blocks::push(b, x);
         i += 1;
     }
-    let r = blocks::union(b);
+    let r = merge::union(b);
     store_all(s, r);
     r.len
 }

@@ -65,10 +65,10 @@ use Rattle.blocks.proofs.push as push
 use Rattle.blocks.proofs.push.Symbol as push-def
 use Rattle.blocks.proofs.push.Symbol.{name as #blocks·push}
 use Rattle.blocks.proofs.push.Met as push-thm
-use Rattle.blocks.proofs.union as union
-use Rattle.blocks.proofs.union.Symbol as union-def
-use Rattle.blocks.proofs.union.Symbol.{name as #blocks·union}
-use Rattle.blocks.proofs.union.Met as union-thm
+use Rattle.merge.proofs.union as union
+use Rattle.merge.proofs.union.Symbol as union-def
+use Rattle.merge.proofs.union.Symbol.{name as #merge·union}
+use Rattle.merge.proofs.union.Met as union-thm
 use Rattle.lent.proofs.usable as usable
 use Rattle.lent.proofs.usable.Symbol as usable-def
 use Rattle.lent.proofs.usable.Symbol.{name as #lent·usable}
@@ -228,7 +228,7 @@ module _ {M : Type 1} (𝓤 : URA M) (H : Heap 𝓤) (A : Atoms 𝓤) (W : Given
       nothing ! $ owned ! B.the-row (Is B.the-row) (LL.makes B.the-type B′.the-plain 𝓤 H A) h _ ih $ fjoin ! $ move ! (1 ∷ 0 ∷ []) $ fjoin ! $ done !
 
   module _ (𝓣 : Tables 𝓤 H) (fm : FmC 𝓤 H (W .laws) (𝓣 .C)) (known-usable : Triple 𝓤 (𝓣 .C #lent·usable) (Usable 𝓤 H A at-mem run)) (known-none : Triple 𝓤 (𝓣 .C #blocks·none) (None 𝓤 H A at-mem run)) (known-push : Triple 𝓤 (𝓣 .C #blocks·push) (Push 𝓤 H A at-mem run))
-      (known-union : Triple 𝓤 (𝓣 .C #blocks·union) (Union 𝓤 H A at-mem run)) (known-store : Triple 𝓤 (𝓣 .C #lent·store-all) (Stores 𝓤 H A at-mem run)) (k : Known) (l₀ l₁ l₂ l₃ l₄ l₅ l₆ l₇ l₈ l₉ l₁₀ l₁₁ l₁₂ l₁₃ l₁₄ l₁₅ : ℕ) where
+      (known-union : Triple 𝓤 (𝓣 .C #merge·union) (Union 𝓤 H A at-mem run)) (known-store : Triple 𝓤 (𝓣 .C #lent·store-all) (Stores 𝓤 H A at-mem run)) (k : Known) (l₀ l₁ l₂ l₃ l₄ l₅ l₆ l₇ l₈ l₉ l₁₀ l₁₁ l₁₂ l₁₃ l₁₄ l₁₅ : ℕ) where
     abbrev C : Calls 𝓤 H
     C = 𝓣 .C
 
@@ -389,7 +389,7 @@ module _ {M : Type 1} (𝓤 : URA M) (H : Heap 𝓤) (A : Atoms 𝓤) (W : Given
         keep ! (2 ∷ 3 ∷ 0 ∷ 26 ∷ 28 ∷ 24 ∷ 18 ∷ 16 ∷ 14 ∷ 12 ∷ 34 ∷ 30 ∷ 36 ∷ 22 ∷ 10 ∷ 8 ∷ 6 ∷ 32 ∷ 20 ∷ 37 ∷ 35 ∷ 33 ∷ 31 ∷ 29 ∷ 27 ∷ 25 ∷ 23 ∷ 21 ∷ 19 ∷ 17 ∷ 15 ∷ 13 ∷ 11 ∷ 9 ∷ 7 ∷ []) $ by ! (loops r w (record { is = is; typed = wt; count = e .1; same = e .0 }))))))))))
 
   walk : (𝓣 : Tables 𝓤 H) → FmC 𝓤 H (W .laws) (𝓣 .C) → Triple 𝓤 (𝓣 .C #lent·usable) (Usable 𝓤 H A at-mem run) → Triple 𝓤 (𝓣 .C #blocks·none) (None 𝓤 H A at-mem run) → Triple 𝓤 (𝓣 .C #blocks·push) (Push 𝓤 H A at-mem run)
-      → Triple 𝓤 (𝓣 .C #blocks·union) (Union 𝓤 H A at-mem run) → Triple 𝓤 (𝓣 .C #lent·store-all) (Stores 𝓤 H A at-mem run) → Known → ent 𝓤 (onEntry 𝓤 H A lent′.signature (κ, tt) (q, tt) x at)
+      → Triple 𝓤 (𝓣 .C #merge·union) (Union 𝓤 H A at-mem run) → Triple 𝓤 (𝓣 .C #lent·store-all) (Stores 𝓤 H A at-mem run) → Known → ent 𝓤 (onEntry 𝓤 H A lent′.signature (κ, tt) (q, tt) x at)
       (WpFn 𝓤 H (𝓣 .C) (𝓣 .Λ) code.function (sliceVal (b, o) (length ys) ∷ vint w64 n ∷ []) Post)
   walk 𝓣 fm kv kn kp ku ks k =
       qed W ((‵ (flft κ q) ⊛ ‵ ftrue) ∷ ‵ (owns (MutSlice (named 0) κ T.the-row ∷ usize ∷ []) x at) ∷ []) ∵ enter ! (𝓣 .C) (𝓣 .Λ) code.function (sliceVal (b, o) (length ys) ∷ vint w64 n ∷ []) _ $
@@ -399,7 +399,7 @@ module _ {M : Type 1} (𝓤 : URA M) (H : Heap 𝓤) (A : Atoms 𝓤) (W : Given
 
 module _ {M : Type 1} (𝓤 : URA M) (H : Heap 𝓤) (A : Atoms 𝓤) (W : Given 𝓤 H A) (at-mem : Memory → SProp 𝓤) (run : Routine → Fun 𝓤) where
   lent-walks : (𝓣 : Tables 𝓤 H) → FmC 𝓤 H (W .laws) (𝓣 .C) → Triple 𝓤 (𝓣 .C #lent·usable) (Usable 𝓤 H A at-mem run) → Triple 𝓤 (𝓣 .C #blocks·none) (None 𝓤 H A at-mem run) → Triple 𝓤 (𝓣 .C #blocks·push) (Push 𝓤 H A at-mem run)
-      → Triple 𝓤 (𝓣 .C #blocks·union) (Union 𝓤 H A at-mem run) → Triple 𝓤 (𝓣 .C #lent·store-all) (Stores 𝓤 H A at-mem run) → Walks 𝓤 H A lent′.ended stayed (WpFn 𝓤 H (𝓣 .C) (𝓣 .Λ) code.function) (lent′.clauses 𝓤 H A at-mem run)
+      → Triple 𝓤 (𝓣 .C #merge·union) (Union 𝓤 H A at-mem run) → Triple 𝓤 (𝓣 .C #lent·store-all) (Stores 𝓤 H A at-mem run) → Walks 𝓤 H A lent′.ended stayed (WpFn 𝓤 H (𝓣 .C) (𝓣 .Λ) code.function) (lent′.clauses 𝓤 H A at-mem run)
   lent-walks 𝓣 fm kv kn kp ku ks = walked 𝓤 H A lent′.ended stayed (lent′.clauses 𝓤 H A at-mem run) (WpFn 𝓤 H (𝓣 .C) (𝓣 .Λ) code.function) (λ κs. (slice-vals, (uint-vals w64, tt))) (λ κs. (mut-slice-tells (named 0) (κs .0) T.the-row, (uint-tells w64, tt)))
       (λ κs qs bounds a g are. via 𝓤 _ (fst∗ 𝓤 _ (emp 𝓤))
       (walk 𝓤 H A W at-mem run (κs .0) (qs .0) (a .0 .ptr .0) (a .0 .ptr .1) (a .0 .name) (a .0 .now) (a .1 .0) 𝓣 fm kv kn kp ku ks
@@ -409,7 +409,7 @@ module _ {M : Type 1} (𝓤 : URA M) (H : Heap 𝓤) (A : Atoms 𝓤) (W : Given
   goes = (goes-gave-slice 𝓤 H A W 1 0 tt (plain (λ _. T.the-row)), (goes-none 𝓤 H A W 1 (λ _. usize) yes (λ κs x f. refl), tt))
 
 lent-meets : {M : Type 1} (𝓤 : URA M) (H : Heap 𝓤) (A : Atoms 𝓤) (W : Given 𝓤 H A) (at-mem : Memory → SProp 𝓤) (run : Routine → Fun 𝓤) (𝓣 : Tables 𝓤 H) → Triple 𝓤 (𝓣 .C #lent·usable) (Usable 𝓤 H A at-mem run) → Triple 𝓤 (𝓣 .C #blocks·none) (None 𝓤 H A at-mem run) → Triple 𝓤 (𝓣 .C #blocks·push) (Push 𝓤 H A at-mem run)
-    → Triple 𝓤 (𝓣 .C #blocks·union) (Union 𝓤 H A at-mem run) → Triple 𝓤 (𝓣 .C #lent·store-all) (Stores 𝓤 H A at-mem run) → Meets 𝓤 H A lent′.signature (WpFn 𝓤 H (𝓣 .C) (𝓣 .Λ) code.function) (lent′.spec 𝓤 H A at-mem run)
+    → Triple 𝓤 (𝓣 .C #merge·union) (Union 𝓤 H A at-mem run) → Triple 𝓤 (𝓣 .C #lent·store-all) (Stores 𝓤 H A at-mem run) → Meets 𝓤 H A lent′.signature (WpFn 𝓤 H (𝓣 .C) (𝓣 .Λ) code.function) (lent′.spec 𝓤 H A at-mem run)
 lent-meets 𝓤 H A W at-mem run 𝓣 kv kn kp ku ks = walk-meets 𝓤 H A lent′.ended stayed W (goes 𝓤 H A W at-mem run) (lent′.clauses 𝓤 H A at-mem run) (WpFn 𝓤 H (𝓣 .C) (𝓣 .Λ) code.function) (WpFn-mono 𝓤 H (W .laws) 𝓣 code.function)
     (lent-walks 𝓤 H A W at-mem run 𝓣 (fmOf 𝓤 H (W .laws) 𝓣) kv kn kp ku ks)
 
@@ -422,5 +422,5 @@ union-lent-spec 𝓤 H 𝓜 𝓖 𝓡 =
     (cited 𝓤 H (Usable 𝓤 H (𝓖 .A) (𝓜 .mem) (𝓡 .run)) 𝓜 𝓡 code.env #lent·usable usable-def.routine code.calls-lent·usable (usable-thm.met 𝓤 H 𝓜 𝓖 𝓡))
     (cited 𝓤 H (None 𝓤 H (𝓖 .A) (𝓜 .mem) (𝓡 .run)) 𝓜 𝓡 code.env #blocks·none none-def.routine code.calls-blocks·none (none-thm.met 𝓤 H 𝓜 𝓖 𝓡))
     (cited 𝓤 H (Push 𝓤 H (𝓖 .A) (𝓜 .mem) (𝓡 .run)) 𝓜 𝓡 code.env #blocks·push push-def.routine code.calls-blocks·push (push-thm.met 𝓤 H 𝓜 𝓖 𝓡))
-    (cited 𝓤 H (Union 𝓤 H (𝓖 .A) (𝓜 .mem) (𝓡 .run)) 𝓜 𝓡 code.env #blocks·union union-def.routine code.calls-blocks·union (union-thm.met 𝓤 H 𝓜 𝓖 𝓡))
+    (cited 𝓤 H (Union 𝓤 H (𝓖 .A) (𝓜 .mem) (𝓡 .run)) 𝓜 𝓡 code.env #merge·union union-def.routine code.calls-merge·union (union-thm.met 𝓤 H 𝓜 𝓖 𝓡))
     (cited 𝓤 H (Stores 𝓤 H (𝓖 .A) (𝓜 .mem) (𝓡 .run)) 𝓜 𝓡 code.env #lent·store-all stores-def.routine code.calls-lent·store-all (stores-thm.met 𝓤 H 𝓜 𝓖 𝓡)))
