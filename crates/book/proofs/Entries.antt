@@ -19,14 +19,14 @@ use Rattle.laws_base.specs.Test.{by-test, and-both, clash}
 use Rattle.model.specs.Basic.{_>>=_, given, each, run}
 use Rattle.model.specs.Directory.{partsOf}
 use Rattle.model.specs.Book as model
-use Rattle.model.specs.Book.{holidays, entryOf, entriesOf}
+use Rattle.model.specs.Book.{holidays, dates, entryOf, entriesOf}
 use Rattle.pack.specs.Directory.{countAt, startAt, lenAt, partAt, recordOk, entriesOk, dirOk}
 use Rattle.pack.proofs.Parts.{parts-index, as-dir}
 use Rattle.book.specs.declared.Time.{Time}
 use Rattle.book.specs.declared.Entry.{Entry}
-use Rattle.book.specs.Meaning.{recordsOf, yearAt, dayAt, datesAt, bodyIn, meaning, timeFrom, entryFrom, bytesAt, noEntry, IsTimed, IsEntry}
+use Rattle.book.specs.Meaning.{recordsOf, yearAt, dayAt, datesAt, bodyIn, meaning, kindOf, timeFrom, entryFrom, bytesAt, noEntry, IsTimed, IsEntry, kindAt, datesIn}
 use Rattle.book.specs.Accepts.{isTime, isHours, areDays, isDates, isBody, isRecord, isRecordAt, isBook}
-use Rattle.book.proofs.Bytes.{timeTest, timeValue, hoursTest, hoursValue, time-says, hours-says, holidaysTest, bodyTest, bodyValue, recordTest, recordValue, dates-says, body-says, record-says, entry-is}
+use Rattle.book.proofs.Bytes.{timeTest, timeValue, hoursTest, hoursValue, time-says, hours-says, holidaysTest, pickBody, bodyTest, bodyValue, recordTest, recordValue, dates-says, body-says, record-says, entry-is}
 
 -- ---- the book by index
 
@@ -325,3 +325,72 @@ is-entry b i {o} {l} {e} h eo el ee few =
       few = rw x at few;
       timed = timed-in b a n r;
     })
+
+-- ---- the kind of a record and the count of its dates, read from the book
+
+kind-picked : (l : List ℕ) (p kind : ℕ) → kind ≤ 3 → kindOf (pickBody l p kind) ≡ kind
+kind-picked l p kind h =
+    by-test (eqb kind 0)
+    (λ q. rw q (sym (eqb-true kind 0 q)))
+    (λ q₀. by-test (eqb kind 1)
+    (λ q. rw (q₀, q) (sym (eqb-true kind 1 q)))
+    (λ q₁. by-test (eqb kind 2)
+    (λ q. rw (q₀, q₁, q) (sym (eqb-true kind 2 q)))
+    (λ q₂.
+    let n₀ = eqb-false kind 0 q₀ in
+    let n₁ = eqb-false kind 1 q₁ in
+    let n₂ = eqb-false kind 2 q₂ in
+    rw (q₀, q₁, q₂) (omega arith))))
+
+length-dates : (l : List ℕ) (p n : ℕ) → length (datesAt l p n) ≡ n
+unfolding datesAt
+length-dates l p zero = refl
+length-dates l p (suc n) = ap suc (length-dates l (p + 4) n)
+
+module _ (b : List ℕ) (i : ℕ) (h : i < length (recordsOf b)) where
+  abbrev at : ℕ
+  at = startAt b i
+
+  abbrev record-of : List ℕ
+  record-of = take (lenAt b i) (drop (startAt b i) b)
+
+  inside : i < countAt b
+  inside = omega (arith, count-is b (has-book b i h))
+
+  whole : isRecord (take (lenAt b i) (drop (startAt b i) b)) ≡ true
+  unfolding bytesAt
+  whole = record-is b (has-book b i h) i inside
+
+  body-is : getD (recordsOf b) i noEntry .body ≡ pickBody record-of (2 + getD record-of 1 0) (getD record-of 0 0)
+  unfolding valueAt bytesAt recordValue bodyValue
+  body-is = ap (λ (x : model.Entry). x .body) (value-is b (has-book b i h) i inside)
+
+  first-byte : kindAt b i ≡ getD record-of 0 0
+  unfolding kindAt
+  first-byte =
+      let f = record-facts record-of whole in
+      rw body-is (kind-picked record-of (2 + getD record-of 1 0) (getD record-of 0 0) (kind-few (getD record-of 0 0) record-of (2 + getD record-of 1 0) (f .1) (f .2)))
+
+  pub kind-read : {k : ℕ} → k ≡ getD b (startAt b i) 0 → k ≡ kindAt b i
+  kind-read e =
+      let f = record-facts record-of whole in
+      e ∙ byte-moved b at (lenAt b i) 0 at (omega (arith, f .1)) (omega arith) ∙ sym first-byte
+
+  dates-are : kindAt b i ≡ 3 → datesIn b i ≡ be16 record-of (2 + getD record-of 1 0)
+  unfolding datesIn
+  dates-are q =
+      let k : getD record-of 0 0 ≡ 3 = sym first-byte ∙ q in
+      rw (body-is, k) (length-dates record-of (2 + getD record-of 1 0 + 2) (be16 record-of (2 + getD record-of 1 0)))
+
+  pub dates-read : {n c : ℕ} → kindAt b i ≡ 3 → n ≡ getD b (startAt b i + 1) 0 → c ≡ be16 b (startAt b i + 2 + n) → c ≡ datesIn b i
+  unfolding be16
+  dates-read {n} {c} q en ec =
+      let l = record-of in
+      let f = record-facts l whole in
+      let k : getD l 0 0 ≡ 3 = sym first-byte ∙ q in
+      let w = dates-whole (getD l 0 0) l (2 + getD l 1 0) (f .1) (f .2) (rw k) (rw k) (rw k) in
+      let m : n ≡ getD l 1 0 = en ∙ byte-moved b at (lenAt b i) 1 (at + 1) (omega (arith, f .1)) refl in
+      let x : getD b (at + 2 + n) 0 ≡ getD l (2 + getD l 1 0) 0 = byte-moved b at (lenAt b i) (2 + getD l 1 0) (at + 2 + n) (omega (arith, w .1)) (omega arith) in
+      let y : getD b (at + 2 + n + 1) 0 ≡ getD l (2 + getD l 1 0 + 1) 0 = byte-moved b at (lenAt b i) (2 + getD l 1 0 + 1) (at + 2 + n + 1) (omega (arith, w .1)) (omega arith) in
+      let d : datesIn b i ≡ getD l (2 + getD l 1 0) 0 * 256 + getD l (2 + getD l 1 0 + 1) 0 = dates-are q in
+      omega arith

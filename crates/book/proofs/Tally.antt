@@ -3,49 +3,19 @@ use mathlib.Core.Path.{_≡_, refl, sym, ap, _∙_}
 use mathlib.Core.Bool.{Bool, false, _&&_}
 use mathlib.Core.Option.{Option, none, some}
 use mathlib.Core.List.{List, [], _∷_}
-use Prim.Native.Nat.{ℕ, zero, suc, _+_, _-_, _≤_, _<_}
+use Prim.Native.Nat.{ℕ, zero, suc, _+_, _*_, _≤_, _<_}
 use native.Mathlib.Nat.{le-of-suc-le-suc, not-suc-le-zero}
 use native.Mathlib.Numerals.{add-one}
 use native.Mathlib.Omega.{arith}
 use lib.Dec.{leb, eqb}
 use lib.ListN.{length, getD, drop, getElem?, drop-of-length-le}
 use lib.Seq.{drop-cons}
-use borrow.Author.Tests.{le-leb, lt-leb, eq-eqb, ne-eqb, eqb-true, eqb-false}
-use Rattle.laws_base.specs.Test.{by-test}
+use borrow.Author.Tests.{le-leb, lt-leb, eq-eqb, ne-eqb}
 use Rattle.model.specs.Basic.{if_then_else_, sum}
 use Rattle.model.specs.Book as model
 use Rattle.model.specs.Book.{Body, default, work, pause, holidays, works, pauses, holidayRecords, dates, tally, withinLimits, isDefault, lastDefault}
-use Rattle.book.specs.declared.Entry.{Entry}
-use Rattle.book.specs.Meaning.{recordsOf, datesAt, bodyIn, meaning, kindOf, ofKind, noEntry, IsEntry}
-
--- ---- a record's body, from the code's entry
-
-length-dates : (b : List ℕ) (p n : ℕ) → length (datesAt b p n) ≡ n
-unfolding datesAt
-length-dates b p zero = refl
-length-dates b p (suc n) = ap suc (length-dates b (p + 4) n)
-
-kind-in : (b : List ℕ) (e : Entry) → e .kind ≤ 3 → kindOf (bodyIn b e) ≡ e .kind
-kind-in b e h =
-    by-test (eqb (e .kind) 0)
-    (λ q. rw q (sym (eqb-true (e .kind) 0 q)))
-    (λ q₀. by-test (eqb (e .kind) 1)
-    (λ q. rw (q₀, q) (sym (eqb-true (e .kind) 1 q)))
-    (λ q₁. by-test (eqb (e .kind) 2)
-    (λ q. rw (q₀, q₁, q) (sym (eqb-true (e .kind) 2 q)))
-    (λ q₂.
-    let n₀ = eqb-false (e .kind) 0 q₀ in
-    let n₁ = eqb-false (e .kind) 1 q₁ in
-    let n₂ = eqb-false (e .kind) 2 q₂ in
-    rw (q₀, q₁, q₂) (omega arith))))
-
-module _ (b : List ℕ) (i : ℕ) (e : Entry) (is : IsEntry b i e) where
-  body-at : getD (recordsOf b) i noEntry .body ≡ bodyIn b e
-  unfolding meaning
-  body-at = ap (λ (x : model.Entry). x .body) (sym (is .means))
-
-  kind-at : kindOf (getD (recordsOf b) i noEntry .body) ≡ e .kind
-  kind-at = rw body-at (kind-in b e (is .kind))
+use Rattle.book.specs.declared.Tallies.{Tallies}
+use Rattle.book.specs.Meaning.{recordsOf, kindOf, ofKind, noEntry, kindAt, datesIn, talliesOf}
 
 -- ---- sums over the records
 
@@ -53,46 +23,113 @@ tally-more : (f : Body → ℕ) (l : List model.Entry) (i : ℕ) → i < length 
 unfolding sum
 tally-more f l i h = rw (add-one i, drop-cons l i noEntry h)
 
-pub tally-end : (f : Body → ℕ) (l : List model.Entry) (i s : ℕ) {t : ℕ} → length l ≤ i → s + tally f (drop i l) ≡ t → s ≡ t
+tally-end : (f : Body → ℕ) (l : List model.Entry) (i s : ℕ) {t : ℕ} → length l ≤ i → s + tally f (drop i l) ≡ t → s ≡ t
 unfolding sum
 tally-end f l i s {t} h inv = let z : s + 0 ≡ t = rw (drop-of-length-le l h) at inv in omega arith
 
-module _ (b : List ℕ) (i : ℕ) (e : Entry) (is : IsEntry b i e) (h : i < length (recordsOf b)) (s : ℕ) where
-  module _ (k : ℕ) {t : ℕ} (inv : s + tally (ofKind k) (drop i (recordsOf b)) ≡ t) where
-    kinds-more : tally (ofKind k) (drop i (recordsOf b)) ≡ (if eqb (e .kind) k then 1 else 0) + tally (ofKind k) (drop (i + 1) (recordsOf b))
-    unfolding ofKind
-    kinds-more = rw (← kind-at b i e is) (tally-more (ofKind k) (recordsOf b) i h)
+-- the tallies of the first i records, and of the others
+pub record Summing (l : List model.Entry) (i w p c d : ℕ) : Type 0 where
+  pub work : w + tally (ofKind 1) (drop i l) ≡ tally (ofKind 1) l
+  pub breaks : p + tally (ofKind 2) (drop i l) ≡ tally (ofKind 2) l
+  pub holidays : c + tally (ofKind 3) (drop i l) ≡ tally (ofKind 3) l
+  pub dates : d + tally dates (drop i l) ≡ tally dates l
+  pub work-few : w ≤ i
+  pub breaks-few : p ≤ i
+  pub holidays-few : c ≤ i
+  pub dates-few : d ≤ 65536 * i
 
-    pub kind-yes : e .kind ≡ k → s + 1 + tally (ofKind k) (drop (i + 1) (recordsOf b)) ≡ t
-    kind-yes q = omega (arith, rw (eq-eqb (e .kind) k q) at kinds-more)
+pub summing-start : (l : List model.Entry) → Summing l 0 0 0 0 0
+summing-start l = record {
+  work = omega arith;
+  breaks = omega arith;
+  holidays = omega arith;
+  dates = omega arith;
+  work-few = omega arith;
+  breaks-few = omega arith;
+  holidays-few = omega arith;
+  dates-few = omega arith;
+}
 
-    pub kind-no : (e .kind ≡ k → ⊥) → s + tally (ofKind k) (drop (i + 1) (recordsOf b)) ≡ t
-    kind-no q = omega (arith, rw (ne-eqb (e .kind) k q) at kinds-more)
+-- what a body of a kind adds
+of-kind : (x : Body) (j k : ℕ) → kindOf x ≡ j → ofKind k x ≡ (if eqb j k then 1 else 0)
+unfolding ofKind
+of-kind x j k e = rw e
 
-  module _ {t : ℕ} (inv : s + tally dates (drop i (recordsOf b)) ≡ t) where
-    pub dates-yes : e .kind ≡ 3 → s + e .count + tally dates (drop (i + 1) (recordsOf b)) ≡ t
-    dates-yes q =
-        let d : dates (getD (recordsOf b) i noEntry .body) ≡ e .count = rw (body-at b i e is, q) (length-dates b (e .dates) (e .count)) in
-        omega (arith, tally-more dates (recordsOf b) i h)
+no-dates : (x : Body) → (kindOf x ≡ 3 → ⊥) → dates x ≡ 0
+no-dates default n = refl
+no-dates (work h) n = refl
+no-dates (pause h) n = refl
+no-dates (holidays l) n = absurd (n refl)
 
-    pub dates-no : (e .kind ≡ 3 → ⊥) → s + tally dates (drop (i + 1) (recordsOf b)) ≡ t
-    dates-no q =
-        let d : dates (getD (recordsOf b) i noEntry .body) ≡ 0 = rw (body-at b i e is) (none-there b e (is .kind) q) in
-        omega (arith, tally-more dates (recordsOf b) i h)
-      where
-        none-there : (b : List ℕ) (e : Entry) → e .kind ≤ 3 → (e .kind ≡ 3 → ⊥) → dates (bodyIn b e) ≡ 0
-        none-there b e l n =
-            by-test (eqb (e .kind) 0)
-            (λ q. rw q)
-            (λ q₀. by-test (eqb (e .kind) 1)
-            (λ q. rw (q₀, q))
-            (λ q₁. by-test (eqb (e .kind) 2)
-            (λ q. rw (q₀, q₁, q))
-            (λ q₂.
-            let n₀ = eqb-false (e .kind) 0 q₀ in
-            let n₁ = eqb-false (e .kind) 1 q₁ in
-            let n₂ = eqb-false (e .kind) 2 q₂ in
-            absurd (n (omega arith)))))
+module _ (b : List ℕ) (i : ℕ) {w p c d j : ℕ} (s : Summing (recordsOf b) i w p c d) (h : i < length (recordsOf b)) (ej : j ≡ kindAt b i) where
+  kinds-more : (k : ℕ) → tally (ofKind k) (drop i (recordsOf b)) ≡ (if eqb j k then 1 else 0) + tally (ofKind k) (drop (i + 1) (recordsOf b))
+  unfolding kindAt
+  kinds-more k = tally-more (ofKind k) (recordsOf b) i h ∙ rw (of-kind (getD (recordsOf b) i noEntry .body) j k (sym ej))
+
+  others-more : (j ≡ 3 → ⊥) → tally dates (drop i (recordsOf b)) ≡ tally dates (drop (i + 1) (recordsOf b))
+  unfolding kindAt
+  others-more n = omega (arith, tally-more dates (recordsOf b) i h, no-dates (getD (recordsOf b) i noEntry .body) (λ q. n (ej ∙ q)))
+
+  holidays-more : {n : ℕ} → n ≡ datesIn b i → tally dates (drop i (recordsOf b)) ≡ n + tally dates (drop (i + 1) (recordsOf b))
+  unfolding datesIn
+  holidays-more e = tally-more dates (recordsOf b) i h ∙ rw (← e)
+
+  pub summing-work : j ≡ 1 → Summing (recordsOf b) (i + 1) (w + 1) p c d
+  summing-work q = record {
+    work = omega (arith, s .work, rw q at (kinds-more 1));
+    breaks = omega (arith, s .breaks, rw q at (kinds-more 2));
+    holidays = omega (arith, s .holidays, rw q at (kinds-more 3));
+    dates = omega (arith, s .dates, others-more (λ z. omega arith));
+    work-few = omega (arith, s .work-few);
+    breaks-few = omega (arith, s .breaks-few);
+    holidays-few = omega (arith, s .holidays-few);
+    dates-few = omega (arith, s .dates-few);
+  }
+
+  pub summing-break : j ≡ 2 → Summing (recordsOf b) (i + 1) w (p + 1) c d
+  summing-break q = record {
+    work = omega (arith, s .work, rw q at (kinds-more 1));
+    breaks = omega (arith, s .breaks, rw q at (kinds-more 2));
+    holidays = omega (arith, s .holidays, rw q at (kinds-more 3));
+    dates = omega (arith, s .dates, others-more (λ z. omega arith));
+    work-few = omega (arith, s .work-few);
+    breaks-few = omega (arith, s .breaks-few);
+    holidays-few = omega (arith, s .holidays-few);
+    dates-few = omega (arith, s .dates-few);
+  }
+
+  pub summing-holidays : {n : ℕ} → j ≡ 3 → n ≡ datesIn b i → n < 65536 → Summing (recordsOf b) (i + 1) w p (c + 1) (d + n)
+  summing-holidays q e k = record {
+    work = omega (arith, s .work, rw q at (kinds-more 1));
+    breaks = omega (arith, s .breaks, rw q at (kinds-more 2));
+    holidays = omega (arith, s .holidays, rw q at (kinds-more 3));
+    dates = omega (arith, s .dates, holidays-more e);
+    work-few = omega (arith, s .work-few);
+    breaks-few = omega (arith, s .breaks-few);
+    holidays-few = omega (arith, s .holidays-few);
+    dates-few = omega (arith, s .dates-few);
+  }
+
+  pub summing-other : (j ≡ 1 → ⊥) → (j ≡ 2 → ⊥) → (j ≡ 3 → ⊥) → Summing (recordsOf b) (i + 1) w p c d
+  summing-other n₁ n₂ n₃ = record {
+    work = omega (arith, s .work, rw (ne-eqb j 1 n₁) at (kinds-more 1));
+    breaks = omega (arith, s .breaks, rw (ne-eqb j 2 n₂) at (kinds-more 2));
+    holidays = omega (arith, s .holidays, rw (ne-eqb j 3 n₃) at (kinds-more 3));
+    dates = omega (arith, s .dates, others-more n₃);
+    work-few = omega (arith, s .work-few);
+    breaks-few = omega (arith, s .breaks-few);
+    holidays-few = omega (arith, s .holidays-few);
+    dates-few = omega (arith, s .dates-few);
+  }
+
+pub summing-end : (l : List model.Entry) (i w p c d : ℕ) → Summing l i w p c d → length l ≤ i → record { work = w; breaks = p; holidays = c; dates = d } ≡ talliesOf l
+unfolding talliesOf
+summing-end l i w p c d s h =
+    let ew = tally-end (ofKind 1) l i w h (s .work) in
+    let ep = tally-end (ofKind 2) l i p h (s .breaks) in
+    let ec = tally-end (ofKind 3) l i c h (s .holidays) in
+    let ed = tally-end dates l i d h (s .dates) in
+    rw (ew, ep, ec, ed)
 
 -- ---- the limits
 
@@ -137,29 +174,30 @@ module _ (l : List model.Entry) {n : ℕ} (en : n ≡ length l) where
   unfolding limitsTest
   many-records h = limits-say l (rw (← en, lt-leb n 64 h))
 
-  module _ {w : ℕ} (hn : n ≤ 64) (ew : w ≡ tally (ofKind 1) l) where
-    pub many-work : 16 < w → false ≡ withinLimits l
-    unfolding limitsTest
-    many-work h = limits-say l (rw (← en, le-leb n 64 hn, ← ew, lt-leb w 16 h))
+  module _ {t : Tallies} (hn : n ≤ 64) (et : t ≡ talliesOf l) where
+    limits-left : limitsTest l ≡ (leb (t .work) 16 && (leb (t .breaks) 16 && (leb (t .holidays) 8 && leb (t .dates) 512)))
+    unfolding limitsTest talliesOf
+    limits-left = rw (← en, le-leb n 64 hn, et)
 
-    module _ {p : ℕ} (hw : w ≤ 16) (ep : p ≡ tally (ofKind 2) l) where
-      pub many-breaks : 16 < p → false ≡ withinLimits l
-      unfolding limitsTest
-      many-breaks h = limits-say l (rw (← en, le-leb n 64 hn, ← ew, le-leb w 16 hw, ← ep, lt-leb p 16 h))
+    pub many-work : 16 < t .work → false ≡ withinLimits l
+    many-work h = limits-say l (rw (limits-left, lt-leb (t .work) 16 h))
 
-      module _ {c : ℕ} (hp : p ≤ 16) (ec : c ≡ tally (ofKind 3) l) where
-        pub many-holidays : 8 < c → false ≡ withinLimits l
-        unfolding limitsTest
-        many-holidays h = limits-say l (rw (← en, le-leb n 64 hn, ← ew, le-leb w 16 hw, ← ep, le-leb p 16 hp, ← ec, lt-leb c 8 h))
+    pub many-breaks : t .work ≤ 16 → 16 < t .breaks → false ≡ withinLimits l
+    many-breaks hw h = limits-say l (rw (limits-left, le-leb (t .work) 16 hw, lt-leb (t .breaks) 16 h))
 
-        pub dates-within : {d : ℕ} → c ≤ 8 → d ≡ tally dates l → leb d 512 ≡ withinLimits l
-        unfolding limitsTest
-        dates-within hc ed = limits-say l (rw (← en, le-leb n 64 hn, ← ew, le-leb w 16 hw, ← ep, le-leb p 16 hp, ← ec, le-leb c 8 hc, ← ed))
+    pub many-holidays : t .work ≤ 16 → t .breaks ≤ 16 → 8 < t .holidays → false ≡ withinLimits l
+    many-holidays hw hp h = limits-say l (rw (limits-left, le-leb (t .work) 16 hw, le-leb (t .breaks) 16 hp, lt-leb (t .holidays) 8 h))
+
+    pub dates-within : t .work ≤ 16 → t .breaks ≤ 16 → t .holidays ≤ 8 → leb (t .dates) 512 ≡ withinLimits l
+    dates-within hw hp hc = limits-say l (rw (limits-left, le-leb (t .work) 16 hw, le-leb (t .breaks) 16 hp, le-leb (t .holidays) 8 hc))
 
 -- ---- the default zone
 
-default-at : (b : List ℕ) (i : ℕ) (e : Entry) → IsEntry b i e → isDefault (getD (recordsOf b) i noEntry .body) ≡ eqb (e .kind) 0
-default-at b i e is = rw (body-at b i e is) (by-test (eqb (e .kind) 0) (λ q. rw q) (λ q₀. by-test (eqb (e .kind) 1) (λ q. rw (q₀, q)) (λ q₁. by-test (eqb (e .kind) 2) (λ q. rw (q₀, q₁, q)) (λ q₂. rw (q₀, q₁, q₂)))))
+default-kind : (x : Body) (k : ℕ) → k ≡ kindOf x → isDefault x ≡ eqb k 0
+default-kind default k e = rw e
+default-kind (work h) k e = rw e
+default-kind (pause h) k e = rw e
+default-kind (holidays l) k e = rw e
 
 last-more : (d : Option model.Entry) (l : List model.Entry) (i : ℕ) → i < length l →
     lastDefault d (drop i l) ≡ lastDefault (if isDefault (getD l i noEntry .body) then some (getD l i noEntry) else d) (drop (i + 1) l)
@@ -184,11 +222,15 @@ pub last-end : (l : List model.Entry) (i n : ℕ) {r : Option model.Entry} → l
 unfolding lastDefault
 last-end l i n h inv = rw (drop-of-length-le l h) at inv
 
-module _ (b : List ℕ) (i : ℕ) (e : Entry) (is : IsEntry b i e) (h : i < length (recordsOf b)) (n : ℕ) {r : Option model.Entry} (inv : lastDefault (getElem? (recordsOf b) n) (drop i (recordsOf b)) ≡ r) where
-  pub last-yes : e .kind ≡ 0 → lastDefault (getElem? (recordsOf b) i) (drop (i + 1) (recordsOf b)) ≡ r
+module _ (b : List ℕ) (i : ℕ) {k : ℕ} (ek : k ≡ kindAt b i) (h : i < length (recordsOf b)) (n : ℕ) {r : Option model.Entry} (inv : lastDefault (getElem? (recordsOf b) n) (drop i (recordsOf b)) ≡ r) where
+  default-at : isDefault (getD (recordsOf b) i noEntry .body) ≡ eqb k 0
+  unfolding kindAt
+  default-at = default-kind (getD (recordsOf b) i noEntry .body) k ek
+
+  pub last-yes : k ≡ 0 → lastDefault (getElem? (recordsOf b) i) (drop (i + 1) (recordsOf b)) ≡ r
   last-yes q =
       rw (elem-at (recordsOf b) i h)
-      ((rw (default-at b i e is, eq-eqb (e .kind) 0 q) at (sym (last-more (getElem? (recordsOf b) n) (recordsOf b) i h))) ∙ inv)
+      ((rw (default-at, eq-eqb k 0 q) at (sym (last-more (getElem? (recordsOf b) n) (recordsOf b) i h))) ∙ inv)
 
-  pub last-no : (e .kind ≡ 0 → ⊥) → lastDefault (getElem? (recordsOf b) n) (drop (i + 1) (recordsOf b)) ≡ r
-  last-no q = (rw (default-at b i e is, ne-eqb (e .kind) 0 q) at (sym (last-more (getElem? (recordsOf b) n) (recordsOf b) i h))) ∙ inv
+  pub last-no : (k ≡ 0 → ⊥) → lastDefault (getElem? (recordsOf b) n) (drop (i + 1) (recordsOf b)) ≡ r
+  last-no q = (rw (default-at, ne-eqb k 0 q) at (sym (last-more (getElem? (recordsOf b) n) (recordsOf b) i h))) ∙ inv

@@ -2,11 +2,10 @@
 use mathlib.Core.Bool.{Bool}
 use mathlib.Core.List.{List}
 use Prim.Native.Nat.{ℕ}
-use lib.ListN.{take, drop}
-use Rattle.model.specs.Basic.{each}
-use Rattle.model.specs.Bytes.{pieces}
-use Rattle.model.specs.Book.{timeOf, hoursOf, dateIn, datesOf, bodyOf, entryOf, entriesOf}
+use lib.ListN.{drop}
+use Rattle.model.specs.Book.{timeOf, hoursOf, datesOf, bodyOf, entryOf, entriesOf}
 use Rattle.be.specs.Maybe.{isSome}
+unfoldable pub use Rattle.dates_of.specs.Days.{isDay, areDays}
 use Rattle.book.specs.Meaning.{bytesAt}
 
 unfoldable pub isTime : List ℕ → ℕ → Bool
@@ -14,13 +13,6 @@ isTime l p = isSome (timeOf (drop p l))
 
 unfoldable pub isHours : List ℕ → ℕ → Bool
 isHours l p = isSome (hoursOf (drop p l))
-
-unfoldable pub isDay : List ℕ → ℕ → Bool
-isDay l p = isSome (dateIn (take 4 (drop p l)))
-
--- n dates
-unfoldable pub areDays : List ℕ → ℕ → ℕ → Bool
-areDays l p n = isSome (each dateIn (pieces 4 n (drop p l)))
 
 -- a count and as many dates
 unfoldable pub isDates : List ℕ → ℕ → Bool

@@ -1,39 +1,24 @@
 -- What the code's records stand for: from an `Entry` of the code and the bytes of the book to an `Entry` of the crate `model`.
 use mathlib.Core.Path.{_≡_}
 use mathlib.Core.List.{List, [], _∷_}
-use Prim.Native.Nat.{ℕ, zero, suc, _+_, _*_, _-_, _%_, _≤_, _<_}
+use Prim.Native.Nat.{ℕ, _+_, _*_, _≤_, _<_}
 use lib.Dec.{eqb}
 use lib.ListN.{length, getD, take, drop}
 use Rattle.be.specs.Be.{be16, be32}
 use Rattle.be.specs.Maybe.{orEmpty}
 use Rattle.pack.specs.Directory.{startAt, lenAt}
 use Rattle.model.specs.Basic.{if_then_else_}
-use Rattle.model.specs.Calendar.{isDate, dayNumber}
 use Rattle.model.specs.Instant.{second}
+unfoldable pub use Rattle.dates_of.specs.Days.{yearAt, dayAt, datesAt}
 use Rattle.model.specs.Book as model
-use Rattle.model.specs.Book.{Hours, Body, default, work, pause, holidays, entriesOf}
+use Rattle.model.specs.Book.{Hours, Body, default, work, pause, holidays, entriesOf, dates, tally}
 use Rattle.book.specs.declared.Time.{Time}
 use Rattle.book.specs.declared.Entry.{Entry}
+use Rattle.book.specs.declared.Tallies.{Tallies}
 
 -- the book's records; none where its layout does not hold
 abbrev pub recordsOf : List ℕ → List model.Entry
 recordsOf b = orEmpty (entriesOf b)
-
--- ---- dates, which stay in the book
-
--- the year written at p, counted from -10400; 0 for those before
-unfoldable pub yearAt : List ℕ → ℕ → ℕ
-yearAt b p = (be16 b p + 32768) % 65536 - 22368
-
--- the day number of the date written at p, 0 where it is no date
-unfoldable pub dayAt : List ℕ → ℕ → ℕ
-dayAt b p =
-    if isDate (yearAt b p) (getD b (p + 2) 0) (getD b (p + 3) 0) then dayNumber (yearAt b p) (getD b (p + 2) 0) (getD b (p + 3) 0) else 0
-
--- those of the n dates written from p on
-unfoldable pub datesAt : List ℕ → ℕ → ℕ → List ℕ
-datesAt b p zero = []
-datesAt b p (suc n) = dayAt b p ∷ datesAt b (p + 4) n
 
 -- ---- records
 
@@ -110,3 +95,16 @@ pub record IsEntry (b : List ℕ) (i : ℕ) (e : Entry) : Type 0 where
   pub dates : e .kind ≡ 3 → e .dates + 4 * e .count ≤ length b
   pub few : e .count < 65536
   pub timed : 1 ≤ e .kind → e .kind ≤ 2 → IsTimed e
+
+-- ---- what is counted of the records
+
+-- the kind of record i, and how many dates it has
+unfoldable pub kindAt : List ℕ → ℕ → ℕ
+kindAt b i = kindOf (getD (recordsOf b) i noEntry .body)
+
+unfoldable pub datesIn : List ℕ → ℕ → ℕ
+datesIn b i = dates (getD (recordsOf b) i noEntry .body)
+
+-- how many there are of each kind, and how many dates
+unfoldable pub talliesOf : List model.Entry → Tallies
+talliesOf l = record { work = tally (ofKind 1) l; breaks = tally (ofKind 2) l; holidays = tally (ofKind 3) l; dates = tally dates l }

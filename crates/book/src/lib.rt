@@ -5,10 +5,10 @@ ghost use mathlib.Core.Bool.{true};
 ghost use mathlib.Core.Option.{none};
 ghost use lib.ListN.{length, getElem?};
 ghost use Rattle.model.specs.Basic.{among, distinct};
-ghost use Rattle.model.specs.Book.{dates, tally, withinLimits, lastDefault};
+ghost use Rattle.model.specs.Book.{withinLimits, lastDefault};
 ghost use Rattle.be.specs.Walk.{allFrom};
-ghost use Rattle.book.specs.Meaning.{recordsOf, yearAt, dayAt, datesAt, ofKind, timeFrom, entryFrom, bytesAt, IsEntry};
-ghost use Rattle.book.specs.Accepts.{isTime, isHours, isDay, areDays, isDates, isBody, isRecord, isRecordAt, isBook};
+ghost use Rattle.book.specs.Meaning.{recordsOf, yearAt, dayAt, datesAt, timeFrom, entryFrom, bytesAt, IsEntry, kindAt, datesIn, talliesOf};
+ghost use Rattle.book.specs.Accepts.{isTime, isHours, isDates, isBody, isRecord, isRecordAt, isBook};
 
 // A time of day.
 pub struct Time {
@@ -64,66 +64,6 @@ fn hours_ok(l: &[u8], p: usize) -> bool
     time_ok(l, p + 9)
 }
 
-// The year of the date at p, counted from -10400; 0 for the years before.
-pub fn year_at(b: &[u8], p: usize) -> u32
-    ensures { λ r. ⌜ r ≡ yearAt (now (b .entry)) p ⌝ }
-{
-    let y = (be::be16_at(b, p) + 32768) % 65536;
-    if y < 22368 {
-        return 0;
-    }
-    y - 22368
-}
-
-// A byte as a wider number.
-fn wide(x: u8) -> u32
-    ensures { λ r. ⌜ r ≡ x ⌝ }
-{
-    x as u32
-}
-
-// A date: year, month and day.
-fn date_ok(l: &[u8], p: usize) -> bool
-    requires { ⌜ p + 4 ≤ length (now l) ⌝ }
-    ensures { λ r. ⌜ r ≡ isDay (now (l .entry)) p ⌝ }
-{
-    let year = year_at(l, p);
-    let month = wide(be::byte_at(l, p + 2));
-    let day = wide(be::byte_at(l, p + 3));
-    civil::is_date(year, month, day)
-}
-
-// The number of the day that is written at p, 0 where that is no date.
-pub fn date_at(b: &[u8], p: usize) -> u32
-    requires { ⌜ p + 4 ≤ length (now b) ⌝ }
-    ensures { λ r. ⌜ r ≡ dayAt (now (b .entry)) p ⌝ }
-{
-    let year = year_at(b, p);
-    let month = wide(be::byte_at(b, p + 2));
-    let day = wide(be::byte_at(b, p + 3));
-    if !civil::is_date(year, month, day) {
-        return 0;
-    }
-    civil::day_number(year, month, day)
-}
-
-// n dates.
-fn dates_ok(l: &[u8], p: usize, n: usize) -> bool
-    requires { ⌜ p + 4 * n ≤ length (now l) ⌝ }
-    ensures { λ r. ⌜ r ≡ areDays (now (l .entry)) p n ⌝ }
-{
-    let mut at = p;
-    let mut left = n;
-    while 0 < left {
-        if !date_ok(l, at) {
-            return false;
-        }
-        at += 4;
-        left -= 1;
-    }
-    true
-}
-
 // A count and as many dates, and nothing behind them.
 fn holidays_ok(l: &[u8], p: usize) -> bool
     requires { ⌜ p ≤ length (now l) ⌝ }
@@ -136,7 +76,7 @@ fn holidays_ok(l: &[u8], p: usize) -> bool
     if l.len() != p + 2 + 4 * n {
         return false;
     }
-    dates_ok(l, p + 2, n)
+    dates_of::dates_ok(l, p + 2, n)
 }
 
 // What stands behind the name of a record of the given kind.
@@ -173,42 +113,37 @@ fn record_ok(l: &[u8]) -> bool
     body_ok(be::byte_at(l, 0), l, 2 + n)
 }
 
-// ---- the dates of a record, which stay in the book b: n dates from p on
+// ---- the dates of a record, which stay in the book b (crate `dates_of`)
 
-// Is the day among them?
+// The year of the date at p, counted from -10400; 0 for the years before.
+pub fn year_at(b: &[u8], p: usize) -> u32
+    ensures { λ r. ⌜ r ≡ yearAt (now (b .entry)) p ⌝ }
+{
+    dates_of::year_at(b, p)
+}
+
+// The number of the day that is written at p, 0 where that is no date.
+pub fn date_at(b: &[u8], p: usize) -> u32
+    requires { ⌜ p + 4 ≤ length (now b) ⌝ }
+    ensures { λ r. ⌜ r ≡ dayAt (now (b .entry)) p ⌝ }
+{
+    dates_of::date_at(b, p)
+}
+
+// Is the day among the n dates from p on?
 pub fn has_date(b: &[u8], p: usize, n: usize, day: u32) -> bool
     requires { ⌜ p + 4 * n ≤ length (now b) ⌝ }
     ensures { λ r. ⌜ r ≡ among (datesAt (now (b .entry)) p n) day ⌝ }
 {
-    let mut at = p;
-    let mut left = n;
-    while 0 < left {
-        if day == date_at(b, at) {
-            return true;
-        }
-        at += 4;
-        left -= 1;
-    }
-    false
+    dates_of::has_date(b, p, n, day)
 }
 
-// How many different dates they are: a date counts if no later one equals it.
+// How many different days they are.
 pub fn distinct_dates(b: &[u8], p: usize, n: usize) -> usize
     requires { ⌜ p + 4 * n ≤ length (now b) ⌝ }
     ensures { λ r. ⌜ (r ≡ length (distinct (datesAt (now (b .entry)) p n))) × (r ≤ n) ⌝ }
 {
-    let mut at = p;
-    let mut left = n;
-    let mut count: usize = 0;
-    while 0 < left {
-        let day = date_at(b, at);
-        at += 4;
-        left -= 1;
-        if !has_date(b, at, left, day) {
-            count += 1;
-        }
-    }
-    count
+    dates_of::distinct_dates(b, p, n)
 }
 
 // ---- the book's records
@@ -295,42 +230,64 @@ pub fn entry_at(book: &[u8], i: usize) -> Entry
     read_entry(record_at(book, i), pack::start_at(book, i))
 }
 
-// ---- the limits
+// ---- the kind of a record, read alone
 
-// How many records of a kind there are.
-fn kind_count(book: &[u8], kind: u8) -> usize
-    requires { ⌜ isBook (now book) ≡ true ⌝ }
-    ensures { λ r. ⌜ r ≡ tally (ofKind kind) (recordsOf (now (book .entry))) ⌝ }
+// The kind of record i: its first byte.
+fn kind_at(book: &[u8], i: usize) -> u8
+    requires { ⌜ (i < length (recordsOf (now book))) × (i < 4294967296) ⌝ }
+    ensures { λ r. ⌜ r ≡ kindAt (now (book .entry)) i ⌝ }
 {
-    let n = count(book);
-    let mut sum: usize = 0;
-    let mut i: usize = 0;
-    while i < n {
-        let e = entry_at(book, i);
-        i += 1;
-        if e.kind == kind {
-            sum += 1;
-        }
-    }
-    sum
+    be::byte_at(book, pack::start_at(book, i))
 }
 
-// How many dates the records have, as written.
-fn date_count(book: &[u8]) -> usize
-    requires { ⌜ isBook (now book) ≡ true ⌝ }
-    ensures { λ r. ⌜ r ≡ tally dates (recordsOf (now (book .entry))) ⌝ }
+// How many dates record i has, which is of kind 3: the two bytes behind its name.
+fn dates_in(book: &[u8], i: usize) -> usize
+    requires { ⌜ (i < length (recordsOf (now book))) × (i < 4294967296) × (kindAt (now book) i ≡ 3) ⌝ }
+    ensures { λ r. ⌜ (r ≡ datesIn (now (book .entry)) i) × (r < 65536) ⌝ }
 {
-    let n = count(book);
-    let mut sum: usize = 0;
+    let at = pack::start_at(book, i);
+    be::be16_at(book, at + 2 + be::small_at(book, at + 1)) as usize
+}
+
+// ---- the limits
+
+// How many work, break and holiday records there are, and how many dates as written.
+pub struct Tallies {
+    pub work: usize,
+    pub breaks: usize,
+    pub holidays: usize,
+    pub dates: usize,
+}
+
+// The tallies of the book's n records.
+fn tallies_of(book: &[u8], n: usize) -> Tallies
+    requires { ⌜ (n ≡ length (recordsOf (now book))) × (n < 4294967296) ⌝ }
+    ensures { λ r. ⌜ r ≡ talliesOf (recordsOf (now (book .entry))) ⌝ }
+{
+    let mut work: usize = 0;
+    let mut breaks: usize = 0;
+    let mut holidays: usize = 0;
+    let mut dates: usize = 0;
     let mut i: usize = 0;
     while i < n {
-        let e = entry_at(book, i);
+        let at = i;
+        let kind = kind_at(book, at);
         i += 1;
-        if e.kind == 3 {
-            sum += e.count;
+        if kind == 1 {
+            work += 1;
+        } else if kind == 2 {
+            breaks += 1;
+        } else if kind == 3 {
+            holidays += 1;
+            dates += dates_in(book, at);
         }
     }
-    sum
+    Tallies {
+        work,
+        breaks,
+        holidays,
+        dates,
+    }
 }
 
 // Does the book keep within its limits? Refusal 2 where not.
@@ -338,19 +295,21 @@ pub fn limits_ok(book: &[u8]) -> bool
     requires { ⌜ isBook (now book) ≡ true ⌝ }
     ensures { λ r. ⌜ r ≡ withinLimits (recordsOf (now (book .entry))) ⌝ }
 {
-    if count(book) > 64 {
+    let n = count(book);
+    if n > 64 {
         return false;
     }
-    if kind_count(book, 1) > 16 {
+    let t = tallies_of(book, n);
+    if t.work > 16 {
         return false;
     }
-    if kind_count(book, 2) > 16 {
+    if t.breaks > 16 {
         return false;
     }
-    if kind_count(book, 3) > 8 {
+    if t.holidays > 8 {
         return false;
     }
-    date_count(book) <= 512
+    t.dates <= 512
 }
 
 // The record whose default zone wins, the last of kind 0; the number of records where there is none.
@@ -363,9 +322,8 @@ pub fn last_default(book: &[u8]) -> usize
     let mut i: usize = 0;
     while i < n {
         let at = i;
-        let e = entry_at(book, at);
         i += 1;
-        if e.kind == 0 {
+        if kind_at(book, at) == 0 {
             found = at;
         }
     }

@@ -9,11 +9,11 @@ use lib.Bits.{bitAnd}
 use lib.Pow.{pow-pos, pow-mono}
 use borrow.Author.Tests.{lt-ltb, le-ltb, le-leb, lt-leb, eq-eqb, ne-eqb}
 use Rattle.model.specs.Basic.{if_then_else_, isIn}
-use Rattle.model.specs.Calendar.{isDate, dayNumber, dateOf, firstDay, lastDay, contains}
+use Rattle.model.specs.Calendar.{isLeap, daysInMonth, isDate, dayNumber, dateOf, firstDay, lastDay, contains}
 use Rattle.model.specs.Instant.{second}
 use Rattle.laws_base.specs.Test.{by-test, clash}
-use Rattle.laws_base.specs.Claim.{Claim, eq, all, at-each, all₂, at-each₂}
-use Rattle.laws_calendar.specs.Dates.{Has, is-had, date-facts, day-from, day-to}
+use Rattle.laws_base.specs.Claim.{Claim, le, eq, if, all, at-each, all₂, at-each₂}
+use Rattle.laws_calendar.specs.Dates.{Has, is-had, date-facts, date-test, day-from, day-to}
 use Rattle.civil.specs.Dates.{dated, dayRead, dateRead, nextRead, previousRead, timeRead}
 use Rattle.civil.specs.declared.Date.{Date}
 use Rattle.civil.specs.declared.DateRead.{DateRead}
@@ -23,6 +23,25 @@ use Rattle.civil.specs.declared.DayRead.the-variants.{Day, NoDate}
 use Rattle.civil.specs.declared.TimeRead.the-variants.{Nanoseconds, NoTime}
 
 -- ---- dates
+
+-- every month has 28 days
+month-has : Bool → ℕ → Claim
+month-has l m = (if) (le 1 m) (le 28 (daysInMonth l m))
+
+months-have : (l : Bool) → T (all (month-has l) 13)
+unfolding all month-has daysInMonth
+months-have true = tt
+months-have false = tt
+
+at-least-28 : (l : Bool) (m : ℕ) → 1 ≤ m → m < 13 → 28 ≤ daysInMonth l m
+unfolding month-has
+at-least-28 l m h k = at-each (month-has l) 13 (months-have l) m k h
+
+-- so its first 28 days are dates
+pub in-28 : (y m d : ℕ) → 401 ≤ y → y ≤ 20399 → 1 ≤ m → m ≤ 12 → 1 ≤ d → d < 29 → true ≡ isDate y m d
+in-28 y m d a b c e f g =
+    let h : 28 ≤ daysInMonth (isLeap y) m = at-least-28 (isLeap y) m c (omega arith) in
+    sym (date-test (record { year-low = a; year-high = b; month-low = c; month-high = e; day-low = f; day-high = omega arith }))
 
 pub has-date : (y m d : ℕ) → isDate y m d ≡ true → (y ≤ 20799) × Has y m d
 has-date y m d e = let v = date-facts {y = y} {m = m} {d = d} e in (omega arith, is-had v)

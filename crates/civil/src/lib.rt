@@ -131,7 +131,7 @@ pub fn date_of(day: u32) -> Date
     date_in(year, day - days_before_year(year))
 }
 
-// A date of the years -9999 to 9999.
+// A date of the years -9999 to 9999. Every month has 28 days: the year is asked only for the days behind them.
 pub fn is_date(year: u32, month: u32, day: u32) -> bool
     ensures { λ r. ⌜ r ≡ isDate year month day ⌝ }
 {
@@ -149,6 +149,9 @@ pub fn is_date(year: u32, month: u32, day: u32) -> bool
     }
     if day < 1 {
         return false;
+    }
+    if day < 29 {
+        return true;
     }
     if days_in_month(is_leap(year), month) < day {
         return false;

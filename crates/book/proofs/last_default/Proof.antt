@@ -22,23 +22,23 @@ count-requires c κs = (c .before .pre)
 loop-holds : tie.Need-loop-holds Inv-loop μ-loop
 loop-holds c = (omega arith, omega arith, last-start _ ((c .count .ensures) .0))
 
-entry-at-requires : tie.Need-entry-at-requires Inv-loop μ-loop
-entry-at-requires c κs = (omega (arith, (c .before .before .count .ensures)), omega (arith, (c .before .before .count .ensures)))
-
 add-i : tie.Need-add-i Inv-loop μ-loop
-add-i c = omega (arith, (c .before .before .before .count .ensures))
+add-i c = omega (arith, (c .before .before .count .ensures))
+
+kind-at-requires : tie.Need-kind-at-requires Inv-loop μ-loop
+kind-at-requires c κs = (omega (arith, (c .before .before .count .ensures)), omega (arith, (c .before .before .count .ensures)))
 
 loop-less : tie.Need-loop-less Inv-loop μ-loop
 loop-less c = omega arith
 
 loop-again : tie.Need-loop-again Inv-loop μ-loop
-loop-again c = (omega arith, omega arith, last-yes _ _ _ (c .before .before .entry-at .ensures) (omega (arith, (c .before .before .before .before .before .count .ensures))) _ ((c .before .before .before .before .loop .inv) .2) (c .if1 .taken))
+loop-again c = (omega arith, omega arith, last-yes _ _ (c .before .kind-at .ensures) (omega (arith, (c .before .before .before .before .count .ensures))) _ ((c .before .before .before .loop .inv) .2) (omega arith))
 
 loop-less-2 : tie.Need-loop-less-2 Inv-loop μ-loop
 loop-less-2 c = omega arith
 
 loop-again-2 : tie.Need-loop-again-2 Inv-loop μ-loop
-loop-again-2 c = (omega arith, omega arith, last-no _ _ _ (c .before .before .entry-at .ensures) (omega (arith, (c .before .before .before .before .before .count .ensures))) _ ((c .before .before .before .before .loop .inv) .2) (c .if1 .left))
+loop-again-2 c = (omega arith, omega arith, last-no _ _ (c .before .kind-at .ensures) (omega (arith, (c .before .before .before .before .count .ensures))) _ ((c .before .before .before .loop .inv) .2) (λ z. omega arith))
 
 returns : tie.Need-returns Inv-loop μ-loop
 returns c = (last-end (recordsOf ((c .before .before .before .before .args .book) .now)) (c .before .loop .i) (c .before .loop .found) (omega (arith, (c .before .before .count .ensures))) ((c .before .loop .inv) .2), omega (arith, (c .before .before .count .ensures)))
@@ -51,8 +51,8 @@ last-default-spec =
     μ-loop
     count-requires
     loop-holds
-    entry-at-requires
     add-i
+    kind-at-requires
     loop-less
     loop-again
     loop-less-2

@@ -5,6 +5,7 @@ use mathlib.Core.Path.{sym, ap}
 use native.Mathlib.Omega.{arith}
 use Rattle.laws_calendar.specs.Dates.{date-test, no-date, IsDate}
 use borrow.Author.Needs.{needs}
+use Rattle.civil.specs.DateLaws.{in-28}
 use Rattle.civil.proofs.is_date.Statement.{statement}
 use Rattle.civil.proofs.is_date.Tie as tie
 
@@ -23,17 +24,20 @@ returns-4 c = sym (no-date (λ v. omega arith))
 returns-5 : tie.Need-returns-5
 returns-5 c = sym (no-date (λ v. omega arith))
 
+returns-6 : tie.Need-returns-6
+returns-6 c = in-28 _ _ _ (omega arith) (omega arith) (omega arith) (omega arith) (omega arith) (omega arith)
+
 is-leap-requires : tie.Need-is-leap-requires
 is-leap-requires c κs = search needs
 
 days-in-month-requires : tie.Need-days-in-month-requires
 days-in-month-requires c κs = search needs
 
-returns-6 : tie.Need-returns-6
-returns-6 c = sym (no-date (λ v. omega (arith, ap (λ (l : Bool). daysInMonth l (c .before .before .before .before .before .before .before .before .args .month)) (c .before .before .is-leap .ensures))))
-
 returns-7 : tie.Need-returns-7
-returns-7 c = sym (date-test (omega (arith, ap (λ (l : Bool). daysInMonth l (c .before .before .before .before .before .before .before .before .args .month)) (c .before .before .is-leap .ensures))))
+returns-7 c = sym (no-date (λ v. omega (arith, ap (λ (l : Bool). daysInMonth l (c .before .before .before .before .before .before .before .before .before .args .month)) (c .before .before .is-leap .ensures))))
+
+returns-8 : tie.Need-returns-8
+returns-8 c = sym (date-test (omega (arith, ap (λ (l : Bool). daysInMonth l (c .before .before .before .before .before .before .before .before .before .args .month)) (c .before .before .is-leap .ensures))))
 
 pub is-date-spec : {M : Type 1} → statement M
 is-date-spec =
@@ -44,7 +48,8 @@ is-date-spec =
     returns-3
     returns-4
     returns-5
+    returns-6
     is-leap-requires
     days-in-month-requires
-    returns-6
-    returns-7)
+    returns-7
+    returns-8)
