@@ -2,7 +2,7 @@
 use mathlib.Core.Path.{_≡_, refl, sym, _∙_, ap, ap₂}
 use mathlib.Core.List.{List, [], _∷_, _++_, append-assoc, append-nil}
 use mathlib.Core.Logic.{_⊎_, inl, inr, ⊎-elim, _↔_}
-use Prim.Native.Nat.{ℕ, zero, suc, _+_, _*_, _-_, _≤_, _<_, min, max}
+use Prim.Native.Nat.{ℕ, zero, suc, _+_, _*_, _-_, _/_, _≤_, _<_, min, max}
 use native.Mathlib.Omega.{arith}
 use borrow.Author.Tests.{lt-ltb, le-ltb}
 use lib.Dec.{ltb}
@@ -10,7 +10,7 @@ use lib.ListN.{length, getD}
 use Rattle.model.specs.Basic.{if_then_else_}
 use Rattle.model.specs.Blocks.{Block, block, put, union}
 use Rattle.laws_base.specs.Test.{by-test}
-use Rattle.laws_blocks.specs.Members.{In, NonEmpty, Chain, Normal, Ends, From, halves, append-in, append-nonempty, chain-weaken, chain-sorted, chain-nonempty, from-in, union-in, union-normal, normal-unique, union-again, union-same}
+use Rattle.laws_blocks.specs.Members.{In, NonEmpty, Chain, Normal, Ends, From, halves, append-in, append-nonempty, chain-weaken, chain-sorted, chain-nonempty, from-in, from-weaken, union-in, union-normal, normal-unique, union-again, union-same}
 use Rattle.pairs.specs.Pairs.{part, pairs, Reach, StartsTo, EndsFrom, Raised, Lowered, hull}
 use Rattle.pairs.proofs.Parts.{blockAt, blockTo, block-same, part-same, pairs-cut, from-cut, from-first, from-back, to-last, pairs-last, from-none, stored, stored-at, stored-front, stored-rest}
 
@@ -161,11 +161,47 @@ module _ (a b : List Block) (s e : ℕ) (h : s < e) (p : Before s a) (q : From (
 
 -- ---- the places
 
-pub start-holds : (l : List ℕ) (n e : ℕ) → From (suc e) (part n (n - n) l)
+start-holds : (l : List ℕ) (n e : ℕ) → From (suc e) (part n (n - n) l)
 start-holds l n e = rw (from-none n l) tt
 
-pub start-turn : (l : List ℕ) (n e i : ℕ) → 0 < i → i ≤ n → e < getD l (2 * i - 2) 0 → From (suc e) (part i (n - i) l) → From (suc e) (part (i - 1) (n - (i - 1)) l)
-start-turn l n e i h k p f = rw (from-back i n l h k) (p, f)
+-- a block that starts behind e, and all behind it
+start-behind : (l : List ℕ) (n e i : ℕ) → Normal (pairs n l) → i < n → e < getD l (2 * i) 0 → From (suc e) (part i (n - i) l)
+start-behind l n e i w h p =
+    let q : Chain 0 (pairs i l ++ (blockAt l i ∷ part (i + 1) (n - (i + 1)) l)) = (rw (pairs-cut i n l (omega arith), from-first i n l h) at w) in
+    let a = chain-at 0 (pairs i l) (blockAt l i) (part (i + 1) (n - (i + 1)) l) q in
+    let b = chain-after 0 (pairs i l) (blockAt l i) (part (i + 1) (n - (i + 1)) l) q in
+    rw (from-first i n l h) (p, from-weaken (suc e) (suc (blockAt l i .end)) (part (i + 1) (n - (i + 1)) l) (omega (arith, a)) b)
+
+-- all of them
+pub all-started : (l : List ℕ) (n e : ℕ) → getD l (2 * n - 2) 0 ≤ e → StartsTo l n e n
+all-started l n e p = record { upto = omega arith; behind = start-holds l n e; last = λ _. p }
+
+-- a search by halves: the blocks from hi on start behind e, and the one in front of lo does not
+pub record Halving (l : List ℕ) (n e lo hi : ℕ) : Type 0 where
+  pub order : lo ≤ hi
+  pub upto : hi ≤ n
+  pub behind : From (suc e) (part hi (n - hi) l)
+  pub last : 0 < lo → getD l (2 * lo - 2) 0 ≤ e
+
+pub half-starts : (l : List ℕ) (n e : ℕ) → Halving l n e 0 n
+half-starts l n e = record { order = omega arith; upto = omega arith; behind = start-holds l n e; last = λ h. absurd (omega arith) }
+
+module _ (l : List ℕ) (n e lo hi : ℕ) where
+  pub half-low : Halving l n e lo hi → lo < hi → getD l (2 * (lo + (hi - lo) / 2)) 0 ≤ e → Halving l n e (lo + (hi - lo) / 2 + 1) hi
+  half-low m h p =
+      let q : 2 * (lo + (hi - lo) / 2 + 1) - 2 ≡ 2 * (lo + (hi - lo) / 2) = omega arith in
+      record { order = omega arith; upto = m .upto; behind = m .behind; last = λ _. rw q p }
+
+  pub half-high : Normal (pairs n l) → Halving l n e lo hi → lo < hi → e < getD l (2 * (lo + (hi - lo) / 2)) 0 → Halving l n e lo (lo + (hi - lo) / 2)
+  half-high w m h p =
+      let u = m .upto in
+      record { order = omega arith; upto = omega arith; behind = start-behind l n e (lo + (hi - lo) / 2) w (omega arith) p; last = m .last }
+
+  pub half-done : Halving l n e lo hi → hi ≤ lo → StartsTo l n e lo
+  half-done m h =
+      let o = m .order in let u = m .upto in
+      let q : hi ≡ lo = omega arith in
+      record { upto = omega arith; behind = (rw q at m .behind); last = m .last }
 
 pub end-holds : (l : List ℕ) (n s : ℕ) → Reach s (part n (n - n) l)
 end-holds l n s = rw (from-none n l) tt

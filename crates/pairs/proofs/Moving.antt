@@ -76,3 +76,7 @@ lower-turn l₀ l t a k w b m h g z =
 
 pub lower-done : (l₀ l : List ℕ) (t a k w b : ℕ) → Lowering l₀ l t a k w b → b ≤ k → Lowered l₀ l t a (b - a)
 lower-done l₀ l t a k w b m h = let up = m .upto in record { long = m .long; low = m .low; high = λ x u. m .high x (omega arith) }
+
+-- numbers that stand where they are to stand
+pub stands : (l : List ℕ) (t a n : ℕ) → t ≡ a → Lowered l l t a n
+stands l t a n e = record { long = refl; low = λ x h. refl; high = λ x h. ap (λ (k : ℕ). getD l (k + x) 0) e }

@@ -10,19 +10,27 @@ ghost use Rattle.pairs.specs.Pairs.{part, pairs, StartsTo, EndsFrom, Rai
 
 // ---- a block more
 
-// How many of the first n blocks do not start behind e, counted from the end.
+// How many of the first n blocks, which are sorted and apart, do not start behind e. Most often that is all of them, so the last one is asked first.
 fn started(l: &[u64], n: usize, e: u64) -> usize
-    requires { ⌜ 2 * n ≤ length (now l) ⌝ }
+    requires { ⌜ Normal (pairs n (now l)) × (2 * n ≤ length (now l)) ⌝ }
     ensures { λ r. ⌜ StartsTo (now (l .entry)) n e r ⌝ }
 {
-    let mut i = n;
-    while 0 < i {
-        if l[2 * i - 2] <= e {
-            return i;
+    if 0 < n {
+        if l[2 * n - 2] <= e {
+            return n;
         }
-        i -= 1;
     }
-    i
+    let mut lo: usize = 0;
+    let mut hi = n;
+    while lo < hi {
+        let mid = lo + (hi - lo) / 2;
+        if l[2 * mid] <= e {
+            lo = mid + 1;
+        } else {
+            hi = mid;
+        }
+    }
+    lo
 }
 
 // How many of the first n blocks end before s, counted from the end.
@@ -57,6 +65,9 @@ fn lower(l: &mut [u64], t: usize, a: usize, b: usize)
     requires { ⌜ (t ≤ a) × (a ≤ b) × (b ≤ length (now l)) ⌝ }
     ensures { λ _. ⌜ Lowered (now (l .entry)) (now (l .exit)) t a (b - a) ⌝ }
 {
+    if t == a {
+        return;
+    }
     let mut k = a;
     let mut w = t;
     while k < b {

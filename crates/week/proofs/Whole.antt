@@ -30,10 +30,10 @@ from-members : (lo : ℕ) (l : List Block) → NonEmpty l → ((t : ℕ) → In 
 from-members lo [] n h = tt
 from-members lo (b ∷ l) n h = (h (b .start) (inl (omega (arith, n .0))), from-members lo l (n .1) (λ t i. h t (inr i)))
 
-rules-apart : (lo hi : ℕ) (l : List Rule) → Apart lo (blocksOfAll lo hi l)
+pub rules-apart : (lo hi : ℕ) (l : List Rule) → Apart lo (blocksOfAll lo hi l)
 rules-apart lo hi l = record { full = all-nonempty lo hi l; from = from-members lo (blocksOfAll lo hi l) (all-nonempty lo hi l) (λ t i. all-in lo hi l t i .0) }
 
-union-apart : (lo : ℕ) (l : List Block) → Apart lo l → Apart lo (union l)
+pub union-apart : (lo : ℕ) (l : List Block) → Apart lo l → Apart lo (union l)
 union-apart lo l a =
     let n : NonEmpty (union l) = chain-nonempty 0 (union l) (union-normal l (a .full)) in
     record { full = n; from = from-members lo (union l) n (λ t i. from-in t lo l (a .from) (union-in t l .0 i)) }
@@ -50,7 +50,7 @@ module _ (lo hi : ℕ) where
   rules-are h l = ap joined (maps (blocksOf lo hi) h l)
 
   -- from nothing
-  filled-first : (l₀ : List ℕ) (b : List Block) (k : ℕ) (l : List ℕ) (n : ℕ) → Filled lo l₀ 0 b k l n → Apart lo b → pairs n l ≡ onward lo (union b)
+  pub filled-first : (l₀ : List ℕ) (b : List Block) (k : ℕ) (l : List ℕ) (n : ℕ) → Filled lo l₀ 0 b k l n → Apart lo b → pairs n l ≡ onward lo (union b)
   unfolding part
   filled-first l₀ b k l n f a = f .same ∙ union-onward lo b (a .full) (a .from)
 

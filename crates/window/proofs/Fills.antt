@@ -3,6 +3,8 @@ use mathlib.Core.Path.{_≡_, refl, sym, _∙_, ap, ap₂}
 use mathlib.Core.Bool.{Bool, true, false}
 use mathlib.Core.List.{List, [], _∷_, _++_, map, append-assoc, append-nil}
 use Prim.Native.Nat.{ℕ, zero, suc, _+_, _*_, _-_, _≤_, _<_, min, max}
+use native.Mathlib.Nat.{mul-suc, mul-le-mul-left}
+use native.Mathlib.Numerals.{add-one}
 use native.Mathlib.Omega.{arith}
 use borrow.Author.Tests.{lt-ltb, le-ltb, ltb-true, ltb-false}
 use lib.Dec.{ltb}
@@ -68,6 +70,13 @@ filled-as t t′ l₀ w b b′ k l r e f = record { same = f .same ∙ ap (λ (x
 pub filled-same : (t : ℕ) (l₀ : List ℕ) (w : ℕ) (b b′ : List Block) (k : ℕ) (l : List ℕ) (r : ℕ) → b ≡ b′ → Filled t l₀ w b k l r → Filled t l₀ w b′ k l r
 filled-same t l₀ w b b′ k l r e f = filled-as t t l₀ w b b′ k l r (ap (onward t) e) f
 
+-- room for fewer, and at most more
+pub ready-less : (l : List ℕ) (w j k : ℕ) → j ≤ k → Ready l w k → Ready l w j
+ready-less l w j k h r = let a = r .room in record { normal = r .normal; room = omega arith }
+
+pub filled-more : (t : ℕ) (l₀ : List ℕ) (w : ℕ) (b : List Block) (j k : ℕ) (l : List ℕ) (r : ℕ) → j ≤ k → Filled t l₀ w b j l r → Filled t l₀ w b k l r
+filled-more t l₀ w b j k l r h f = let a = f .count in record { same = f .same; count = omega arith; long = f .long }
+
 -- the list stays sorted and apart
 pub filled-normal : (t : ℕ) (l₀ : List ℕ) (w : ℕ) (b : List Block) (k : ℕ) (l : List ℕ) (r : ℕ) → Filled t l₀ w b k l r → Normal (pairs w l₀) → Apart t b → Normal (pairs r l)
 filled-normal t l₀ w b k l r f c a =
@@ -83,16 +92,16 @@ apart-shown t on f h (d ∷ l) =
     (λ e. rw e (apart-both t (f d) (shown on f l) (h d) (apart-shown t on f h l)))
     (λ e. rw e (apart-shown t on f h l))
 
--- the dates from d to last are to come
-pub record Dating (t : ℕ) (on : ℕ → Bool) (f : ℕ → List Block) (last : ℕ) (l₀ : List ℕ) (w : ℕ) (whole : List Block) (l : List ℕ) (n d : ℕ) : Type 0 where
+-- the dates from d to last are to come; all of them are k
+pub record Dating (t : ℕ) (on : ℕ → Bool) (f : ℕ → List Block) (last k : ℕ) (l₀ : List ℕ) (w : ℕ) (whole : List Block) (l : List ℕ) (n d : ℕ) : Type 0 where
   pub same : union (pairs n l ++ onward t (shown on f (run d (last + 1 - d)))) ≡ union (pairs w l₀ ++ onward t whole)
   pub normal : Normal (pairs n l)
-  pub count : n + (last + 1 - d) ≤ w + 14
+  pub count : n + (last + 1 - d) ≤ w + k
   pub long : length l ≡ length l₀
 
-pub dating-starts : (t : ℕ) (on : ℕ → Bool) (f : ℕ → List Block) (last : ℕ) (l : List ℕ) (w d : ℕ) → last + 1 ≤ d + 14 → Normal (pairs w l)
-    → Dating t on f last l w (shown on f (run d (last + 1 - d))) l w d
-dating-starts t on f last l w d h c = record { same = refl; normal = c; count = omega arith; long = refl }
+pub dating-starts : (t : ℕ) (on : ℕ → Bool) (f : ℕ → List Block) (last : ℕ) (l : List ℕ) (w d : ℕ) → Normal (pairs w l)
+    → Dating t on f last (last + 1 - d) l w (shown on f (run d (last + 1 - d))) l w d
+dating-starts t on f last l w d c = record { same = refl; normal = c; count = omega arith; long = refl }
 
 -- a step of the sum of lists
 steps : (t : ℕ) (a b c r whole : List Block) (x : List Block) → NonEmpty a → Apart t b → Apart t c → r ≡ union (a ++ onward t b) → b ++ c ≡ x
@@ -101,12 +110,12 @@ steps t a b c r whole x n p q e g h =
     union-steps a (onward t b) (onward t c) r n (apart-onward t b p) (apart-onward t c q) e
     ∙ ap (λ (k : List Block). union (a ++ k)) (sym (onward-append t b c) ∙ ap (onward t) g) ∙ h
 
-module _ (t : ℕ) (on : ℕ → Bool) (f : ℕ → List Block) (fa : (d : ℕ) → Apart t (f d)) (last : ℕ) (l₀ : List ℕ) (w : ℕ) (whole : List Block) (l : List ℕ) (n d : ℕ)
-    (m : Dating t on f last l₀ w whole l n d) where
-  pub dating-ready : d ≤ last → 2 * (w + 14) ≤ length l₀ → Ready l n 1
-  dating-ready h k = let a = m .count in let b = m .long in record { normal = m .normal; room = omega arith }
+module _ (t : ℕ) (on : ℕ → Bool) (f : ℕ → List Block) (fa : (d : ℕ) → Apart t (f d)) (last k : ℕ) (l₀ : List ℕ) (w : ℕ) (whole : List Block) (l : List ℕ) (n d : ℕ)
+    (m : Dating t on f last k l₀ w whole l n d) where
+  pub dating-ready : d ≤ last → 2 * (w + k) ≤ length l₀ → Ready l n 1
+  dating-ready h r = let a = m .count in let b = m .long in record { normal = m .normal; room = omega arith }
 
-  pub dating-on : d ≤ last → on d ≡ true → (l′ : List ℕ) (n′ : ℕ) → Filled t l n (f d) 1 l′ n′ → Dating t on f last l₀ w whole l′ n′ (d + 1)
+  pub dating-on : d ≤ last → on d ≡ true → (l′ : List ℕ) (n′ : ℕ) → Filled t l n (f d) 1 l′ n′ → Dating t on f last k l₀ w whole l′ n′ (d + 1)
   dating-on h e l′ n′ g =
       let a = m .count in let b = g .count in
       record {
@@ -118,30 +127,36 @@ module _ (t : ℕ) (on : ℕ → Bool) (f : ℕ → List Block) (fa : (d : ℕ) 
         long = g .long ∙ m .long;
       }
 
-  pub dating-off : d ≤ last → on d ≡ false → Dating t on f last l₀ w whole l n (d + 1)
+  pub dating-off : d ≤ last → on d ≡ false → Dating t on f last k l₀ w whole l n (d + 1)
   dating-off h e =
       let a = m .count in
       record {
-        same = ap (λ (k : List Block). union (pairs n l ++ onward t k)) (date-off on f d last [] (shown on f (run d (last + 1 - d))) refl h e) ∙ m .same;
+        same = ap (λ (x : List Block). union (pairs n l ++ onward t x)) (date-off on f d last [] (shown on f (run d (last + 1 - d))) refl h e) ∙ m .same;
         normal = m .normal;
         count = omega arith;
         long = m .long;
       }
 
-  pub dating-done : last < d → Filled t l₀ w whole 14 l n
+  pub dating-done : last < d → Filled t l₀ w whole k l n
   unfolding onward
   dating-done h =
       let a = m .count in
       let z : [] ≡ shown on f (run d (last + 1 - d)) = dates-done on f d last [] (shown on f (run d (last + 1 - d))) refl h in
       record {
-        same = sym (union-again (pairs n l) (m .normal)) ∙ ap union (sym (append-nil (pairs n l))) ∙ ap (λ (k : List Block). union (pairs n l ++ onward t k)) z ∙ m .same;
+        same = sym (union-again (pairs n l) (m .normal)) ∙ ap union (sym (append-nil (pairs n l))) ∙ ap (λ (x : List Block). union (pairs n l ++ onward t x)) z ∙ m .same;
         count = omega arith;
         long = m .long;
       }
 
--- ---- the records of a counted array
+-- ---- the records of a counted array, each of which adds at most so many blocks
 
-module _ {A : Type 0} (t : ℕ) (g : A → List Block) (ga : (a : A) → Apart t (g a)) (k : ℕ) (items : List A) where
+most-more : (most i : ℕ) → most * (i + 1) ≡ most * i + most
+most-more most i = ap (λ (x : ℕ). most * x) (add-one i) ∙ mul-suc most i
+
+most-less : (most i k : ℕ) → i < k → most * i + most ≤ most * k
+most-less most i k h = let a = most-more most i in let b = mul-le-mul-left {m = i + 1} {n = k} most (omega arith) in omega arith
+
+module _ {A : Type 0} (t : ℕ) (g : A → List Block) (ga : (a : A) → Apart t (g a)) (most k : ℕ) (items : List A) where
   apart-joined : (l : List A) → Apart t (joined (map g l))
   unfolding joined
   apart-joined [] = apart-none t
@@ -151,7 +166,7 @@ module _ {A : Type 0} (t : ℕ) (g : A → List Block) (ga : (a : A) → Apart t
   pub record Ruling (l₀ : List ℕ) (w : ℕ) (l : List ℕ) (n i : ℕ) : Type 0 where
     pub same : union (pairs n l ++ onward t (restOf g k items i)) ≡ union (pairs w l₀ ++ onward t (restOf g k items 0))
     pub normal : Normal (pairs n l)
-    pub count : n ≤ w + 14 * i
+    pub count : n ≤ w + most * i
     pub upto : i ≤ k
     pub fits : k ≤ length items
     pub long : length l ≡ length l₀
@@ -160,32 +175,33 @@ module _ {A : Type 0} (t : ℕ) (g : A → List Block) (ga : (a : A) → Apart t
   ruling-starts l w c h = record { same = refl; normal = c; count = omega arith; upto = omega arith; fits = h; long = refl }
 
   module _ (l₀ : List ℕ) (w : ℕ) (l : List ℕ) (n i : ℕ) (m : Ruling l₀ w l n i) where
-    pub ruling-ready : i < k → 2 * (w + 14 * k) ≤ length l₀ → Ready l n 14
-    ruling-ready h r = let a = m .count in let b = m .long in record { normal = m .normal; room = omega arith }
+    pub ruling-ready : i < k → 2 * (w + most * k) ≤ length l₀ → Ready l n most
+    ruling-ready h r = let a = m .count in let b = m .long in let c = most-less most i k h in record { normal = m .normal; room = omega arith }
 
     -- the same with room for one block more
-    pub ruling-roomy : i < k → 2 * (w + 14 * k) + 2 ≤ length l₀ → Ready l n 15
-    ruling-roomy h r = let a = m .count in let b = m .long in record { normal = m .normal; room = omega arith }
+    pub ruling-roomy : i < k → 2 * (w + most * k) + 2 ≤ length l₀ → Ready l n (most + 1)
+    ruling-roomy h r = let a = m .count in let b = m .long in let c = most-less most i k h in record { normal = m .normal; room = omega arith }
 
-    pub ruling-turn : i < k → (x : A) (l′ : List ℕ) (n′ : ℕ) → Filled t l n (g (getD items i x)) 14 l′ n′ → Ruling l₀ w l′ n′ (i + 1)
+    pub ruling-turn : i < k → (x : A) (l′ : List ℕ) (n′ : ℕ) → Filled t l n (g (getD items i x)) most l′ n′ → Ruling l₀ w l′ n′ (i + 1)
     ruling-turn h x l′ n′ f =
-        let a = m .count in let b = f .count in
+        let a = m .count in let b = f .count in let c = most-more most i in
         record {
           same = steps t (pairs n l) (g (getD items i x)) (restOf g k items (i + 1)) (pairs n′ l′) (union (pairs w l₀ ++ onward t (restOf g k items 0))) (restOf g k items i)
               (chain-nonempty 0 (pairs n l) (m .normal)) (ga (getD items i x)) (apart-joined (drop (i + 1) (take k items))) (f .same)
               (sym (rest-more g k items i x h (m .fits))) (m .same);
-          normal = filled-normal t l n (g (getD items i x)) 14 l′ n′ f (m .normal) (ga (getD items i x));
+          normal = filled-normal t l n (g (getD items i x)) most l′ n′ f (m .normal) (ga (getD items i x));
           count = omega arith;
           upto = omega arith;
           fits = m .fits;
           long = f .long ∙ m .long;
         }
 
-    pub ruling-done : k ≤ i → Filled t l₀ w (joined (map g (take k items))) (14 * k) l n
+    pub ruling-done : k ≤ i → Filled t l₀ w (joined (map g (take k items))) (most * k) l n
     unfolding onward
     ruling-done h =
         let a = m .count in let u = m .upto in
         let e : i ≡ k = omega arith in
+        let c = ap (λ (x : ℕ). most * x) e in
         let z : [] ≡ restOf g k items i = sym (ap (restOf g k items) e ∙ rest-end g k items (m .fits)) in
         record {
           same = sym (union-again (pairs n l) (m .normal)) ∙ ap union (sym (append-nil (pairs n l))) ∙ ap (λ (x : List Block). union (pairs n l ++ onward t x)) z ∙ m .same;

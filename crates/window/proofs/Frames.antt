@@ -110,14 +110,18 @@ few-dates f z lo hi days o w q =
     let a = q .first-is in let b = q .last-is in
     omega arith
 
-pub offset-small : (f : List ℕ) (z : Zone′) (lo hi : Instant) (days : Days) → ZoneOk f z → Window 7 lo hi → DaysOf (meant f z) lo hi days → days .offset ≤ 187199
+-- as a difference
+pub few-count : (first last k : ℕ) → last + 1 ≤ first + k → last + 1 - first ≤ k
+few-count first last k h = omega arith
+
+pub offset-small : (f : List ℕ) (z : Zone′) (lo hi : Instant) (days : Days) → ZoneOk f z → Window 14 lo hi → DaysOf (meant f z) lo hi days → days .offset ≤ 187199
 offset-small f z lo hi days o w q = small (days .offset) (λ h. kept-small f z lo hi (days .offset) o (q .kept) (w .order) h)
   where
     small : (o : ℕ) → (0 < o → o ≤ 187199) → o ≤ 187199
     small zero h = omega arith
     small (suc o) h = h (omega arith)
 
-module _ (lo hi : Instant) (days : Days) (w : Window 7 lo hi) (x : Frame) (m : IsFrame days lo hi x) (known : 0 < x .first) where
+module _ (lo hi : Instant) (days : Days) (w : Window 14 lo hi) (x : Frame) (m : IsFrame days lo hi x) (known : 0 < x .first) where
   -- a whole date, by the offset
   pub free-plain : (f : List ℕ) (z : Zone′) → ZoneOk f z → DaysOf (meant f z) lo hi days → (d : ℕ) → days .first ≤ d → d ≤ days .last
       → onward (x .lo) (clipped (x .lo) (x .hi) (midnight (x .first) (days .first) d) (midnight (x .first) (days .first) d + 86400000000000))
@@ -162,7 +166,7 @@ firstEnd [] = 0
 firstEnd (b ∷ l) = b .end
 
 -- a block that is cut to the window lies in it
-pub piece-inside : (lo hi : Instant) (x : Item) (s e : ℕ) → Window 7 lo hi → held x ≡ clipped (nanos lo) (nanos hi) s e → Inside lo x
+pub piece-inside : (lo hi : Instant) (x : Item) (s e : ℕ) → Window 14 lo hi → held x ≡ clipped (nanos lo) (nanos hi) s e → Inside lo x
 unfolding held clipped
 piece-inside lo hi x s e w h = record { range = w .low .high; from = λ k. go k .0; upto = λ k. let q = go k .1 in let z = w .short in omega arith }
   where
@@ -183,7 +187,7 @@ piece-inside lo hi x s e w h = record { range = w .low .high; from = λ k. go k 
         absurd (omega arith))
 
 -- the same, of what a rule shows of a date
-pub shown-inside : (lo hi : Instant) (x : Item) (r : Rule) (d : ℕ) → Window 7 lo hi → held x ≡ pieceOf r (nanos lo) (nanos hi) d → Inside lo x
+pub shown-inside : (lo hi : Instant) (x : Item) (r : Rule) (d : ℕ) → Window 14 lo hi → held x ≡ pieceOf r (nanos lo) (nanos hi) d → Inside lo x
 unfolding pieceOf
 shown-inside lo hi x r d w h = piece-inside lo hi x (startOf r d) (endOf r d) w h
 

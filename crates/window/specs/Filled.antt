@@ -15,11 +15,11 @@ use Rattle.engine.specs.declared.Days.{Days}
 use Rattle.pairs.specs.Pairs.{pairs}
 use Rattle.window.specs.declared.Frame.{Frame}
 
--- a block of the code that holds anything lies in the seven days from lo on
+-- a block of the code that holds anything lies in the 14 days from lo on
 pub record Inside (lo : Instant) (x : Item) : Type 0 where
   pub range : lo .sec ≤ 643761727200
   pub from : nanos (x .start) < nanos (x .end) → nanos lo ≤ nanos (x .start)
-  pub upto : nanos (x .start) < nanos (x .end) → nanos (x .end) ≤ nanos lo + 604800000000000
+  pub upto : nanos (x .start) < nanos (x .end) → nanos (x .end) ≤ nanos lo + 1209600000000000
 
 -- the first w blocks are sorted and apart, and there is room for k more
 pub record Ready (l : List ℕ) (w k : ℕ) : Type 0 where

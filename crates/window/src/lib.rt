@@ -1,7 +1,8 @@
-// What one record has in a window of at most seven days, as pairs of numbers in lent memory: the blocks' borders in nanoseconds from the window's
-// start. Each piece is added in place to a list that stays sorted and apart, so that no list is copied.
+// What one record has in a window of at most seven days, or one rule in one of at most 14, as pairs of numbers in lent memory: the blocks' borders in
+// nanoseconds from the window's start. Each piece is added in place to a list that stays sorted and apart, so that no list is copied.
 ghost use mathlib.Core.Path.{_≡_};
 ghost use Prim.Native.Nat.{_+_, _*_, _-_, _≤_, _<_};
+ghost use lib.ListN.{length};
 ghost use Rattle.model.specs.Basic.{isIn};
 ghost use Rattle.model.specs.Blocks.{clipped};
 ghost use Rattle.model.specs.Calendar.{yearOf};
@@ -22,10 +23,10 @@ use rules::Rule;
 
 // ---- one piece
 
-// The nanoseconds from lo to t, which is at most seven days later. The five seconds keep the difference from going below zero: a count of
+// The nanoseconds from lo to t, which is at most 14 days later. The five seconds keep the difference from going below zero: a count of
 // nanoseconds is less than that.
 fn since(lo: Instant, t: Instant) -> u64
-    requires { ⌜ (lo .sec ≤ 643761727200) × (nanos lo ≤ nanos t) × (nanos t ≤ nanos lo + 604800000000000) ⌝ }
+    requires { ⌜ (lo .sec ≤ 643761727200) × (nanos lo ≤ nanos t) × (nanos t ≤ nanos lo + 1209600000000000) ⌝ }
     ensures { λ r. ⌜ r ≡ nanos t - nanos lo ⌝ }
 {
     (t.sec + 5 - lo.sec) * 1000000000 + (t.ns as u64) - (lo.ns as u64) - 5000000000
@@ -71,7 +72,7 @@ pub struct Frame {
 
 // The frame of a window; `first` is 0 where no offset is known.
 fn frame_of(days: Days, lo: Instant, hi: Instant) -> Frame
-    requires { ⌜ Window 7 lo hi × (days .offset ≤ 187199) ⌝ }
+    requires { ⌜ Window 14 lo hi × (days .offset ≤ 187199) ⌝ }
     ensures { λ r. ⌜ IsFrame days lo hi r ⌝ }
 {
     let t = days.first as u64 * 86400 + 1303200;
@@ -117,8 +118,8 @@ fn plain_into(
     out: &mut [u64],
     w: usize,
 ) -> usize
-    requires { ⌜ (f .first ≤ 2592000000000000) × (a ≤ 172800000000000) × (b ≤ 172800000000000) × (last + 1 ≤ first + 14) × (last ≤ 7450946) × Ready (now out) w 14 ⌝ }
-    ensures { λ n. ⌜ Filled (f .lo) (now (out .entry)) w (plain f first last set a b) 14 (now (out .exit)) n ⌝ }
+    requires { ⌜ (f .first ≤ 2592000000000000) × (a ≤ 172800000000000) × (b ≤ 172800000000000) × (last + 1 ≤ first + 21) × (last ≤ 7450946) × Ready (now out) w (last + 1 - first) ⌝ }
+    ensures { λ n. ⌜ Filled (f .lo) (now (out .entry)) w (plain f first last set a b) (last + 1 - first) (now (out .exit)) n ⌝ }
 {
     let lo = f.lo;
     let hi = f.hi;
@@ -151,7 +152,7 @@ fn date_into(
     out: &mut [u64],
     w: usize,
 ) -> usize
-    requires { ⌜ RuleFits (now pack) r × Window 7 lo hi × DaysOf (ruleIs (now pack) r .zone) lo hi days × (days .first ≤ day) × (day ≤ days .last) × Ready (now out) w 1 ⌝ }
+    requires { ⌜ RuleFits (now pack) r × Window 14 lo hi × DaysOf (ruleIs (now pack) r .zone) lo hi days × (days .first ≤ day) × (day ≤ days .last) × Ready (now out) w 1 ⌝ }
     ensures { λ n. ⌜ Filled (nanos lo) (now (out .entry)) w (pieceOf (ruleIs (now (pack .entry)) r) (nanos lo) (nanos hi) day) 1 (now (out .exit)) n ⌝ }
 {
     let z = r.zone;
@@ -172,8 +173,8 @@ fn dates_into(
     out: &mut [u64],
     w: usize,
 ) -> usize
-    requires { ⌜ RuleFits (now pack) r × Window 7 lo hi × DaysOf (ruleIs (now pack) r .zone) lo hi days × Ready (now out) w 14 ⌝ }
-    ensures { λ n. ⌜ Filled (nanos lo) (now (out .entry)) w (blocksOf (nanos lo) (nanos hi) (ruleIs (now (pack .entry)) r)) 14 (now (out .exit)) n ⌝ }
+    requires { ⌜ RuleFits (now pack) r × Window 14 lo hi × DaysOf (ruleIs (now pack) r .zone) lo hi days × Ready (now out) w (days .last + 1 - days .first) ⌝ }
+    ensures { λ n. ⌜ Filled (nanos lo) (now (out .entry)) w (blocksOf (nanos lo) (nanos hi) (ruleIs (now (pack .entry)) r)) (days .last + 1 - days .first) (now (out .exit)) n ⌝ }
 {
     let last = days.last;
     let set = r.days;
@@ -209,10 +210,35 @@ fn till(a: u64, b: u64) -> u64
     b + 86400000000000
 }
 
-// Adds what the rule has in the window to the first w blocks.
+// Adds what the rule has in a window of at most seven days, which has at most 14 dates, to the first w blocks.
 pub fn rule_into(pack: &[u8], r: Rule, lo: Instant, hi: Instant, out: &mut [u64], w: usize) -> usize
     requires { ⌜ RuleFits (now pack) r × Window 7 lo hi × Ready (now out) w 14 ⌝ }
     ensures { λ n. ⌜ Filled (nanos lo) (now (out .entry)) w (blocksOf (nanos lo) (nanos hi) (ruleIs (now (pack .entry)) r)) 14 (now (out .exit)) n ⌝ }
+{
+    let z = r.zone;
+    let days = engine::days_in(pack, r.at, r.len, z, lo, hi);
+    let f = frame_of(days, lo, hi);
+    if f.first == 0 {
+        return dates_into(pack, r, days, lo, hi, out, w);
+    }
+    let from = r.from;
+    let to = r.to;
+    let a = time_in(from);
+    let b = till(a, time_in(to));
+    plain_into(f, days.first, days.last, r.days, a, b, out, w)
+}
+
+// The same for a window of at most 14 days, which has at most 21 dates.
+pub fn two_weeks_into(
+    pack: &[u8],
+    r: Rule,
+    lo: Instant,
+    hi: Instant,
+    out: &mut [u64],
+    w: usize,
+) -> usize
+    requires { ⌜ RuleFits (now pack) r × Window 14 lo hi × Ready (now out) w 21 ⌝ }
+    ensures { λ n. ⌜ Filled (nanos lo) (now (out .entry)) w (blocksOf (nanos lo) (nanos hi) (ruleIs (now (pack .entry)) r)) 21 (now (out .exit)) n ⌝ }
 {
     let z = r.zone;
     let days = engine::days_in(pack, r.at, r.len, z, lo, hi);
@@ -241,7 +267,7 @@ fn free_into(
     out: &mut [u64],
     w: usize,
 ) -> usize
-    requires { ⌜ ZoneOk (fileAt (now pack) (c .at) (c .len)) (c .zone) × Window 7 lo hi × DaysOf (meant (fileAt (now pack) (c .at) (c .len)) (c .zone)) lo hi days × IsFrame days lo hi f × (days .first ≤ day) × (day ≤ days .last) × Ready (now out) w 1 ⌝ }
+    requires { ⌜ ZoneOk (fileAt (now pack) (c .at) (c .len)) (c .zone) × Window 14 lo hi × DaysOf (meant (fileAt (now pack) (c .at) (c .len)) (c .zone)) lo hi days × IsFrame days lo hi f × (days .first ≤ day) × (day ≤ days .last) × Ready (now out) w 1 ⌝ }
     ensures { λ n. ⌜ Filled (nanos lo) (now (out .entry)) w (pieceOf (during (meant (fileAt (now (pack .entry)) (c .at) (c .len)) (c .zone)) 0 0) (nanos lo) (nanos hi) day) 1 (now (out .exit)) n ⌝ }
 {
     if f.first == 0 {
@@ -258,11 +284,19 @@ fn free_into(
     span_into(k, k + 86400000000000, f.lo, f.hi, out, w)
 }
 
+// A byte as a wider number.
+fn wide(x: u8) -> u32
+    ensures { λ r. ⌜ (r ≡ x) × (r < 256) ⌝ }
+{
+    x as u32
+}
+
 // The year of the date at p, counted from -10400; 0 for the years before.
 fn year_at(b: &[u8], p: usize) -> u32
+    requires { ⌜ p + 4 ≤ length (now b) ⌝ }
     ensures { λ r. ⌜ r ≡ yearAt (now (b .entry)) p ⌝ }
 {
-    let y = (be::be16_at(b, p) + 32768) % 65536;
+    let y = (wide(b[p]) * 256 + wide(b[p + 1]) + 32768) % 65536;
     if y < 22368 {
         return 0;
     }
@@ -271,6 +305,7 @@ fn year_at(b: &[u8], p: usize) -> u32
 
 // Whether the date at p is of one of the years from `from` to `to`.
 fn in_years(b: &[u8], p: usize, from: u32, to: u32) -> bool
+    requires { ⌜ p + 4 ≤ length (now b) ⌝ }
     ensures { λ r. ⌜ r ≡ isIn from to (yearAt (now (b .entry)) p) ⌝ }
 {
     let y = year_at(b, p);

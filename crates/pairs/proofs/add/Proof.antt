@@ -13,7 +13,7 @@ returns : tie.Need-returns
 returns c = (add-none _ _ _ _ (c .before .before .pre .0) (c .if1 .taken), omega arith, refl)
 
 started-requires : tie.Need-started-requires
-started-requires c κs = search needs
+started-requires c κs = (c .before .before .before .pre .0, omega (arith, c .before .before .before .pre .1))
 
 ended-requires : tie.Need-ended-requires
 ended-requires c κs = search needs

@@ -3,7 +3,7 @@ use borrow.Author.Needs.{needs}
 use native.Mathlib.Omega.{arith}
 use Prim.Native.Nat.{suc, _+_, _*_, _-_, _≤_, _<_}
 use lib.ListN.{length, getD, length-set}
-use Rattle.pairs.proofs.Moving.{Lowering, lower-starts, lower-turn, lower-done}
+use Rattle.pairs.proofs.Moving.{Lowering, lower-starts, lower-turn, lower-done, stands}
 use Rattle.pairs.proofs.lower.Statement.{statement}
 use Rattle.pairs.proofs.lower.Tie as tie
 
@@ -12,6 +12,10 @@ Inv-loop l₀ t a b k₀ w₀ l k w = Lowering l₀ l t a k w b × (k ≤ b)
 
 abbrev μ-loop : tie.MeasureT-loop
 μ-loop l₀ t a b k₀ w₀ l k w = b - k
+
+-- nothing to move
+returns : tie.Need-returns Inv-loop μ-loop
+returns c = stands _ _ _ _ (omega arith)
 
 loop-holds : tie.Need-loop-holds Inv-loop μ-loop
 loop-holds c = (lower-starts _ _ _ _ (omega arith), omega arith)
@@ -43,8 +47,8 @@ loop-again c = (lower-turn _ _ _ _ _ _ _ (c .before .before .loop .inv .0) (omeg
 same-length : tie.Need-same-length Inv-loop μ-loop
 same-length c = c .before .loop .inv .0 .long
 
-returns : tie.Need-returns Inv-loop μ-loop
-returns c = lower-done _ _ _ _ _ _ _ (c .before .loop .inv .0) (omega arith)
+returns-2 : tie.Need-returns-2 Inv-loop μ-loop
+returns-2 c = lower-done _ _ _ _ _ _ _ (c .before .loop .inv .0) (omega arith)
 
 pub lower-spec : {M : Type 1} → statement M
 lower-spec =
@@ -52,6 +56,7 @@ lower-spec =
     (tie.spec
     Inv-loop
     μ-loop
+    returns
     loop-holds
     mul-l
     slice-read-l
@@ -62,4 +67,4 @@ lower-spec =
     loop-less
     loop-again
     same-length
-    returns)
+    returns-2)

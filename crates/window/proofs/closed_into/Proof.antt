@@ -27,7 +27,7 @@ days-in-requires : tie.Need-days-in-requires Inv-loop μ-loop
 days-in-requires c κs = ((c .before .before .before .before .pre .0 .opened), window-longer _ _ (c .before .before .before .before .pre .1))
 
 frame-of-requires : tie.Need-frame-of-requires Inv-loop μ-loop
-frame-of-requires c κs = ((c .before .before .before .before .before .pre .1), offset-small _ _ _ _ _ (c .before .before .before .before .before .pre .0 .opened) (c .before .before .before .before .before .pre .1) (c .days-in .ensures))
+frame-of-requires c κs = (window-longer _ _ (c .before .before .before .before .before .pre .1), offset-small _ _ _ _ _ (c .before .before .before .before .before .pre .0 .opened) (window-longer _ _ (c .before .before .before .before .before .pre .1)) (c .days-in .ensures))
 
 year-from-requires : tie.Need-year-from-requires Inv-loop μ-loop
 year-from-requires c κs = search needs
@@ -51,13 +51,13 @@ sub-at : tie.Need-sub-at Inv-loop μ-loop
 sub-at c = omega (arith, (c .loop-test .taken), (c .before .loop .inv .place))
 
 in-years-requires : tie.Need-in-years-requires Inv-loop μ-loop
-in-years-requires c κs = search needs
+in-years-requires c κs = omega (arith, (c .loop-test .taken), (c .before .loop .inv .place), (c .before .loop .inv .upto), (c .before .before .before .before .before .before .before .before .before .before .before .before .pre .0 .inside))
 
 date-at-requires : tie.Need-date-at-requires Inv-loop μ-loop
 date-at-requires c κs = omega (arith, (c .before .before .loop-test .taken), (c .before .before .before .loop .inv .place), (c .before .before .before .loop .inv .upto), (c .before .before .before .before .before .before .before .before .before .before .before .before .before .before .pre .0 .inside))
 
 free-into-requires : tie.Need-free-into-requires Inv-loop μ-loop
-free-into-requires c κs = ((c .before .before .before .before .before .before .before .before .before .before .before .before .before .before .before .before .before .before .pre .0 .opened), (c .before .before .before .before .before .before .before .before .before .before .before .before .before .before .before .before .before .before .pre .1), (c .before .before .before .before .before .before .before .before .before .before .before .before .before .days-in .ensures), (c .before .before .before .before .before .before .before .before .before .before .before .before .frame-of .ensures), (c .before .before .if2 .taken), (c .before .if3 .taken), closing-ready _ _ _ _ _ (piece-apart (holidayRule (holidaysIs (c .before .before .before .before .before .before .before .before .before .before .before .before .before .before .before .before .before .before .args .book .now) (c .before .before .before .before .before .before .before .before .before .before .before .before .before .before .before .before .before .before .args .pack .now) (c .before .before .before .before .before .before .before .before .before .before .before .before .before .before .before .before .before .before .args .c))) (nanos (c .before .before .before .before .before .before .before .before .before .before .before .before .before .before .before .before .before .before .args .lo)) (nanos (c .before .before .before .before .before .before .before .before .before .before .before .before .before .before .before .before .before .before .args .hi))) _ _ _ _ (c .before .before .before .before .before .before .before .before .before .before .before .before .before .before .before .before .before .before .pre .2 .normal) _ _ _ _ (c .before .before .before .before .before .before .before .loop .inv) (piece-short (holidayRule (holidaysIs (c .before .before .before .before .before .before .before .before .before .before .before .before .before .before .before .before .before .before .args .book .now) (c .before .before .before .before .before .before .before .before .before .before .before .before .before .before .before .before .before .before .args .pack .now) (c .before .before .before .before .before .before .before .before .before .before .before .before .before .before .before .before .before .before .args .c))) (nanos (c .before .before .before .before .before .before .before .before .before .before .before .before .before .before .before .before .before .before .args .lo)) (nanos (c .before .before .before .before .before .before .before .before .before .before .before .before .before .before .before .before .before .before .args .hi))) (few-dates _ _ _ _ _ (c .before .before .before .before .before .before .before .before .before .before .before .before .before .before .before .before .before .before .pre .0 .opened) (c .before .before .before .before .before .before .before .before .before .before .before .before .before .before .before .before .before .before .pre .1) (c .before .before .before .before .before .before .before .before .before .before .before .before .before .days-in .ensures)) (c .before .before .before .before .before .before .before .before .before .before .before .before .before .before .before .before .before .before .pre .2 .room))
+free-into-requires c κs = ((c .before .before .before .before .before .before .before .before .before .before .before .before .before .before .before .before .before .before .pre .0 .opened), window-longer _ _ (c .before .before .before .before .before .before .before .before .before .before .before .before .before .before .before .before .before .before .pre .1), (c .before .before .before .before .before .before .before .before .before .before .before .before .before .days-in .ensures), (c .before .before .before .before .before .before .before .before .before .before .before .before .frame-of .ensures), (c .before .before .if2 .taken), (c .before .if3 .taken), closing-ready _ _ _ _ _ (piece-apart (holidayRule (holidaysIs (c .before .before .before .before .before .before .before .before .before .before .before .before .before .before .before .before .before .before .args .book .now) (c .before .before .before .before .before .before .before .before .before .before .before .before .before .before .before .before .before .before .args .pack .now) (c .before .before .before .before .before .before .before .before .before .before .before .before .before .before .before .before .before .before .args .c))) (nanos (c .before .before .before .before .before .before .before .before .before .before .before .before .before .before .before .before .before .before .args .lo)) (nanos (c .before .before .before .before .before .before .before .before .before .before .before .before .before .before .before .before .before .before .args .hi))) _ _ _ _ (c .before .before .before .before .before .before .before .before .before .before .before .before .before .before .before .before .before .before .pre .2 .normal) _ _ _ _ (c .before .before .before .before .before .before .before .loop .inv) (piece-short (holidayRule (holidaysIs (c .before .before .before .before .before .before .before .before .before .before .before .before .before .before .before .before .before .before .args .book .now) (c .before .before .before .before .before .before .before .before .before .before .before .before .before .before .before .before .before .before .args .pack .now) (c .before .before .before .before .before .before .before .before .before .before .before .before .before .before .before .before .before .before .args .c))) (nanos (c .before .before .before .before .before .before .before .before .before .before .before .before .before .before .before .before .before .before .args .lo)) (nanos (c .before .before .before .before .before .before .before .before .before .before .before .before .before .before .before .before .before .before .args .hi))) (few-dates _ _ _ _ _ (c .before .before .before .before .before .before .before .before .before .before .before .before .before .before .before .before .before .before .pre .0 .opened) (c .before .before .before .before .before .before .before .before .before .before .before .before .before .before .before .before .before .before .pre .1) (c .before .before .before .before .before .before .before .before .before .before .before .before .before .days-in .ensures)) (c .before .before .before .before .before .before .before .before .before .before .before .before .before .before .before .before .before .before .pre .2 .room))
 
 loop-less : tie.Need-loop-less Inv-loop μ-loop
 loop-less c = omega (arith, (c .before .before .before .before .before .before .before .before .before .loop-test .taken))

@@ -8,7 +8,6 @@ use Rattle.instant.specs.Instant.{nanos}
 use Rattle.window.proofs.Fills.{Dating, dating-starts, dating-ready, dating-on, dating-off, dating-done, filled-as, filled-same, piece-in, piece-out, span-in, span-out}
 use Rattle.window.proofs.Frames.{shown-inside, rule-shows, few-dates, offset-small, rule-plain, free-plain, piece-any, piece-apart, piece-short, on-date, till-here, till-next, plain-as}
 use Rattle.engine.proofs.Fill.{shown, zone-moved, day-in, kept-moved, in-moved, rule-piece, closed-piece}
-use Rattle.engine.proofs.Whole.{window-longer}
 use Rattle.rules.specs.Rules.{ruleIs}
 use borrow.Author.Needs.{needs}
 use Rattle.window.proofs.date_into.Statement.{statement}
@@ -18,7 +17,7 @@ part-requires : tie.Need-part-requires
 part-requires c κs = search needs
 
 piece-by-requires : tie.Need-piece-by-requires
-piece-by-requires c κs = (zone-moved _ _ _ (c .part .ensures) (c .before .before .before .before .before .before .pre .0 .opened), day-in _ _ _ _ _ (c .before .before .before .before .before .before .pre .2) (c .before .before .before .before .before .before .pre .3) (c .before .before .before .before .before .before .pre .4), (c .before .before .before .before .before .before .pre .0 .from), (c .before .before .before .before .before .before .pre .0 .to), kept-moved _ _ (c .before .before .before .before .before .before .args .r .zone) _ _ _ (c .part .ensures) (c .before .before .before .before .before .before .pre .2), in-moved _ _ (c .before .before .before .before .before .before .args .r .zone) _ _ _ _ (c .part .ensures) (window-longer _ _ (c .before .before .before .before .before .before .pre .1)) (c .before .before .before .before .before .before .pre .2) (c .before .before .before .before .before .before .pre .3) (c .before .before .before .before .before .before .pre .4))
+piece-by-requires c κs = (zone-moved _ _ _ (c .part .ensures) (c .before .before .before .before .before .before .pre .0 .opened), day-in _ _ _ _ _ (c .before .before .before .before .before .before .pre .2) (c .before .before .before .before .before .before .pre .3) (c .before .before .before .before .before .before .pre .4), (c .before .before .before .before .before .before .pre .0 .from), (c .before .before .before .before .before .before .pre .0 .to), kept-moved _ _ (c .before .before .before .before .before .before .args .r .zone) _ _ _ (c .part .ensures) (c .before .before .before .before .before .before .pre .2), in-moved _ _ (c .before .before .before .before .before .before .args .r .zone) _ _ _ _ (c .part .ensures) (c .before .before .before .before .before .before .pre .1) (c .before .before .before .before .before .before .pre .2) (c .before .before .before .before .before .before .pre .3) (c .before .before .before .before .before .before .pre .4))
 
 piece-into-requires : tie.Need-piece-into-requires
 piece-into-requires c κs = (shown-inside (c .before .before .before .before .before .before .before .before .args .lo) (c .before .before .before .before .before .before .before .before .args .hi) _ (ruleIs (c .before .before .before .before .before .before .before .before .args .pack .now) (c .before .before .before .before .before .before .before .before .args .r)) (c .before .before .before .before .before .before .before .before .args .day) (c .before .before .before .before .before .before .before .before .pre .1) (rule-piece (c .before .before .before .before .before .before .before .before .args .pack .now) _ (c .before .before .before .before .before .before .before .before .args .r) (nanos (c .before .before .before .before .before .before .before .before .args .lo)) (nanos (c .before .before .before .before .before .before .before .before .args .hi)) (c .before .before .before .before .before .before .before .before .args .day) _ (c .before .before .part .ensures) (c .before .piece-by .ensures)), (c .before .before .before .before .before .before .before .before .pre .5))

@@ -8,7 +8,6 @@ use Rattle.instant.specs.Instant.{nanos}
 use Rattle.window.proofs.Fills.{Dating, dating-starts, dating-ready, dating-on, dating-off, dating-done, filled-as, filled-same, piece-in, piece-out, span-in, span-out}
 use Rattle.window.proofs.Frames.{shown-inside, rule-shows, few-dates, offset-small, rule-plain, free-plain, piece-any, piece-apart, piece-short, on-date, till-here, till-next, plain-as}
 use Rattle.engine.proofs.Fill.{shown, zone-moved, day-in, kept-moved, in-moved, rule-piece, closed-piece}
-use Rattle.engine.proofs.Whole.{window-longer}
 use Rattle.dates.specs.Dates.{during}
 use borrow.Author.Needs.{needs}
 use Rattle.window.proofs.free_into.Statement.{statement}
@@ -18,7 +17,7 @@ part-requires : tie.Need-part-requires
 part-requires c κs = search needs
 
 piece-by-requires : tie.Need-piece-by-requires
-piece-by-requires c κs = (zone-moved _ _ _ (c .part .ensures) (c .before .before .before .before .before .before .pre .0), day-in _ _ _ _ _ (c .before .before .before .before .before .before .pre .2) (c .before .before .before .before .before .before .pre .4) (c .before .before .before .before .before .before .pre .5), record { seconds = omega arith; nanos = omega arith }, record { seconds = omega arith; nanos = omega arith }, kept-moved _ _ (c .before .before .before .before .before .before .args .c .zone) _ _ _ (c .part .ensures) (c .before .before .before .before .before .before .pre .2), in-moved _ _ (c .before .before .before .before .before .before .args .c .zone) _ _ _ _ (c .part .ensures) (window-longer _ _ (c .before .before .before .before .before .before .pre .1)) (c .before .before .before .before .before .before .pre .2) (c .before .before .before .before .before .before .pre .4) (c .before .before .before .before .before .before .pre .5))
+piece-by-requires c κs = (zone-moved _ _ _ (c .part .ensures) (c .before .before .before .before .before .before .pre .0), day-in _ _ _ _ _ (c .before .before .before .before .before .before .pre .2) (c .before .before .before .before .before .before .pre .4) (c .before .before .before .before .before .before .pre .5), record { seconds = omega arith; nanos = omega arith }, record { seconds = omega arith; nanos = omega arith }, kept-moved _ _ (c .before .before .before .before .before .before .args .c .zone) _ _ _ (c .part .ensures) (c .before .before .before .before .before .before .pre .2), in-moved _ _ (c .before .before .before .before .before .before .args .c .zone) _ _ _ _ (c .part .ensures) (c .before .before .before .before .before .before .pre .1) (c .before .before .before .before .before .before .pre .2) (c .before .before .before .before .before .before .pre .4) (c .before .before .before .before .before .before .pre .5))
 
 piece-into-requires : tie.Need-piece-into-requires
 piece-into-requires c κs = (shown-inside (c .before .before .before .before .before .before .before .before .args .lo) (c .before .before .before .before .before .before .before .before .args .hi) _ _ (c .before .before .before .before .before .before .before .before .args .day) (c .before .before .before .before .before .before .before .before .pre .1) (closed-piece _ _ (c .before .before .before .before .before .before .before .before .args .c .zone) (nanos (c .before .before .before .before .before .before .before .before .args .lo)) (nanos (c .before .before .before .before .before .before .before .before .args .hi)) (c .before .before .before .before .before .before .before .before .args .day) _ (c .before .before .part .ensures) (c .before .piece-by .ensures)), (c .before .before .before .before .before .before .before .before .pre .6))
@@ -36,13 +35,13 @@ cast-k : tie.Need-cast-k
 cast-k c = search needs
 
 mul-k : tie.Need-mul-k
-mul-k c = let k = few-dates _ _ _ _ _ (c .before .before .before .before .before .pre .0) (c .before .before .before .before .before .pre .1) (c .before .before .before .before .before .pre .2) in omega (arith, (c .before .before .before .before .before .pre .4), (c .before .before .before .before .before .pre .5))
+mul-k c = let k = (c .before .before .before .before .before .pre .2 .few) in omega (arith, (c .before .before .before .before .before .pre .4), (c .before .before .before .before .before .pre .5))
 
 add-k : tie.Need-add-k
-add-k c = let k = few-dates _ _ _ _ _ (c .before .before .before .before .before .before .pre .0) (c .before .before .before .before .before .before .pre .1) (c .before .before .before .before .before .before .pre .2) in omega (arith, (c .before .before .before .before .before .before .pre .4), (c .before .before .before .before .before .before .pre .5), (c .before .before .before .before .before .before .pre .3 .near))
+add-k c = let k = (c .before .before .before .before .before .before .pre .2 .few) in omega (arith, (c .before .before .before .before .before .before .pre .4), (c .before .before .before .before .before .before .pre .5), (c .before .before .before .before .before .before .pre .3 .near))
 
 add-span-into : tie.Need-add-span-into
-add-span-into c = let k = few-dates _ _ _ _ _ (c .before .before .before .before .before .before .pre .0) (c .before .before .before .before .before .before .pre .1) (c .before .before .before .before .before .before .pre .2) in omega (arith, (c .before .before .before .before .before .before .pre .4), (c .before .before .before .before .before .before .pre .5), (c .before .before .before .before .before .before .pre .3 .near))
+add-span-into c = let k = (c .before .before .before .before .before .before .pre .2 .few) in omega (arith, (c .before .before .before .before .before .before .pre .4), (c .before .before .before .before .before .before .pre .5), (c .before .before .before .before .before .before .pre .3 .near))
 
 span-into-requires : tie.Need-span-into-requires
 span-into-requires c κs = (c .before .before .before .before .before .before .before .pre .6)
