@@ -5,7 +5,7 @@ use Prim.Native.Nat.{ℕ, zero, suc, _+_, _*_, _≤_, _<_}
 use native.Mathlib.Omega.{arith}
 use native.Mathlib.Numerals.{add-one}
 use lib.Dec.{eqb}
-use lib.ListN.{length, take, drop, set}
+use lib.ListN.{length, take, drop, set, length-set}
 use lib.Seq.{take-suc-set}
 use borrow.Author.Tests.{ne-eqb}
 use Rattle.model.specs.Basic.{distinct}
@@ -20,7 +20,7 @@ use Rattle.rules.specs.declared.Closed.{Closed}
 use Rattle.rules.specs.declared.Schedule.{Schedule}
 use Rattle.rules.specs.Rules.{ruleIs, holidaysIs, scheduleIs, RuleFits, ClosedFits, All}
 use Rattle.build.specs.declared.Opened.{Opened}
-use Rattle.build.specs.Read.{zoneMeant, OpenedWell, ruleFrom, closedFrom, withWork, withBreak, withClosed, added, Kept, Room, Grown}
+use Rattle.build.specs.Read.{zoneMeant, OpenedWell, ruleFrom, closedFrom, withWork, withBreak, withClosed, Long, added, Kept, Room, Grown}
 
 -- ---- one element more
 
@@ -58,10 +58,11 @@ module _ (b : List ℕ) (s : Schedule) (e : Entry) (room : Room b s e) where
   pub pause-room : e .kind ≡ 2 → s .pauses < 16
   pause-room q = let h : s .pauses + 1 ≤ 16 = rw q at (room .pauses) in omega arith
 
-  module _ (n₀ : e .kind ≡ 0 → ⊥) (n₁ : e .kind ≡ 1 → ⊥) (n₂ : e .kind ≡ 2 → ⊥) where
-    is-three : e .kind ≡ 3
-    is-three = omega (arith, room .kind)
+  -- none of the other kinds
+  pub kind-none : (e .kind ≡ 1 → ⊥) → (e .kind ≡ 2 → ⊥) → (e .kind ≡ 3 → ⊥) → e .kind ≡ 0
+  kind-none n₁ n₂ n₃ = omega (arith, room .kind)
 
+  module _ (is-three : e .kind ≡ 3) where
     closed-room : s .closings + 1 ≤ 8
     closed-room = rw is-three at (room .closings)
 
@@ -73,6 +74,18 @@ module _ (b : List ℕ) (s : Schedule) (e : Entry) (room : Room b s e) where
 
     pub closed-fits : {k : ℕ} → k ≤ e .count → (s .closings < 8) × (s .limit + 604800 * k ≤ 341280000)
     closed-fits {k} h = (omega (arith, closed-room), omega (arith, limit-room))
+
+-- ---- its arrays stay as long
+
+module _ (s : Schedule) (h : Long s) where
+  pub long-work : (x : Rule) → Long (withWork s x)
+  long-work x = record { work = length-set (s .work) (s .works) x ∙ h .work; breaks = h .breaks; closed = h .closed }
+
+  pub long-break : (x : Rule) → Long (withBreak s x)
+  long-break x = record { work = h .work; breaks = length-set (s .breaks) (s .pauses) x ∙ h .breaks; closed = h .closed }
+
+  pub long-closed : (x : Closed) (k : ℕ) → Long (withClosed s x k)
+  long-closed x k = record { work = h .work; breaks = h .breaks; closed = length-set (s .closed) (s .closings) x ∙ h .closed }
 
 -- ---- the schedule with the record
 
@@ -119,19 +132,18 @@ module _ (b p : List ℕ) (s : Schedule) (e : Entry) (o : Opened) (room : Room b
           limit = rw q (omega arith);
         })
 
-  module _ (n₀ : e .kind ≡ 0 → ⊥) (n₁ : e .kind ≡ 1 → ⊥) (n₂ : e .kind ≡ 2 → ⊥) where
+  module _ (t : e .kind ≡ 3) where
     pub grown-closed : {x : Closed} {r : Schedule} {k : ℕ} → x ≡ closedFrom e o → r ≡ withClosed s x k → length (s .closed) ≡ 8 →
         k ≡ length (distinct (datesAt b (e .dates) (e .count))) → k ≤ e .count → Grown b p s e o r
     grown-closed {k = k} ex er el ek few =
-        let t : e .kind ≡ 3 = is-three b s e room n₀ n₁ n₂ in
-        let h : s .closings < length (s .closed) = omega (arith, closed-room b s e room n₀ n₁ n₂) in
+        let h : s .closings < length (s .closed) = omega (arith, closed-room b s e room t) in
         let d = distinct (datesAt b (e .dates) (e .count)) in
         let a : scheduleIs b p (withClosed s (closedFrom e o) k) .holidays ≡ scheduleIs b p s .holidays ++ (record { zone = zoneMeant p o; dates = d } ∷ []) =
         front-push (holidaysIs b p) (s .closings) (s .closed) (closedFrom e o) h in
         let l : (s .limit + 604800 * k) * second ≡ s .limit * second + 7 * length d * day = more-limit (s .limit) k ∙ ap (λ (m : ℕ). s .limit * second + 7 * m * day) ek in
         rw (er, ex) (record {
           means = rw t (λ i. record { work = scheduleIs b p s .work; breaks = scheduleIs b p s .breaks; holidays = a i; limit = l i });
-          kept = λ w j. record { work = j .work; breaks = j .breaks; closed = all-push (ClosedFits b p) (s .closings) (s .closed) (closedFrom e o) h (j .closed) (record { opened = w; inside = dates-inside b s e room n₀ n₁ n₂ }) };
+          kept = λ w j. record { work = j .work; breaks = j .breaks; closed = all-push (ClosedFits b p) (s .closings) (s .closed) (closedFrom e o) h (j .closed) (record { opened = w; inside = dates-inside b s e room t }) };
           works = rw t (omega arith);
           pauses = rw t (omega arith);
           closings = rw t;

@@ -1,18 +1,19 @@
 -- The zone of a record: what each end of the search answers.
-use mathlib.Core.Path.{_≡_, refl, sym, ap, _∙_}
-use mathlib.Core.Bool.{true, false}
+use mathlib.Core.Path.{_≡_, refl, sym, ap, ap₂, _∙_}
+use mathlib.Core.Bool.{Bool, true, false}
 use mathlib.Core.Option.{Option, none, some}
 use mathlib.Core.List.{List, [], _∷_}
+use mathlib.Core.Logic.{⊎-elim}
 use Prim.Native.Nat.{ℕ, zero, suc, _+_, _-_, _≤_, _<_}
-use native.Mathlib.Nat.{le-of-suc-le-suc, not-suc-le-zero}
+use native.Mathlib.Nat.{le-of-suc-le-suc, not-suc-le-zero, eq-or-lt-of-le}
 use native.Mathlib.Omega.{arith}
 use lib.Dec.{eqb}
 use lib.ListN.{length, take, drop, getD, getElem?, length-drop}
-use lib.Seq.{length-take-le}
+use lib.Seq.{length-take-le, drop-cons}
 use borrow.Author.Tests.{eq-eqb, ne-eqb, eqb-true, eqb-false}
 use Rattle.laws_base.specs.Test.{by-test, clash}
 use Rattle.model.specs.Basic as basic
-use Rattle.model.specs.Answer.{Answer, gives, refuses}
+use Rattle.model.specs.Answer.{Answer, gives, refuses, _>>=_, orRefuse}
 use Rattle.model.specs.Pack.{Named, packOf, find}
 use Rattle.model.specs.Tzif as model
 use Rattle.model.specs.Book.{lastDefault}
@@ -31,7 +32,8 @@ use Rattle.zone.specs.Zones.{meant, zoneRead, Fine, zone-inside}
 use Rattle.build.specs.declared.Opened.{Opened}
 use Rattle.build.specs.declared.Sought.{Sought}
 use Rattle.build.specs.declared.Sought.the-variants.{Found, Refused}
-use Rattle.build.specs.Read.{filesOf, zoneMeant, OpenedWell, IsUtc, soughtIs, SoughtWell, found, refused}
+use Rattle.build.specs.declared.Known.{Known}
+use Rattle.build.specs.Read.{SameBytes, SameName, Knows, knownAfter, filesOf, zoneMeant, OpenedWell, IsUtc, soughtIs, SoughtWell, found, refused}
 
 -- ---- a name in the pack
 
@@ -105,3 +107,86 @@ module _ (b p : List ℕ) (e : Entry) (z : model.Zone) where
 
     pub used-named : (e .letters ≡ 0 → ⊥) → {a : Answer model.Zone} → a ≡ lookup (filesOf p) (meaning b e) → a ≡ zoneUsed (filesOf p) z (meaning b e) (bodyIn b e)
     used-named k q = q ∙ sym (used-rule n ∙ rw (name-length, ne-eqb (e .letters) 0 k))
+
+    used-look : (e .letters ≡ 0 → ⊥) → zoneUsed (filesOf p) z (meaning b e) (bodyIn b e) ≡ lookup (filesOf p) (meaning b e)
+    used-look k = used-rule n ∙ rw (name-length, ne-eqb (e .letters) 0 k)
+
+name-is : (b : List ℕ) (e : Entry) → take (e .letters) (drop (e .name) b) ≡ meaning b e .name
+unfolding meaning
+name-is b e = refl
+
+-- a refusal gives nothing
+other : {A : Type 0} {n k : ℕ} {z : A} {P : Type 0} → _≡_ {A = Answer A} (refuses n k) (gives z) → P
+other {A} h = clash false (ap is-given h) refl
+  where
+    is-given : Answer A → Bool
+    is-given (gives a) = true
+    is-given (refuses n k) = false
+
+-- ---- a zone that is known
+
+bytes-same : (n i j : ℕ) (b : List ℕ) → i + n ≤ length b → j + n ≤ length b → SameBytes b i j n → take n (drop i b) ≡ take n (drop j b)
+bytes-same zero i j b h k f = refl
+bytes-same (suc n) i j b h k f =
+    let u = drop-cons b i 0 (omega arith) in let v = drop-cons b j 0 (omega arith) in
+    let z : i + 0 ≡ i = omega arith in let w : j + 0 ≡ j = omega arith in
+    let g : getD b i 0 ≡ getD b j 0 = sym (ap (λ (x : ℕ). getD b x 0) z) ∙ f 0 (omega arith) ∙ ap (λ (x : ℕ). getD b x 0) w in
+    let r : take n (drop (suc i) b) ≡ take n (drop (suc j) b) = bytes-same n (suc i) (suc j) b (omega arith) (omega arith) (λ x q.
+    let a : suc i + x ≡ i + suc x = omega arith in let c : j + suc x ≡ suc j + x = omega arith in
+    ap (λ (y : ℕ). getD b y 0) a ∙ f (suc x) (omega arith) ∙ ap (λ (y : ℕ). getD b y 0) c) in
+    ap (take (suc n)) u ∙ ap₂ (λ (x : ℕ) (l : List ℕ). x ∷ l) g r ∙ sym (ap (take (suc n)) v)
+
+pub same-start : (b : List ℕ) (i j : ℕ) → SameBytes b i j 0
+same-start b i j x h = absurd (omega arith)
+
+pub same-more : (b : List ℕ) (i j n : ℕ) → SameBytes b i j n → getD b (i + n) 0 ≡ getD b (j + n) 0 → SameBytes b i j (n + 1)
+same-more b i j n f e x h = let u : x ≤ n = omega arith in ⊎-elim (λ q. rw q e) (λ q. f x q) (eq-or-lt-of-le u)
+
+pub none-knows : (b p : List ℕ) (k : Known) (d : Opened) → k .name ≡ 0 → k .letters ≡ 0 → k .zone ≡ d → OpenedWell p d → Knows b p k
+none-knows b p k d n l z o = record { inside = omega arith; means = λ h. absurd (omega arith); opened = rw z o }
+
+lookup-name : (l : List Named) (e g : books.Entry) (z : model.Zone) → lookup l e ≡ gives z → g .name ≡ e .name → lookup l g ≡ gives z
+unfolding lookup
+lookup-name l e g z q n = rw n (found-file (find (e .name) l) q)
+  where
+    found-zone : (o : Option model.Zone) → orRefuse 5 (e .place) o ≡ gives z → orRefuse 5 (g .place) o ≡ gives z
+    found-zone none h = other h
+    found-zone (some y) h = h
+
+    found-file : (o : Option (List ℕ)) → (orRefuse 4 (e .place) o >>= λ f. orRefuse 5 (e .place) (model.zoneOf f)) ≡ gives z → (orRefuse 4 (g .place) o >>= λ f. orRefuse 5 (g .place) (model.zoneOf f)) ≡ gives z
+    found-file none h = other h
+    found-file (some f) h = found-zone (model.zoneOf f) h
+
+module _ (b p : List ℕ) (e : Entry) (k : Known) (w : Knows b p k) where
+  pub known-named : e .name + e .letters ≤ length b → (e .letters ≡ 0 → ⊥) → SameName b e k → gives (zoneMeant p (k .zone)) ≡ lookup (filesOf p) (meaning b e)
+  unfolding meaning
+  known-named h n s =
+      let q = s .letters in
+      sym (w .means (omega arith) (meaning b e)
+      (bytes-same (e .letters) (e .name) (k .name) b h (omega (arith, w .inside)) (s .bytes) ∙ ap (λ (m : ℕ). take m (drop (k .name) b)) q))
+
+  pub knows-after : (z : model.Zone) (o : Opened) → e .name + e .letters ≤ length b → gives (zoneMeant p o) ≡ zoneUsed (filesOf p) z (meaning b e) (bodyIn b e) → OpenedWell p o → Knows b p (knownAfter e o k)
+  knows-after z o h q f =
+      by-test (eqb (e .kind) 0)
+      (λ t. rw t w)
+      (λ t. by-test (eqb (e .letters) 0)
+      (λ u. rw (t, u) w)
+      (λ u.
+      let n : (e .kind ≡ 0 → ⊥) = λ x. clash false (sym t ∙ eq-eqb (e .kind) 0 x) refl in
+      let m : (e .letters ≡ 0 → ⊥) = λ x. clash false (sym u ∙ eq-eqb (e .letters) 0 x) refl in
+      rw (t, u) (record {
+        inside = h;
+        means = λ _ g s. lookup-name (filesOf p) (meaning b e) g (zoneMeant p o) (sym (q ∙ used-look b p e z h n m)) (s ∙ name-is b e);
+        opened = f;
+      })))
+
+module _ (e : Entry) (o : Opened) (k : Known) where
+  pub after-default : e .kind ≡ 0 → k ≡ knownAfter e o k
+  after-default q = rw (eq-eqb (e .kind) 0 q)
+
+  module _ (n : e .kind ≡ 0 → ⊥) where
+    pub after-own : e .letters ≡ 0 → k ≡ knownAfter e o k
+    after-own q = rw (ne-eqb (e .kind) 0 n, eq-eqb (e .letters) 0 q)
+
+    pub after-named : (e .letters ≡ 0 → ⊥) → _≡_ {A = Known} (record { name = e .name; letters = e .letters; zone = o }) (knownAfter e o k)
+    after-named m = rw (ne-eqb (e .kind) 0 n, ne-eqb (e .letters) 0 m)

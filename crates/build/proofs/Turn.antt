@@ -27,7 +27,9 @@ use Rattle.build.specs.declared.Opened.{Opened}
 use Rattle.build.specs.declared.Sought.{Sought}
 use Rattle.build.specs.declared.Sought.the-variants.{Found, Refused}
 use Rattle.build.specs.declared.Built.{Built}
-use Rattle.build.specs.Read.{filesOf, zoneMeant, OpenedWell, soughtIs, SoughtWell, found, refused, Sized, added, Kept, Room, Grown, Reads}
+use Rattle.build.specs.declared.Known.{Known}
+use Rattle.build.proofs.Seek.{knows-after}
+use Rattle.build.specs.Read.{Knows, knownAfter, filesOf, zoneMeant, OpenedWell, soughtIs, SoughtWell, found, refused, Sized, added, Kept, Room, Grown, Reads}
 
 -- ---- records that were read, and those that are left
 
@@ -186,6 +188,13 @@ module _ (b p : List ℕ) (z : Zone) where
         where
           open-is : SoughtWell p (Found o) → OpenedWell p o
           open-is (found k) = k
+
+      -- the zone that is known behind the record
+      pub turn-knows : {o : Opened} → q ≡ Found o → {k r : Known} → Knows b p k → r ≡ knownAfter e o k → Knows b p r
+      turn-knows {o} f {k} v er = rw er (knows-after b p e k v z o (is .name) (sym (ap (soughtIs p) f) ∙ eq) (open-is (rw f at w)))
+        where
+          open-is : SoughtWell p (Found o) → OpenedWell p o
+          open-is (found j) = j
 
       pub turn-refused : {n k : ℕ} {t : Built} → q ≡ Refused n k → t .number ≡ n → t .place ≡ k → Reads b p t (rulesOf (filesOf p) z (recordsOf b))
       turn-refused {n} {k} {t} f en ek =

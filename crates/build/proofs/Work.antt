@@ -1,31 +1,15 @@
--- The search for work, and the last step of `build`.
+-- The last step of `build`.
 use mathlib.Core.Path.{_≡_, refl, sym, ap, _∙_}
-use mathlib.Core.Bool.{Bool, true, false, not}
-use mathlib.Core.List.{List, [], _∷_, map}
-use Prim.Native.Nat.{ℕ, zero, suc, _+_, _*_, _≤_, _<_}
+use mathlib.Core.Bool.{Bool, true, false}
+use mathlib.Core.List.{List}
+use Prim.Native.Nat.{ℕ}
 use native.Mathlib.Omega.{arith}
-use lib.Dec.{eqb}
-use lib.ListN.{length, take}
-use borrow.Author.Tests.{ne-eqb, eq-eqb}
-use Rattle.laws_skip.specs.Counts.{bare}
+use borrow.Author.Tests.{ne-eqb}
 use Rattle.model.specs.Answer.{Answer, gives, refuses, _>>=_}
-use Rattle.model.specs.Blocks as blocks
-use Rattle.model.specs.Working as model
-use Rattle.model.specs.Working.{working}
-use Rattle.model.specs.Build.{isNone, worksIn2001, build}
+use Rattle.model.specs.Build.{worksIn2001, build}
 use Rattle.rules.specs.Rules.{scheduleIs, ScheduleFits}
 use Rattle.build.specs.declared.Built.{Built}
 use Rattle.build.specs.Read.{answerIs, rulesRead, build-reads}
-
--- a counted array holds nothing if its count is 0
-pub none-front : {A : Type 0} (f : A → blocks.Block) (n : ℕ) (l : List A) → 0 < length l → eqb n 0 ≡ isNone (map f (take n l))
-none-front f zero l h = refl
-none-front f (suc n) [] h = absurd (omega arith)
-none-front f (suc n) (x ∷ l) h = ne-eqb (suc n) 0 (λ q. omega arith)
-
-pub works-is : (s : model.Schedule) {l : List blocks.Block} {t : Bool} → l ≡ working (bare s) 391337827200000000000 391339036800000000000 → t ≡ isNone l → not t ≡ worksIn2001 s
-unfolding worksIn2001
-works-is s e q = rw (q, e)
 
 -- what the contract says of an answer
 abbrev Whole : List ℕ → List ℕ → Built → Type 0

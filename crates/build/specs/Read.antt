@@ -4,7 +4,7 @@ use mathlib.Core.Option.{Option, none, some}
 use mathlib.Core.List.{List, [], _∷_, _++_}
 use Prim.Native.Nat.{ℕ, _+_, _*_, _≤_, _<_}
 use lib.Dec.{eqb}
-use lib.ListN.{length, take, set}
+use lib.ListN.{length, take, drop, set, getD}
 use mathlib.Core.Bool.{Bool}
 use Rattle.laws_base.specs.Test.{by-test}
 use Rattle.model.specs.Basic.{if_then_else_, given, distinct}
@@ -16,7 +16,7 @@ use Rattle.model.specs.Zone as zones
 use Rattle.model.specs.Book as books
 use Rattle.model.specs.Book.{Body, default, work, pause, holidays, entriesOf, withinLimits, lastDefault}
 use Rattle.model.specs.Working as model
-use Rattle.model.specs.Build.{defaultZone, rulesOf, worksIn2001, build}
+use Rattle.model.specs.Build.{lookup, defaultZone, rulesOf, worksIn2001, build}
 use Rattle.be.specs.Maybe.{orEmpty}
 use Rattle.book.specs.declared.Entry.{Entry}
 use Rattle.book.specs.Meaning.{bodyIn, IsTimed}
@@ -28,6 +28,7 @@ use Rattle.rules.specs.Rules.{fileAt, scheduleIs, All, RuleFits, ClosedFits}
 use Rattle.build.specs.declared.Opened.{Opened}
 use Rattle.build.specs.declared.Sought.{Sought}
 use Rattle.build.specs.declared.Sought.the-variants.{Found, Refused}
+use Rattle.build.specs.declared.Known.{Known}
 use Rattle.build.specs.declared.Built.{Built}
 
 -- ---- the definitions' `build` without its last step, the search for work
@@ -64,6 +65,27 @@ soughtIs p (Refused n k) = refuses n k
 pub data SoughtWell (p : List ℕ) : Sought → Type 0 where
   found : {o : Opened} → OpenedWell p o → SoughtWell p (Found o)
   refused : {n k : ℕ} → 0 < n → SoughtWell p (Refused n k)
+
+-- ---- a zone that is known
+
+-- the n bytes from i on are those from j on
+abbrev pub SameBytes : List ℕ → ℕ → ℕ → ℕ → Type 0
+SameBytes b i j n = (x : ℕ) → x < n → getD b (i + x) 0 ≡ getD b (j + x) 0
+
+-- the record's name is that of the zone
+pub record SameName (b : List ℕ) (e : Entry) (k : Known) : Type 0 where
+  pub letters : e .letters ≡ k .letters
+  pub bytes : SameBytes b (e .name) (k .name) (e .letters)
+
+-- every record with the name gets the zone
+pub record Knows (b p : List ℕ) (k : Known) : Type 0 where
+  pub inside : k .name + k .letters ≤ length b
+  pub means : 0 < k .letters → (e : books.Entry) → e .name ≡ take (k .letters) (drop (k .name) b) → lookup (filesOf p) e ≡ gives (zoneMeant p (k .zone))
+  pub opened : OpenedWell p (k .zone)
+
+-- behind a record that uses o
+abbrev pub knownAfter : Entry → Opened → Known → Known
+knownAfter e o k = if eqb (e .kind) 0 then k else if eqb (e .letters) 0 then k else record { name = e .name; letters = e .letters; zone = o }
 
 -- ---- rules
 
@@ -113,6 +135,12 @@ pub record Sized (s : Schedule) (a b c l : ℕ) : Type 0 where
   pub pauses : s .pauses ≡ b
   pub closings : s .closings ≡ c
   pub limit : s .limit ≡ l
+
+-- its arrays are as long as they are declared
+pub record Long (s : Schedule) : Type 0 where
+  pub work : length (s .work) ≡ 16
+  pub breaks : length (s .breaks) ≡ 16
+  pub closed : length (s .closed) ≡ 8
 
 -- the definitions' schedule with one record more, behind the others
 abbrev pub added : Body → Zone → model.Schedule → model.Schedule

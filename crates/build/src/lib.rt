@@ -12,13 +12,10 @@ ghost use Rattle.model.specs.Build.{lookup, defaultZone, zoneUsed, rulesOf};
 ghost use Rattle.be.specs.Maybe.{isSome};
 ghost use Rattle.book.specs.Meaning.{recordsOf, bodyIn, meaning};
 ghost use Rattle.book.specs.Accepts.{isBook};
-ghost use Rattle.blocks.specs.Counted.{listOf};
-ghost use Rattle.rules.specs.Rules.{scheduleIs, ScheduleFits};
-ghost use Rattle.build.specs.Read.{filesOf, zoneMeant, soughtIs, SoughtWell, OpenedWell, IsUtc, ruleFrom, closedFrom, withWork, withBreak, withClosed, Sized, Room, Grown, answerIs, Reads, rulesRead};
-use blocks::Blocks;
+ghost use Rattle.rules.specs.Rules.{ScheduleFits};
+ghost use Rattle.build.specs.Read.{filesOf, zoneMeant, soughtIs, SoughtWell, OpenedWell, IsUtc, SameBytes, SameName, Knows, knownAfter, ruleFrom, closedFrom, Sized, Long, answerIs, Reads, rulesRead};
 use book::Entry;
 use book::Time;
-use instant::Instant;
 use pack::Place;
 use rules::Closed;
 use rules::Rule;
@@ -37,6 +34,13 @@ pub struct Opened {
 pub enum Sought {
     Found(Opened),
     Refused(u32, usize),
+}
+
+// A zone that was found by a record's name: where the name stands in the book, and how many letters it has. 0 letters: none was found yet.
+pub struct Known {
+    pub name: usize,
+    pub letters: usize,
+    pub zone: Opened,
 }
 
 // What building answers: number 0 and the schedule, or a refusal's number and place.
@@ -97,9 +101,46 @@ fn default_zone(book: &[u8], pack: &[u8]) -> Sought
     Sought::Found(utc())
 }
 
-// The zone that a record uses where d is the default zone.
-fn zone_used(book: &[u8], pack: &[u8], e: Entry, d: Opened) -> Sought
-    requires { ⌜ (isSome (packOf (now pack)) ≡ true) × (e .name + e .letters ≤ length (now book)) × OpenedWell (now pack) d ⌝ }
+// Are the n bytes from p on those from q on?
+fn same_bytes(b: &[u8], p: usize, q: usize, n: usize) -> bool
+    requires { ⌜ (p + n ≤ length (now b)) × (q + n ≤ length (now b)) ⌝ }
+    ensures { λ r. ⌜ (r ≡ true → SameBytes (now (b .entry)) p q n) ⌝ }
+{
+    let mut i = 0;
+    while i < n {
+        if b[p + i] != b[q + i] {
+            return false;
+        }
+        i += 1;
+    }
+    true
+}
+
+// No name is known; d stands in for the zone.
+fn none_known(d: Opened) -> Known
+    ensures { λ r. ⌜ (r .name ≡ 0) × (r .letters ≡ 0) × (r .zone ≡ d) ⌝ }
+{
+    Known {
+        name: 0,
+        letters: 0,
+        zone: d,
+    }
+}
+
+// Does the record name the zone that is known?
+fn is_known(book: &[u8], e: Entry, k: Known) -> bool
+    requires { ⌜ (e .name + e .letters ≤ length (now book)) × (k .name + k .letters ≤ length (now book)) ⌝ }
+    ensures { λ r. ⌜ (r ≡ true → SameName (now (book .entry)) e k) ⌝ }
+{
+    if e.letters != k.letters {
+        return false;
+    }
+    same_bytes(book, e.name, k.name, e.letters)
+}
+
+// The zone that a record uses where d is the default zone. A name's zone is opened once, where records that name it follow one another.
+fn zone_used(book: &[u8], pack: &[u8], e: Entry, d: Opened, k: Known) -> Sought
+    requires { ⌜ (isSome (packOf (now pack)) ≡ true) × (e .name + e .letters ≤ length (now book)) × OpenedWell (now pack) d × Knows (now book) (now pack) k ⌝ }
     ensures { λ r. ⌜ (soughtIs (now (pack .entry)) r ≡ zoneUsed (filesOf (now (pack .entry))) (zoneMeant (now (pack .entry)) d) (meaning (now (book .entry)) e) (bodyIn (now (book .entry)) e)) × SoughtWell (now (pack .entry)) r ⌝ }
 {
     if e.kind == 0 {
@@ -108,10 +149,31 @@ fn zone_used(book: &[u8], pack: &[u8], e: Entry, d: Opened) -> Sought
     if e.letters == 0 {
         return Sought::Found(d);
     }
+    if is_known(book, e, k) {
+        let z = k.zone;
+        return Sought::Found(z);
+    }
     look_up(book, pack, e)
 }
 
-// ---- a schedule with one record more
+// The zone that is known behind a record that uses o.
+fn known_after(e: Entry, o: Opened, k: Known) -> Known
+    ensures { λ r. ⌜ r ≡ knownAfter e o k ⌝ }
+{
+    if e.kind == 0 {
+        return k;
+    }
+    if e.letters < 1 {
+        return k;
+    }
+    Known {
+        name: e.name,
+        letters: e.letters,
+        zone: o,
+    }
+}
+
+// ---- the rules of the records
 
 // A work or break record and its zone as a rule.
 fn rule_of(e: Entry, o: Opened) -> Rule
@@ -144,67 +206,9 @@ fn closed_of(e: Entry, o: Opened) -> Closed
     }
 }
 
-// s with the work rule x.
-fn add_work(s: Schedule, x: Rule) -> Schedule
-    requires { ⌜ s .works < 16 ⌝ }
-    ensures { λ r. ⌜ (r ≡ withWork s x) × (length (s .work) ≡ 16) ⌝ }
-{
-    let at = s.works;
-    let mut r = s;
-    r.work[at] = x;
-    r.works = at + 1;
-    r
-}
-
-// s with the break rule x.
-fn add_break(s: Schedule, x: Rule) -> Schedule
-    requires { ⌜ s .pauses < 16 ⌝ }
-    ensures { λ r. ⌜ (r ≡ withBreak s x) × (length (s .breaks) ≡ 16) ⌝ }
-{
-    let at = s.pauses;
-    let mut r = s;
-    r.breaks[at] = x;
-    r.pauses = at + 1;
-    r
-}
-
-// s with the holiday record x, which has `days` distinct dates: 7 days more of search for each.
-fn add_closed(s: Schedule, x: Closed, days: usize) -> Schedule
-    requires { ⌜ (s .closings < 8) × (s .limit + 604800 * days ≤ 341280000) ⌝ }
-    ensures { λ r. ⌜ (r ≡ withClosed s x days) × (length (s .closed) ≡ 8) ⌝ }
-{
-    let at = s.closings;
-    let mut r = s;
-    r.closed[at] = x;
-    r.closings = at + 1;
-    r.limit = s.limit + 604800 * (days as u64);
-    r
-}
-
-// s with one record more, whose zone is o.
-fn with_rule(book: &[u8], s: Schedule, e: Entry, o: Opened) -> Schedule
-    requires { ⌜ Room (now book) s e ⌝ }
-    ensures { λ r. ⌜ ((p : List ℕ) → Grown (now (book .entry)) p s e o r) ⌝ }
-{
-    if e.kind == 0 {
-        return s;
-    }
-    if e.kind == 1 {
-        return add_work(s, rule_of(e, o));
-    }
-    if e.kind == 2 {
-        return add_break(s, rule_of(e, o));
-    }
-    add_closed(
-        s,
-        closed_of(e, o),
-        book::distinct_dates(book, e.dates, e.count),
-    )
-}
-
 // No rules: a search covers 366 days.
 fn no_rules() -> Schedule
-    ensures { λ r. ⌜ Sized r 0 0 0 31622400 ⌝ }
+    ensures { λ r. ⌜ Sized r 0 0 0 31622400 × Long r ⌝ }
 {
     let zone = zone::utc();
     let from = Time {
@@ -251,20 +255,36 @@ fn refused(number: u32, place: usize) -> Built
     }
 }
 
-// The rules of the book's records, where d is the default zone.
+// The rules of the book's records, where d is the default zone. They are put in their places one by one: a call with a schedule would copy it.
 fn read_rules(book: &[u8], pack: &[u8], d: Opened) -> Built
     requires { ⌜ (isBook (now book) ≡ true) × (model.withinLimits (recordsOf (now book)) ≡ true) × (isSome (packOf (now pack)) ≡ true) × OpenedWell (now pack) d ⌝ }
     ensures { λ r. ⌜ Reads (now (book .entry)) (now (pack .entry)) r (rulesOf (filesOf (now (pack .entry))) (zoneMeant (now (pack .entry)) d) (recordsOf (now (book .entry)))) ⌝ }
 {
     let n = book::count(book);
     let mut s = no_rules();
+    let mut k = none_known(d);
     let mut i: usize = 0;
     while i < n {
         let e = book::entry_at(book, i);
         i += 1;
-        match zone_used(book, pack, e, d) {
+        match zone_used(book, pack, e, d, k) {
             Sought::Found(o) => {
-                s = with_rule(book, s, e, o);
+                k = known_after(e, o, k);
+                if e.kind == 1 {
+                    let at = s.works;
+                    s.work[at] = rule_of(e, o);
+                    s.works = at + 1;
+                } else if e.kind == 2 {
+                    let at = s.pauses;
+                    s.breaks[at] = rule_of(e, o);
+                    s.pauses = at + 1;
+                } else if e.kind == 3 {
+                    let at = s.closings;
+                    let days = book::distinct_dates(book, e.dates, e.count);
+                    s.closed[at] = closed_of(e, o);
+                    s.closings = at + 1;
+                    s.limit += 604800 * (days as u64);
+                }
             }
             Sought::Refused(number, place) => {
                 return refused(number, place);
@@ -292,35 +312,13 @@ pub fn rules_of(book: &[u8], pack: &[u8]) -> Built
         return refused(3, 0);
     }
     match default_zone(book, pack) {
-        Sought::Found(d) => read_rules(book, pack, d),
-        Sought::Refused(number, place) => refused(number, place),
+        Sought::Found(d) => {
+            return read_rules(book, pack, d);
+        }
+        Sought::Refused(number, place) => {
+            return refused(number, place);
+        }
     }
-}
-
-// ---- work in the book
-
-// No block?
-fn is_none(b: Blocks) -> bool
-    ensures { λ r. ⌜ r ≡ definition.isNone (listOf b) ⌝ }
-{
-    b.len == 0
-}
-
-// Is there work without breaks, holidays ignored, in the 14 days from second 978,307,200 after 1970-01-01T00:00:00Z?
-fn has_work(book: &[u8], pack: &[u8], s: Schedule) -> bool
-    requires { ⌜ ScheduleFits (now book) (now pack) s ⌝ }
-    ensures { λ r. ⌜ r ≡ definition.worksIn2001 (scheduleIs (now (book .entry)) (now (pack .entry)) s) ⌝ }
-{
-    let lo = Instant {
-        sec: 391337827200,
-        ns: 0,
-    };
-    let hi = Instant {
-        sec: 391339036800,
-        ns: 0,
-    };
-    let b = engine::bare_time(book, pack, s, lo, hi);
-    !is_none(b)
 }
 
 // The schedule of a book and a pack, or its first refusal.
@@ -332,7 +330,7 @@ pub fn build(book: &[u8], pack: &[u8]) -> Built
         return r;
     }
     let s = r.schedule;
-    if has_work(book, pack, s) {
+    if two_weeks::has_work(book, pack, s) {
         return r;
     }
     refused(6, 0)

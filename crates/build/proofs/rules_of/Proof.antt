@@ -42,14 +42,14 @@ enum-known-d c = search needs
 read-rules-requires : tie.Need-read-rules-requires
 read-rules-requires c κs = ((sym (c .before .before .before .before .before .before .before .before .before .book-ok .ensures) ∙ not-false _ (c .before .before .before .before .before .before .before .before .if1 .left)), (sym (c .before .before .before .before .before .before .before .limits-ok .ensures) ∙ not-false _ (c .before .before .before .before .before .before .if2 .left)), (sym (c .before .before .before .before .before .pack-ok .ensures) ∙ not-false _ (c .before .before .before .before .if3 .left)), open-is _ _ (sym (c .before .before .before .before .before .before .before .before .before .book-ok .ensures) ∙ not-false _ (c .before .before .before .before .before .before .before .before .if1 .left)) (sym (c .before .before .before .before .before .before .before .limits-ok .ensures) ∙ not-false _ (c .before .before .before .before .before .before .if2 .left)) (sym (c .before .before .before .before .before .pack-ok .ensures) ∙ not-false _ (c .before .before .before .before .if3 .left)) (c .before .before .before .default-zone .result) ((c .before .before .before .default-zone .ensures) .0) (c .before .d .given .1) ((c .before .before .before .default-zone .ensures) .1))
 
+returns-4 : tie.Need-returns-4
+returns-4 c = reads-all _ _ (sym (c .before .before .before .before .before .before .before .before .before .before .book-ok .ensures) ∙ not-false _ (c .before .before .before .before .before .before .before .before .before .if1 .left)) (sym (c .before .before .before .before .before .before .before .before .limits-ok .ensures) ∙ not-false _ (c .before .before .before .before .before .before .before .if2 .left)) (sym (c .before .before .before .before .before .before .pack-ok .ensures) ∙ not-false _ (c .before .before .before .before .before .if3 .left)) (c .before .before .before .before .default-zone .result) ((c .before .before .before .before .default-zone .ensures) .0) _ _ (c .before .before .d .given .1) (c .read-rules .ensures)
+
 enum-known-number : tie.Need-enum-known-number
 enum-known-number c = search needs
 
 refused-requires-4 : tie.Need-refused-requires-4
 refused-requires-4 c κs = search needs
-
-returns-4 : tie.Need-returns-4
-returns-4 c = reads-all _ _ (sym (c .before .before .before .before .before .before .before .before .before .before .book-ok .ensures) ∙ not-false _ (c .before .before .before .before .before .before .before .before .before .if1 .left)) (sym (c .before .before .before .before .before .before .before .before .limits-ok .ensures) ∙ not-false _ (c .before .before .before .before .before .before .before .if2 .left)) (sym (c .before .before .before .before .before .before .pack-ok .ensures) ∙ not-false _ (c .before .before .before .before .before .if3 .left)) (c .before .before .before .before .default-zone .result) ((c .before .before .before .before .default-zone .ensures) .0) _ _ (c .before .before .d .given .1) (c .read-rules .ensures)
 
 returns-5 : tie.Need-returns-5
 returns-5 c = no-default _ _ (sym (c .before .before .before .before .before .before .before .before .before .before .book-ok .ensures) ∙ not-false _ (c .before .before .before .before .before .before .before .before .before .if1 .left)) (sym (c .before .before .before .before .before .before .before .before .limits-ok .ensures) ∙ not-false _ (c .before .before .before .before .before .before .before .if2 .left)) (sym (c .before .before .before .before .before .before .pack-ok .ensures) ∙ not-false _ (c .before .before .before .before .before .if3 .left)) (c .before .before .before .before .default-zone .result) ((c .before .before .before .before .default-zone .ensures) .0) _ (c .before .before .number .given .1) ((c .before .before .before .before .default-zone .ensures) .1) ((c .refused4 .ensures) .0) ((c .refused4 .ensures) .1)
@@ -70,7 +70,7 @@ rules-of-spec =
     default-zone-requires
     enum-known-d
     read-rules-requires
+    returns-4
     enum-known-number
     refused-requires-4
-    returns-4
     returns-5)
