@@ -13,7 +13,7 @@ ghost use Rattle.blocks.specs.Counted.{size, most};
 ghost use Rattle.dates.specs.Dates.{InRange};
 ghost use Rattle.rules.specs.Rules.{scheduleIs, ScheduleFits};
 ghost use Rattle.spend.specs.Spending.{wayOf};
-ghost use Rattle.walk.specs.Walks.{Short};
+ghost use Rattle.windows.specs.Distances.{Short};
 ghost use Rattle.schedule.specs.Answers.{timeIs, timeCount, movedIs, movedCount, addIs, addCount, subIs, subCount, Windows};
 use blocks::Span;
 use edge::Duration;
@@ -105,7 +105,7 @@ fn landed(t: Instant, back: bool, x: Span, windows: u64) -> Moved
     requires { ⌜ InRange t × Short x × (size x ≤ way.reach (wayOf back) (nanos t)) ⌝ }
     ensures { λ r. ⌜ (movedIs r ≡ gives (instant (way.at (wayOf back) (nanos t) (size x)))) × (movedCount r ≡ windows) ⌝ }
 {
-    let u = walk::at(t, back, x);
+    let u = windows::at(t, back, x);
     Moved::At(edge::seconds_of(u.sec), u.ns as i64, windows)
 }
 

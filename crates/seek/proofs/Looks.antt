@@ -2,15 +2,16 @@
 use mathlib.Core.Path.{_≡_, refl, sym, _∙_, ap}
 use mathlib.Core.Bool.{true, false}
 use mathlib.Core.List.{List, [], _∷_, _++_, map, reverse, reverse-append}
-use Prim.Native.Nat.{ℕ, _+_, _*_, _-_, _≤_, _<_}
+use Prim.Native.Nat.{ℕ, zero, suc, _+_, _*_, _-_, _≤_, _<_}
 use native.Mathlib.Omega.{arith}
-use borrow.Author.Tests.{le-leb, lt-leb}
+use borrow.Author.Tests.{le-leb, lt-leb, ltb-true, ltb-false}
 use lib.Dec.{ltb, leb}
 use lib.ListN.{getD}
 use Rattle.model.specs.Basic.{if_then_else_}
 use Rattle.model.specs.Blocks.{Block, block}
 use Rattle.model.specs.Walk.{Step, spend, found, gap, left, backward}
 use Rattle.laws_base.specs.Test.{by-test}
+use Rattle.laws_blocks.specs.Members.{NonEmpty, Ends}
 use Rattle.laws_blocks.specs.Move.{moves}
 use Rattle.pairs.specs.Pairs.{part, pairs}
 use Rattle.pairs.proofs.Parts.{block-same, blockTo, from-first, from-none, pairs-last}
@@ -41,13 +42,39 @@ module _ (limit y end d : ℕ) (k : List Block) (whole : Step) (e : k ≡ []) (m
   unfolding spend
   step-left q = rw (e, q) at m
 
+-- ---- moved by g
+
+-- the first block, moved
+pub first-moved : (g : ℕ) {k : List Block} {a b : ℕ} {rest : List Block} → k ≡ block a b ∷ rest → moves g k ≡ block (a + g) (b + g) ∷ moves g rest
+unfolding moves
+first-moved g e = rw e
+
+pub none-moved : (g : ℕ) {k : List Block} → k ≡ [] → moves g k ≡ []
+unfolding moves
+none-moved g e = rw e
+
 -- ---- on
 
-pub on-starts : (l : List ℕ) (n limit y last d : ℕ) → spend limit y last d (part 0 (n - 0) l) ≡ spend limit y last d (pairs n l)
-on-starts l n limit y last d = let e : n - 0 ≡ n = omega arith in rw e
+pub on-starts : (l : List ℕ) (n limit y last d g : ℕ) → spend limit y last d (moves g (part 0 (n - 0) l)) ≡ spend limit y last d (moves g (pairs n l))
+on-starts l n limit y last d g = let e : n - 0 ≡ n = omega arith in rw e
 
 pub on-end : (l : List ℕ) (n i : ℕ) → i ≤ n → n ≤ i → part i (n - i) l ≡ []
 on-end l n i h k = let z : i ≡ n = omega arith in ap (λ (x : ℕ). part x (n - x) l) z ∙ from-none n l
+
+-- the borders of a block lie in the window
+ends-at : (w a n i : ℕ) (l : List ℕ) → NonEmpty (part a n l) → Ends w (part a n l) → a ≤ i → i < a + n → (getD l (2 * i) 0 ≤ w) × (getD l (2 * i + 1) 0 ≤ w)
+unfolding part
+ends-at w a zero i l f e h k = absurd (omega arith)
+ends-at w a (suc n) i l f e h k =
+    by-test (ltb a i)
+    (λ p. let q = ltb-true a i p in ends-at w (suc a) n i l (f .1) (e .1) (omega arith) (omega arith))
+    (λ p. let q = ltb-false a i p in let z : a ≡ i = omega arith in let x = f .0 in let y = e .0 in rw z at (ends-first x y))
+  where
+    ends-first : getD l (2 * a) 0 < getD l (2 * a + 1) 0 → getD l (2 * a + 1) 0 ≤ w → (getD l (2 * a) 0 ≤ w) × (getD l (2 * a + 1) 0 ≤ w)
+    ends-first x y = (omega arith, y)
+
+pub on-upto : (w n i : ℕ) (l : List ℕ) → NonEmpty (pairs n l) → Ends w (pairs n l) → i < n → (getD l (2 * i) 0 ≤ w) × (getD l (2 * i + 1) 0 ≤ w)
+on-upto w n i l f e h = ends-at w 0 n i l f e (omega arith) (omega arith)
 
 -- ---- back
 
@@ -65,27 +92,3 @@ pub back-at : (t i : ℕ) (l : List ℕ) (from to : ℕ) → 0 < i → from ≡ 
     → backward t (pairs i l) ≡ block from to ∷ backward t (pairs (i - 1) l)
 back-at t i l from to h p q =
     back-first t i l h ∙ ap (λ (b : Block). b ∷ backward t (pairs (i - 1) l)) (sym (block-same from to (t - getD l (2 * i - 1) 0) (t - getD l (2 * i - 2) 0) p q))
-
--- ---- another origin
-
--- what a search says, its distances from c before
-abbrev pub shifted : ℕ → Step → Step
-shifted c (found z) = found (z + c)
-shifted c gap = gap
-shifted c (left d m) = left d (m + c)
-
--- a search says the same from another origin
-pub spend-moved : (c limit y last d : ℕ) (l : List Block) → spend limit (y + c) (last + c) d (moves c l) ≡ shifted c (spend limit y last d l)
-unfolding spend moves
-spend-moved c limit y last d [] =
-    let e : (y + c) - (last + c) ≡ y - last = omega arith in
-    by-test (ltb limit (y - last)) (λ p. rw (e, p)) (λ p. rw (e, p))
-spend-moved c limit y last d (b ∷ l) =
-    let e : (b .start + c) - (last + c) ≡ b .start - last = omega arith in
-    let f : (b .end + c) - (b .start + c) ≡ b .end - b .start = omega arith in
-    let g : (b .start + c) + d ≡ (b .start + d) + c = omega arith in
-    by-test (ltb limit (b .start - last))
-    (λ p. rw (e, p))
-    (λ p. by-test (leb d (b .end - b .start))
-    (λ q. rw (e, f, p, q) (ap found g))
-    (λ q. rw (e, f, p, q) (spend-moved c limit y (b .end) (d - (b .end - b .start)) l)))

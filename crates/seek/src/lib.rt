@@ -1,15 +1,17 @@
-// A search's look at the blocks of one window, which are pairs of numbers in lent memory: how far working time reaches along them, on from the numbers'
-// origin or back from a number t. Nothing is copied.
+// A search's look at the blocks of one window, which are pairs of numbers in lent memory: how far working time reaches along them, on from the window's
+// start or back from its end. Nothing is copied.
 ghost use mathlib.Core.Path.{_≡_};
-ghost use Prim.Native.Nat.{_+_, _*_, _-_, _≤_};
+ghost use Prim.Native.Nat.{_+_, _*_, _-_, _≤_, _<_};
 ghost use lib.Dec.{ltb};
 ghost use lib.ListN.{length};
 ghost use Rattle.model.specs.Walk.{spend, backward};
+ghost use Rattle.laws_blocks.specs.Members.{NonEmpty, Ends};
+ghost use Rattle.laws_blocks.specs.Move.{moves};
 ghost use Rattle.pairs.specs.Pairs.{pairs};
-ghost use Rattle.seek.specs.Steps.{stepIs};
+ghost use Rattle.seek.specs.Steps.{takenIs};
 
 // What a window leaves: the distance that answers, a gap that is too long, or time left to find with the distance where work last ended.
-pub enum Step {
+pub enum Taken {
     Found(u64),
     Gap,
     Left(u64, u64),
@@ -32,59 +34,59 @@ fn exceeds(limit: u64, from: u64, to: u64) -> bool
     limit < minus(to, from)
 }
 
-// Looks for d more of working time in the first n blocks of a window that ends at y, where work last ended at `last`. A gap is too long if it is
-// longer than the limit.
-pub fn spend_on(l: &[u64], n: usize, limit: u64, y: u64, last: u64, d: u64) -> Step
-    requires { ⌜ 2 * n ≤ length (now l) ⌝ }
-    ensures { λ r. ⌜ stepIs r ≡ spend limit y last d (pairs n (now (l .entry))) ⌝ }
+// Looks for d more of working time in the first n blocks of a window of the length w, on from its start. Work last ended g before that start, and all
+// distances of the answer are from there. A gap is too long if it is longer than the limit.
+pub fn spend_on(l: &[u64], n: usize, limit: u64, g: u64, w: u64, d: u64) -> Taken
+    requires { ⌜ (2 * n ≤ length (now l)) × NonEmpty (pairs n (now l)) × Ends w (pairs n (now l)) × (w + g < 18446744073709551616) ⌝ }
+    ensures { λ r. ⌜ takenIs r ≡ spend limit (w + g) 0 d (moves g (pairs n (now (l .entry)))) ⌝ }
 {
     let mut left = d;
-    let mut end = last;
+    let mut end: u64 = 0;
     let mut i: usize = 0;
     while i < n {
-        let from = l[2 * i];
-        let to = l[2 * i + 1];
+        let from = l[2 * i] + g;
+        let to = l[2 * i + 1] + g;
         i += 1;
         if exceeds(limit, end, from) {
-            return Step::Gap;
+            return Taken::Gap;
         }
         let len = minus(to, from);
         if left <= len {
-            return Step::Found(from + left);
+            return Taken::Found(from + left);
         }
         left -= len;
         end = to;
     }
-    if exceeds(limit, end, y) {
-        return Step::Gap;
+    if exceeds(limit, end, w + g) {
+        return Taken::Gap;
     }
-    Step::Left(left, end)
+    Taken::Left(left, end)
 }
 
-// The same back from t, from the last block to the first. All distances are from t.
-pub fn spend_back(l: &[u64], n: usize, t: u64, limit: u64, y: u64, last: u64, d: u64) -> Step
-    requires { ⌜ 2 * n ≤ length (now l) ⌝ }
-    ensures { λ r. ⌜ stepIs r ≡ spend limit y last d (backward t (pairs n (now (l .entry)))) ⌝ }
+// The same back from the window's end, from the last block to the first. Work last ended g behind that end.
+pub fn spend_back(l: &[u64], n: usize, limit: u64, g: u64, w: u64, d: u64) -> Taken
+    requires { ⌜ (2 * n ≤ length (now l)) × (w + g < 18446744073709551616) ⌝ }
+    ensures { λ r. ⌜ takenIs r ≡ spend limit (w + g) 0 d (moves g (backward w (pairs n (now (l .entry))))) ⌝ }
 {
     let mut left = d;
-    let mut end = last;
+    let mut end: u64 = 0;
     let mut i = n;
     while 0 < i {
-        let from = minus(t, l[2 * i - 1]);
-        let to = minus(t, l[2 * i - 2]);
+        let from = minus(w, l[2 * i - 1]) + g;
+        let to = minus(w, l[2 * i - 2]) + g;
         i -= 1;
         if exceeds(limit, end, from) {
-            return Step::Gap;
+            return Taken::Gap;
         }
         let len = minus(to, from);
-        if left <= len {
-            return Step::Found(from + left);
+        if len >= left {
+            return Taken::Found(from + left);
         }
         left -= len;
         end = to;
     }
-    if exceeds(limit, end, y) {
-        return Step::Gap;
+    if exceeds(limit, end, w + g) {
+        return Taken::Gap;
     }
-    Step::Left(left, end)
+    Taken::Left(left, end)
 }

@@ -1,3 +1,4 @@
 pub mod Sums
 pub mod Seeks
 pub mod Steps
+pub mod Sights

@@ -16,6 +16,7 @@ use Rattle.laws_skip.specs.Skips.{Kept, fresh, known, keep, maySkip, Counted, c
 use Rattle.laws_skip.specs.Loops.{searchRest, more, search-start, search-done, search-finds, search-gap, search-left, search-run}
 use Rattle.laws_skip.specs.Schedules.{search-skipping}
 use Rattle.laws_skip.specs.Books.{BuiltWell}
+use Rattle.seek.proofs.Moved.{spend-rest}
 
 more-more : (c k : ℕ) (r : Counted) → more c (more k r) ≡ more (c + k) r
 more-more c k r = let q : c + (k + r .count) ≡ c + k + r .count = omega arith in λ i. record { answer = r .answer; count = q i }
@@ -29,6 +30,7 @@ module _ (look : ℕ → ℕ → List Block) (rep : ℕ → Bool) (limit end d :
     pub upto : x ≤ end
     -- work last ended so far before x
     pub since : edge + last ≡ x
+    pub near : edge ≤ limit
     pub some : 0 < rest
     pub less : rest ≤ d
     pub few : x < end → windows * week ≤ x
@@ -38,6 +40,7 @@ module _ (look : ℕ → ℕ → List Block) (rep : ℕ → Bool) (limit end d :
   seeking-starts h k e = record {
     upto = omega arith;
     since = omega arith;
+    near = omega arith;
     some = h;
     less = omega arith;
     few = λ u. omega arith;
@@ -53,6 +56,7 @@ module _ (look : ℕ → ℕ → List Block) (rep : ℕ → Bool) (limit end d :
         record {
           upto = i;
           since = omega arith;
+          near = m .near;
           some = omega arith;
           less = omega arith;
           few = λ z. omega arith;
@@ -86,6 +90,7 @@ module _ (look : ℕ → ℕ → List Block) (rep : ℕ → Bool) (limit end d :
             record {
               upto = omega arith;
               since = omega arith;
+              near = (let q = spend-rest limit y last rest (look x y) r l (sym f) .1 in omega arith);
               some = omega arith;
               less = omega arith;
               few = λ z. omega arith;

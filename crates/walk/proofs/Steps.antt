@@ -1,7 +1,7 @@
 -- The small steps of the walks: a week further, what fits, and the parts of a test. Assumes nothing.
 use mathlib.Core.Path.{_≡_, refl, sym, _∙_, ap}
 use mathlib.Core.Bool.{Bool, true, false, _&&_}
-use mathlib.Core.List.{List, [], _∷_}
+use mathlib.Core.List.{List}
 use Prim.Native.Nat.{ℕ, _+_, _*_, _-_, _/_, _≤_, _<_, min}
 use mathlib.Core.Logic.{_⊎_, inl, inr}
 use native.Mathlib.Nat.{mul-assoc, mul-le-mul, mul-le-mul-right, mul-lt-mul-of-pos-left, div-mul-le-self}
@@ -12,18 +12,15 @@ use Rattle.model.specs.Instant.{second, week, lastInstant}
 use Rattle.model.specs.Blocks.{Block, total}
 use Rattle.model.specs.Working.{Schedule, working}
 use Rattle.model.specs.Walk.{Step as Taken}
-use Rattle.model.specs.Walk.{Way, reach, at, on, back, ahead, onward, backward, spend}
+use Rattle.model.specs.Walk.{at}
 use Rattle.model.specs.Skip.{repeats}
 use Rattle.laws_base.specs.Test.{by-test}
-use Rattle.laws_skip.specs.Edges.{Inside}
-use Rattle.laws_skip.specs.Schedules.{working-inside}
 use Rattle.laws_skip.specs.Skips.{fresh, keep, maySkip}
 use Rattle.calm.specs.Calm.{beyond, Calm}
 use Rattle.blocks.specs.Counted.{size, most}
-use Rattle.blocks.specs.declared.Span.{Span}
 use Rattle.walk.specs.declared.Kept.{Kept}
-use Rattle.walk.specs.Walks.{Short, Ahead, Reused, Skipped}
-use Rattle.spend.specs.Spending.{wayOf, stepIs, Below}
+use Rattle.walk.specs.Walks.{Reused, Skipped}
+use Rattle.spend.specs.Spending.{wayOf, stepIs}
 use Rattle.spend.specs.declared.Step.{Step}
 use Rattle.walk.proofs.Sums.{working-most}
 
@@ -49,23 +46,6 @@ sum-fits s lo hi sum now e f h k i =
     let g : now ≡ total (working s lo hi) = f ∙ ap total e in
     omega arith
 
--- ---- windows as distances
-
-below-of : (lo hi m : ℕ) (l : List Block) → hi < m → Inside lo hi l → Below m l
-below-of lo hi m [] h i = tt
-below-of lo hi m (b ∷ l) h i = (omega arith, omega arith, below-of lo hi m l h (i .3))
-
-pub window-borders : (s : Schedule) (lo hi : ℕ) {l : List Block} → l ≡ working s lo hi → lo ≤ hi → hi ≤ lastInstant → Below most l
-window-borders s lo hi e h k = rw e (below-of lo hi most (working s lo hi) (omega arith) (working-inside s lo hi h))
-
-pub window-on : (s : Schedule) (t x y lo hi : ℕ) {l : List Block} → lo ≡ t + x → hi ≡ t + y → l ≡ working s lo hi → onward t l ≡ ahead on s t x y
-unfolding ahead
-window-on s t x y lo hi p q e = rw (e, p, q)
-
-pub window-back : (s : Schedule) (t x y lo hi : ℕ) {l : List Block} → lo ≡ t - y → hi ≡ t - x → l ≡ working s lo hi → backward t l ≡ ahead back s t x y
-unfolding ahead
-window-back s t x y lo hi p q e = rw (e, p, q)
-
 -- ---- what is kept of a window
 
 pub kept-whole : (known w : Bool) (t e t′ e′ : ℕ) → w ≡ true → known ≡ ltb 0 t → t ≡ t′ → e ≡ e′ → keep known t e ≡ keep (w && ltb 0 t′) t′ e′
@@ -74,16 +54,10 @@ kept-whole known w t e t′ e′ p q f g = rw (p, ← f, ← g, q)
 pub kept-part : (w : Bool) {t t′ e e′ : ℕ} → t ≡ t′ → e ≡ e′ → w ≡ false → fresh ≡ keep (w && ltb 0 t′) t′ e′
 kept-part w f g p = rw p
 
--- ---- what `spend` answers of a window
-
-pub looked : (lim y last rest : ℕ) {l l′ : List Block} {x : Taken} → x ≡ spend (lim * second + 0) y last rest l → l ≡ l′ → x ≡ spend (lim * second) y last rest l′
-looked lim y last rest q e = let h : lim * second + 0 ≡ lim * second = omega arith in rw (← e) (rw h at q)
+-- ---- what is answered of a window
 
 pub took : {r r′ : Step} {x : Taken} → r ≡ r′ → stepIs r ≡ x → stepIs r′ ≡ x
 took p q = rw (← p) q
-
-pub ahead-of : (w : Way) (t : ℕ) (x y end : Span) → Short x → Short y → size end ≡ reach w t → size x ≤ size end → size y ≡ min (size x + week) (size end) → Ahead w t x y
-ahead-of w t x y end h k e i f = record { start = h; end = k; order = omega arith; near = omega arith; short = omega arith }
 
 -- ---- many windows at once
 

@@ -27,7 +27,7 @@ bit-most : (b : Bool) → bit b ≤ 1
 bit-most true = omega arith
 bit-most false = omega arith
 
-count-most : (W : ℕ → Bool) (a n : ℕ) → cnt W a n ≤ n
+pub count-most : (W : ℕ → Bool) (a n : ℕ) → cnt W a n ≤ n
 unfolding cnt
 count-most W a zero = omega arith
 count-most W a (suc n) = let h = count-most W a n in let k = bit-most (W (a + n)) in omega arith

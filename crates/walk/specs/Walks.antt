@@ -5,7 +5,7 @@ use Prim.Native.Nat.{ℕ, _+_, _*_, _-_, _≤_, _<_, min}
 use lib.Dec.{eqb}
 use Rattle.model.specs.Answer.{Answer, gives, refuses}
 use Rattle.model.specs.Instant.{week}
-use Rattle.model.specs.Walk.{Way, reach, search}
+use Rattle.model.specs.Walk.{Way, search}
 use Rattle.model.specs.Working as model
 use Rattle.model.specs.Skip.{neededSearch}
 use Rattle.laws_skip.specs.Skips.{Kept as Kept′, keep, maySkip}
@@ -17,11 +17,6 @@ use Rattle.dates.specs.Dates.{InRange}
 use Rattle.walk.specs.declared.Kept.{Kept}
 use Rattle.walk.specs.declared.Reached.{Reached}
 use Rattle.walk.specs.declared.Reached.the-variants as R
-
--- a length of time that is short of the range, its nanoseconds below a second
-pub record Short (x : Span) : Type 0 where
-  pub sec : x .sec < 1000000000000
-  pub ns : x .ns < 1000000000
 
 -- a window that begins in the range, at or before an instant of it
 pub record Stretch (a b : Instant) : Type 0 where
@@ -63,11 +58,3 @@ pub data Counts (w : Way) (s : model.Schedule) (t d : ℕ) : Reached → Type 0 
   found-at : {z : Span} {c : ℕ} → z .ns < 1000000000 → c ≡ neededSearch w s t d (size z) → Counts w s t d (R.At z c)
   no-work : Counts w s t d R.NoWork
   out-of-range : Counts w s t d R.OutOfRange
-
--- a window between two distances from t
-pub record Ahead (w : Way) (t : ℕ) (x y : Span) : Type 0 where
-  pub start : Short x
-  pub end : Short y
-  pub order : size x ≤ size y
-  pub near : size y ≤ reach w t
-  pub short : size y ≤ size x + week

@@ -4,6 +4,7 @@ ghost use mathlib.Core.Path.{_≡_};
 ghost use mathlib.Core.Bool.{_&&_};
 ghost use Prim.Native.Nat.{ℕ, _+_, _*_, _-_, _/_, _≤_, _<_, min};
 ghost use lib.Dec.{ltb, eqb};
+ghost use lib.ListN.{length};
 ghost use Rattle.instant.specs.Instant.{nanos};
 ghost use Rattle.model.specs.Instant.{second, week};
 ghost use Rattle.model.specs.Skip.{neededBetween};
@@ -11,15 +12,18 @@ ghost use Rattle.model.specs.Skip as model;
 ghost use Rattle.model.specs.Walk.{timeBetween, search, ahead};
 ghost use Rattle.model.specs.Walk as way;
 ghost use Rattle.laws_skip.specs.Skips as skips;
-ghost use Rattle.blocks.specs.Counted.{listOf, size, most};
+ghost use Rattle.blocks.specs.Counted.{size, most};
 ghost use Rattle.rules.specs.Rules.{scheduleIs, ScheduleFits};
 ghost use Rattle.dates.specs.Dates.{InRange};
-ghost use Rattle.spend.specs.Spending.{wayOf, apart, stepIs, Exact, Below};
-ghost use Rattle.walk.specs.Walks.{Ahead, Short, Stretch, keptIs, KeptExact, Reused, Skipped, reachedIs, Counts};
-use blocks::Blocks;
+ghost use Rattle.spend.specs.Spending.{wayOf, stepIs, Exact};
+ghost use Rattle.seek.specs.Steps.{takenIs, restOf, shifted, more};
+ghost use Rattle.week.specs.Room.{room};
+ghost use Rattle.windows.specs.Distances.{Short, Ahead};
+ghost use Rattle.walk.specs.Walks.{Stretch, keptIs, KeptExact, Reused, Skipped, reachedIs, Counts};
 use blocks::Span;
 use instant::Instant;
 use rules::Schedule;
+use seek::Taken;
 use spend::Step;
 
 // What is kept of a whole window with working time: that time, and the distance from where its work last ended to its end.
@@ -42,21 +46,6 @@ pub enum Reached {
 pub struct Summed {
     pub time: Span,
     pub windows: u64,
-}
-
-// The end of the window that begins at x: a week further, or `end` if that is nearer.
-fn week_on(x: Span, end: Span) -> Span
-    requires { ⌜ Short x × Short end ⌝ }
-    ensures { λ r. ⌜ (size r ≡ min (size x + week) (size end)) × Short r ⌝ }
-{
-    let on = Span {
-        sec: x.sec + 604800,
-        ns: x.ns,
-    };
-    if spend::less(on, end) {
-        return on;
-    }
-    end
 }
 
 // y is a week further than x.
@@ -83,7 +72,7 @@ fn window_end(lo: Instant, b: Instant) -> Instant
         sec: b.sec,
         ns: b.ns,
     };
-    let y = week_on(x, end);
+    let y = windows::week_on(x, end);
     Instant {
         sec: y.sec,
         ns: y.ns,
@@ -222,69 +211,6 @@ pub fn between_walk(book: &[u8], pack: &[u8], s: Schedule, a: Instant, b: Instan
 
 // ---- a search
 
-// The instant at the distance x from t.
-pub fn at(t: Instant, back: bool, x: Span) -> Instant
-    requires { ⌜ InRange t × Short x × (size x ≤ way.reach (wayOf back) (nanos t)) ⌝ }
-    ensures { λ r. ⌜ (nanos r ≡ way.at (wayOf back) (nanos t) (size x)) × InRange r ⌝ }
-{
-    let u = Span {
-        sec: t.sec,
-        ns: t.ns,
-    };
-    if back {
-        let r = spend::minus(u, x);
-        return Instant {
-            sec: r.sec,
-            ns: r.ns,
-        };
-    }
-    let r = blocks::added(u, x);
-    Instant {
-        sec: r.sec,
-        ns: r.ns,
-    }
-}
-
-// The distance of the range's end from t.
-fn reach(t: Instant, back: bool) -> Span
-    requires { ⌜ InRange t ⌝ }
-    ensures { λ r. ⌜ (size r ≡ way.reach (wayOf back) (nanos t)) × Short r ⌝ }
-{
-    let u = Span {
-        sec: t.sec,
-        ns: t.ns,
-    };
-    if back {
-        return spend::minus(
-            u,
-            Span {
-                sec: 12654496799,
-                ns: 0,
-            },
-        );
-    }
-    spend::minus(
-        Span {
-            sec: 643761727200,
-            ns: 999999999,
-        },
-        u,
-    )
-}
-
-// The blocks of the window between two distances from t.
-fn window(book: &[u8], pack: &[u8], s: Schedule, t: Instant, back: bool, x: Span, y: Span) -> Blocks
-    requires { ⌜ ScheduleFits (now book) (now pack) s × InRange t × Ahead (wayOf back) (nanos t) x y ⌝ }
-    ensures { λ r. ⌜ (apart (wayOf back) (nanos t) (listOf r) ≡ ahead (wayOf back) (scheduleIs (now (book .entry)) (now (pack .entry)) s) (nanos t) (size x) (size y)) × (r .len ≤ 672) × Below most (listOf r) ⌝ }
-{
-    let near = at(t, back, x);
-    let far = at(t, back, y);
-    if back {
-        return listed::window_blocks(book, pack, s, far, near);
-    }
-    listed::window_blocks(book, pack, s, near, far)
-}
-
 // How many windows of this time may be taken off what is left and leave some: none only if not even one. There may be more.
 fn fitting(time: Span, left: Span) -> u64
     requires { ⌜ (time .ns < 1000000000) × (size left < most) ⌝ }
@@ -328,7 +254,7 @@ fn skips(
     if m == 0 {
         return 0;
     }
-    let p = at(t, back, x);
+    let p = windows::at(t, back, x);
     least(least(n, m), calm::borders(book, pack, s, p, back))
 }
 
@@ -346,7 +272,105 @@ fn keep(x: Span, y: Span, left: Span, rest: Span, m: Span) -> Kept
     Kept { known, time, edge }
 }
 
-// What the window from x to y leaves, where `left` is to find and work last ended at `last`.
+// A length of time in nanoseconds.
+fn nanoseconds(x: Span) -> u64
+    requires { ⌜ size x < 18446744073709551616 ⌝ }
+    ensures { λ r. ⌜ r ≡ size x ⌝ }
+{
+    x.sec * 1000000000 + x.ns as u64
+}
+
+// What is looked for in a window: what is left to find, or a nanosecond more than a week if that is less. No window has so much.
+fn sought(left: Span) -> u64
+    requires { ⌜ left .ns < 1000000000 ⌝ }
+    ensures { λ r. ⌜ r ≡ min (size left) (week + 1) ⌝ }
+{
+    if 604800 < left.sec {
+        return 604800000000001;
+    }
+    least(nanoseconds(left), 604800000000001)
+}
+
+// What a window leaves, its distances from where work last ended, as distances from t. Of what is left to find, d was looked for.
+fn further(r: Taken, last: Span, left: Span, d: u64) -> Step
+    requires { ⌜ Short last × (size left < most) × (left .ns < 1000000000) × (d ≤ size left) × (restOf r ≤ d) ⌝ }
+    ensures { λ x. ⌜ (stepIs x ≡ shifted (size last) (more (size left - d) (takenIs r))) × Exact x ⌝ }
+{
+    match r {
+        Taken::Found(z) => Step::Found(blocks::added(last, spanned(z))),
+        Taken::Gap => Step::Gap,
+        Taken::Left(rest, m) => {
+            let time = spanned(d - rest);
+            Step::Left(spend::minus(left, time), blocks::added(last, spanned(m)))
+        }
+    }
+}
+
+// What the window from x to y leaves, where `left` is to find and work last ended at `last`, no more than the limit before x. Its blocks are found
+// in lent memory.
+fn look_into(
+    book: &[u8],
+    pack: &[u8],
+    s: Schedule,
+    t: Instant,
+    back: bool,
+    x: Span,
+    y: Span,
+    last: Span,
+    left: Span,
+    on: &mut [u64],
+    off: &mut [u64],
+    out: &mut [u64],
+) -> Step
+    requires { ⌜ ScheduleFits (now book) (now pack) s × InRange t × Ahead (wayOf back) (nanos t) x y × (last .ns < 1000000000) × (size left < most) × (left .ns < 1000000000) × (size last ≤ size x) × (size x ≤ size last + s .limit * second) × (room s ≤ length (now on)) × (room s ≤ length (now off)) × (room s ≤ length (now out)) ⌝ }
+    ensures { λ r. ⌜ (stepIs r ≡ way.spend (s .limit * second) (size y) (size last) (size left) (ahead (wayOf back) (scheduleIs (now (book .entry)) (now (pack .entry)) s) (nanos t) (size x) (size y))) × Exact r ⌝ }
+{
+    let g = nanoseconds(spend::minus(x, last));
+    let w = nanoseconds(spend::minus(y, x));
+    let d = sought(left);
+    let limit = s.limit * 1000000000;
+    let n = windows::window_into(book, pack, s, t, back, x, y, on, off, out);
+    if back {
+        return further(seek::spend_back(out, n, limit, g, w, d), last, left, d);
+    }
+    further(seek::spend_on(out, n, limit, g, w, d), last, left, d)
+}
+
+// The same, for a schedule of any size.
+fn large_look(
+    book: &[u8],
+    pack: &[u8],
+    s: Schedule,
+    t: Instant,
+    back: bool,
+    x: Span,
+    y: Span,
+    last: Span,
+    left: Span,
+) -> Step
+    requires { ⌜ ScheduleFits (now book) (now pack) s × InRange t × Ahead (wayOf back) (nanos t) x y × (last .ns < 1000000000) × (size left < most) × (left .ns < 1000000000) × (size last ≤ size x) × (size x ≤ size last + s .limit * second) ⌝ }
+    ensures { λ r. ⌜ (stepIs r ≡ way.spend (s .limit * second) (size y) (size last) (size left) (ahead (wayOf back) (scheduleIs (now (book .entry)) (now (pack .entry)) s) (nanos t) (size x) (size y))) × Exact r ⌝ }
+{
+    let mut on = [0u64; 1122];
+    let mut off = [0u64; 1122];
+    let mut out = [0u64; 1122];
+    look_into(
+        book,
+        pack,
+        s,
+        t,
+        back,
+        x,
+        y,
+        last,
+        left,
+        &mut on,
+        &mut off,
+        &mut out,
+    )
+}
+
+// The same. A schedule of up to four records needs less memory.
 fn look(
     book: &[u8],
     pack: &[u8],
@@ -358,15 +382,29 @@ fn look(
     last: Span,
     left: Span,
 ) -> Step
-    requires { ⌜ ScheduleFits (now book) (now pack) s × InRange t × Ahead (wayOf back) (nanos t) x y × (last .ns < 1000000000) × (size left < most) × (left .ns < 1000000000) ⌝ }
+    requires { ⌜ ScheduleFits (now book) (now pack) s × InRange t × Ahead (wayOf back) (nanos t) x y × (last .ns < 1000000000) × (size left < most) × (left .ns < 1000000000) × (size last ≤ size x) × (size x ≤ size last + s .limit * second) ⌝ }
     ensures { λ r. ⌜ (stepIs r ≡ way.spend (s .limit * second) (size y) (size last) (size left) (ahead (wayOf back) (scheduleIs (now (book .entry)) (now (pack .entry)) s) (nanos t) (size x) (size y))) × Exact r ⌝ }
 {
-    let w = window(book, pack, s, t, back, x, y);
-    let limit = Span {
-        sec: s.limit,
-        ns: 0,
-    };
-    spend::spend(w, back, t, limit, y, last, left)
+    if 4 < s.works + s.pauses + s.closings {
+        return large_look(book, pack, s, t, back, x, y, last, left);
+    }
+    let mut on = [0u64; 114];
+    let mut off = [0u64; 114];
+    let mut out = [0u64; 114];
+    look_into(
+        book,
+        pack,
+        s,
+        t,
+        back,
+        x,
+        y,
+        last,
+        left,
+        &mut on,
+        &mut off,
+        &mut out,
+    )
 }
 
 // The distance from t at which d of working time is spent, d not zero; `end` is the distance of the range's end.
@@ -395,7 +433,7 @@ fn seek(
     while spend::less(x, end) {
         let n = skips(book, pack, s, t, back, kept, left, x, end);
         if n == 0 {
-            let y = week_on(x, end);
+            let y = windows::week_on(x, end);
             let step = look(book, pack, s, t, back, x, y, last, left);
             resolved += 1;
             match step {
@@ -434,6 +472,6 @@ pub fn search_walk(
     if !spend::less(zero, d) {
         return Reached::At(zero, 0);
     }
-    let end = reach(t, back);
+    let end = windows::reach(t, back);
     seek(book, pack, s, t, back, end, d)
 }

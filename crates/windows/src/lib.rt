@@ -2,16 +2,21 @@
 // range's end.
 ghost use mathlib.Core.Path.{_≡_};
 ghost use Prim.Native.Nat.{ℕ, _+_, _*_, _-_, _≤_, _<_, min};
+ghost use lib.ListN.{length};
 ghost use Rattle.instant.specs.Instant.{nanos};
 ghost use Rattle.model.specs.Instant.{week};
 ghost use Rattle.model.specs.Walk.{ahead};
 ghost use Rattle.model.specs.Walk as way;
-ghost use Rattle.blocks.specs.Counted.{listOf, size, most};
+ghost use Rattle.laws_blocks.specs.Move.{moves};
+ghost use Rattle.laws_skip.specs.Edges.{Inside};
+ghost use Rattle.blocks.specs.Counted.{size};
 ghost use Rattle.rules.specs.Rules.{scheduleIs, ScheduleFits};
 ghost use Rattle.dates.specs.Dates.{InRange};
-ghost use Rattle.spend.specs.Spending.{wayOf, apart, Below};
-ghost use Rattle.windows.specs.Distances.{Short, Ahead};
-use blocks::Blocks;
+ghost use Rattle.spend.specs.Spending.{wayOf};
+ghost use Rattle.engine.specs.Windows.{Window};
+ghost use Rattle.pairs.specs.Pairs.{pairs};
+ghost use Rattle.week.specs.Room.{room};
+ghost use Rattle.windows.specs.Distances.{Short, Ahead, Placed, seen};
 use blocks::Span;
 use instant::Instant;
 use rules::Schedule;
@@ -31,10 +36,10 @@ pub fn week_on(x: Span, end: Span) -> Span
     end
 }
 
-// The instant at the distance x from t.
-pub fn at(t: Instant, back: bool, x: Span) -> Instant
-    requires { ⌜ InRange t × Short x × (size x ≤ way.reach (wayOf back) (nanos t)) ⌝ }
-    ensures { λ r. ⌜ (nanos r ≡ way.at (wayOf back) (nanos t) (size x)) × InRange r ⌝ }
+// The instant that is x away from t, be it in the range or not.
+pub fn away(t: Instant, back: bool, x: Span) -> Instant
+    requires { ⌜ InRange t × Short x ⌝ }
+    ensures { λ r. ⌜ (nanos r ≡ way.at (wayOf back) (nanos t) (size x)) × (r .sec < 2000000000000) × (r .ns < 1000000000) ⌝ }
 {
     let u = Span {
         sec: t.sec,
@@ -52,6 +57,14 @@ pub fn at(t: Instant, back: bool, x: Span) -> Instant
         sec: r.sec,
         ns: r.ns,
     }
+}
+
+// The instant at the distance x from t, in the range.
+pub fn at(t: Instant, back: bool, x: Span) -> Instant
+    requires { ⌜ InRange t × Short x × (size x ≤ way.reach (wayOf back) (nanos t)) ⌝ }
+    ensures { λ r. ⌜ (nanos r ≡ way.at (wayOf back) (nanos t) (size x)) × InRange r ⌝ }
+{
+    away(t, back, x)
 }
 
 // The distance of the range's end from t.
@@ -81,8 +94,28 @@ pub fn reach(t: Instant, back: bool) -> Span
     )
 }
 
-// The blocks of the window between two distances from t.
-pub fn window(
+// The instants between which a window lies.
+pub struct Ends {
+    pub lo: Instant,
+    pub hi: Instant,
+}
+
+// The instants between which the window between two distances from t lies.
+pub fn place(t: Instant, back: bool, x: Span, y: Span) -> Ends
+    requires { ⌜ InRange t × Ahead (wayOf back) (nanos t) x y ⌝ }
+    ensures { λ r. ⌜ Window 7 (r .lo) (r .hi) × Placed (wayOf back) (nanos t) (size x) (size y) (nanos (r .lo)) (nanos (r .hi)) ⌝ }
+{
+    let near = at(t, back, x);
+    let far = at(t, back, y);
+    if back {
+        return Ends { lo: far, hi: near };
+    }
+    Ends { lo: near, hi: far }
+}
+
+// The blocks of the window between two distances from t, as pairs of numbers in `out`: how many it has afterwards, as distances from the window's start.
+// `on` and `off` are lent for the work.
+pub fn window_into(
     book: &[u8],
     pack: &[u8],
     s: Schedule,
@@ -90,14 +123,17 @@ pub fn window(
     back: bool,
     x: Span,
     y: Span,
-) -> Blocks
-    requires { ⌜ ScheduleFits (now book) (now pack) s × InRange t × Ahead (wayOf back) (nanos t) x y ⌝ }
-    ensures { λ r. ⌜ (apart (wayOf back) (nanos t) (listOf r) ≡ ahead (wayOf back) (scheduleIs (now (book .entry)) (now (pack .entry)) s) (nanos t) (size x) (size y)) × (r .len ≤ 672) × Below most (listOf r) ⌝ }
+    on: &mut [u64],
+    off: &mut [u64],
+    out: &mut [u64],
+) -> usize
+    requires { ⌜ ScheduleFits (now book) (now pack) s × InRange t × Ahead (wayOf back) (nanos t) x y × (room s ≤ length (now on)) × (room s ≤ length (now off)) × (room s ≤ length (now out)) ⌝ }
+    ensures { λ r. ⌜ (moves (size x) (seen (wayOf back) (size y - size x) (pairs r (now (out .exit)))) ≡ ahead (wayOf back) (scheduleIs (now (book .entry)) (now (pack .entry)) s) (nanos t) (size x) (size y)) × Inside 0 (size y - size x) (pairs r (now (out .exit))) × (r ≤ 14 * (s .works + s .pauses + s .closings)) × (length (now (out .exit)) ≡ length (now (out .entry))) ⌝ }
 {
-    let near = at(t, back, x);
-    let far = at(t, back, y);
+    let nearer = at(t, back, x);
+    let further = at(t, back, y);
     if back {
-        return listed::window_blocks(book, pack, s, far, near);
+        return week::working_into(book, pack, s, further, nearer, on, off, out);
     }
-    listed::window_blocks(book, pack, s, near, far)
+    week::working_into(book, pack, s, nearer, further, on, off, out)
 }

@@ -1,22 +1,21 @@
 -- `seek::spend_back` meets its contract. Assumes nothing.
 use borrow.Author.Needs.{needs}
 use native.Mathlib.Omega.{arith}
-use Prim.Native.Nat.{suc, _+_, _*_, _-_, _≤_, _<_}
-use lib.ListN.{length, getD, length-set}
-use mathlib.Core.Path.{_≡_, refl, sym, _∙_, ap, ap₂}
-use Rattle.seek.proofs.Looks.{step-gap, step-found, step-on, step-last, step-left, on-starts, on-end, back-at, back-end}
+use Prim.Native.Nat.{_+_, _*_, _-_, _≤_, _<_}
+use mathlib.Core.Path.{_≡_, refl, sym, _∙_}
+use Rattle.model.specs.Walk.{spend, backward}
+use Rattle.laws_blocks.specs.Move.{moves}
 use Rattle.pairs.specs.Pairs.{part, pairs}
 use Rattle.pairs.proofs.Parts.{from-first}
-use Rattle.model.specs.Walk.{spend, backward}
-use lib.Dec.{ltb}
+use Rattle.seek.proofs.Looks.{step-gap, step-found, step-on, step-last, step-left, first-moved, none-moved, on-starts, on-end, on-upto, back-at, back-end}
 use Rattle.seek.proofs.spend_back.Statement.{statement}
 use Rattle.seek.proofs.spend_back.Tie as tie
 
 abbrev Inv-loop : tie.InvT-loop
-Inv-loop l n t limit y last d left₀ end₀ i₀ left end i = (i ≤ n) × (spend limit y end left (backward t (pairs i l)) ≡ spend limit y last d (backward t (pairs n l)))
+Inv-loop l n limit g w d left₀ end₀ i₀ left end i = (i ≤ n) × (spend limit (w + g) end left (moves g (backward w (pairs i l))) ≡ spend limit (w + g) 0 d (moves g (backward w (pairs n l))))
 
 abbrev μ-loop : tie.MeasureT-loop
-μ-loop l n t limit y last d left₀ end₀ i₀ left end i = i
+μ-loop l n limit g w d left₀ end₀ i₀ left end i = i
 
 loop-holds : tie.Need-loop-holds Inv-loop μ-loop
 loop-holds c = (omega arith, refl)
@@ -36,6 +35,9 @@ shared-slice-read-minus c = search needs
 minus-requires : tie.Need-minus-requires Inv-loop μ-loop
 minus-requires c κs = search needs
 
+add-from : tie.Need-add-from Inv-loop μ-loop
+add-from c = omega (arith, ((c .minus .ensures)), ((c .before .before .before .before .before .pre .1)))
+
 mul-minus-3 : tie.Need-mul-minus-3 Inv-loop μ-loop
 mul-minus-3 c = search needs
 
@@ -51,6 +53,9 @@ shared-slice-read-minus-2 c = search needs
 minus-requires-2 : tie.Need-minus-requires-2 Inv-loop μ-loop
 minus-requires-2 c κs = search needs
 
+add-to : tie.Need-add-to Inv-loop μ-loop
+add-to c = omega (arith, ((c .minus2 .ensures)), ((c .before .before .before .before .before .before .before .pre .1)))
+
 sub-i : tie.Need-sub-i Inv-loop μ-loop
 sub-i c = search needs
 
@@ -58,34 +63,37 @@ exceeds-requires : tie.Need-exceeds-requires Inv-loop μ-loop
 exceeds-requires c κs = search needs
 
 returns : tie.Need-returns Inv-loop μ-loop
-returns c = step-gap _ _ _ _ _ _ _ _ _ (back-at _ _ _ _ _ (c .before .before .before .before .before .before .loop-test .taken) (c .before .before .before .before .minus .ensures) (c .before .before .minus2 .ensures)) (c .before .before .before .before .before .before .before .loop .inv .1) (sym (c .before .exceeds .ensures) ∙ (c .if1 .taken))
+returns c = step-gap _ _ _ _ _ _ _ _ _ (first-moved ((c .before .before .before .before .before .before .before .before .before .args .g)) (back-at _ _ _ _ _ ((c .before .before .before .before .before .before .loop-test .taken)) ((c .before .before .before .before .minus .ensures)) ((c .before .before .minus2 .ensures)))) ((c .before .before .before .before .before .before .before .loop .inv .1)) (sym ((c .before .exceeds .ensures)) ∙ ((c .if1 .taken)))
 
 minus-requires-3 : tie.Need-minus-requires-3 Inv-loop μ-loop
 minus-requires-3 c κs = search needs
 
 add-t22 : tie.Need-add-t22 Inv-loop μ-loop
-add-t22 c = omega (arith, (c .before .minus3 .ensures), (c .if2 .taken), (c .before .before .before .before .before .before .minus .ensures), (c .before .before .before .before .minus2 .ensures))
+add-t22 c = omega (arith, ((c .before .minus3 .ensures)), ((c .if2 .taken)), ((c .before .before .before .before .before .before .minus .ensures)), ((c .before .before .before .before .minus2 .ensures)), ((c .before .before .before .before .before .before .before .before .before .before .before .pre .1)))
 
 returns-2 : tie.Need-returns-2 Inv-loop μ-loop
-returns-2 c = step-found _ _ _ _ _ _ _ _ _ (back-at _ _ _ _ _ (c .before .before .before .before .before .before .before .before .loop-test .taken) (c .before .before .before .before .before .before .minus .ensures) (c .before .before .before .before .minus2 .ensures)) (c .before .before .before .before .before .before .before .before .before .loop .inv .1) (sym (c .before .before .before .exceeds .ensures) ∙ (c .before .before .if1 .left)) _ (c .before .minus3 .ensures) (c .if2 .taken)
+returns-2 c = step-found _ _ _ _ _ _ _ _ _ (first-moved ((c .before .before .before .before .before .before .before .before .before .before .before .args .g)) (back-at _ _ _ _ _ ((c .before .before .before .before .before .before .before .before .loop-test .taken)) ((c .before .before .before .before .before .before .minus .ensures)) ((c .before .before .before .before .minus2 .ensures)))) ((c .before .before .before .before .before .before .before .before .before .loop .inv .1)) (sym ((c .before .before .before .exceeds .ensures)) ∙ ((c .before .before .if1 .left))) _ ((c .before .minus3 .ensures)) ((c .if2 .taken))
 
 sub-left : tie.Need-sub-left Inv-loop μ-loop
-sub-left c = omega (arith, (c .if2 .left))
+sub-left c = omega (arith, ((c .if2 .left)))
 
 loop-less : tie.Need-loop-less Inv-loop μ-loop
-loop-less c = omega (arith, (c .before .before .before .before .before .before .before .before .loop-test .taken))
+loop-less c = omega (arith, ((c .before .before .before .before .before .before .before .before .loop-test .taken)))
 
 loop-again : tie.Need-loop-again Inv-loop μ-loop
-loop-again c = (omega (arith, (c .before .before .before .before .before .before .before .before .before .loop .inv .0)), step-on _ _ _ _ _ _ _ _ _ (back-at _ _ _ _ _ (c .before .before .before .before .before .before .before .before .loop-test .taken) (c .before .before .before .before .before .before .minus .ensures) (c .before .before .before .before .minus2 .ensures)) (c .before .before .before .before .before .before .before .before .before .loop .inv .1) (sym (c .before .before .before .exceeds .ensures) ∙ (c .before .before .if1 .left)) _ (c .before .minus3 .ensures) (c .if2 .left))
+loop-again c = (omega (arith, ((c .before .before .before .before .before .before .before .before .before .loop .inv .0))), step-on _ _ _ _ _ _ _ _ _ (first-moved ((c .before .before .before .before .before .before .before .before .before .before .before .args .g)) (back-at _ _ _ _ _ ((c .before .before .before .before .before .before .before .before .loop-test .taken)) ((c .before .before .before .before .before .before .minus .ensures)) ((c .before .before .before .before .minus2 .ensures)))) ((c .before .before .before .before .before .before .before .before .before .loop .inv .1)) (sym ((c .before .before .before .exceeds .ensures)) ∙ ((c .before .before .if1 .left))) _ ((c .before .minus3 .ensures)) ((c .if2 .left)))
+
+add-exceeds : tie.Need-add-exceeds Inv-loop μ-loop
+add-exceeds c = omega (arith, ((c .before .before .before .pre .1)))
 
 exceeds-requires-2 : tie.Need-exceeds-requires-2 Inv-loop μ-loop
 exceeds-requires-2 c κs = search needs
 
 returns-3 : tie.Need-returns-3 Inv-loop μ-loop
-returns-3 c = step-last _ _ _ _ _ _ (back-end _ _ _ (c .before .before .loop-test .left)) (c .before .before .before .loop .inv .1) (sym (c .before .exceeds2 .ensures) ∙ (c .if3 .taken))
+returns-3 c = step-last _ _ _ _ _ _ (none-moved ((c .before .before .before .before .before .args .g)) (back-end _ _ _ ((c .before .before .loop-test .left)))) ((c .before .before .before .loop .inv .1)) (sym ((c .before .exceeds2 .ensures)) ∙ ((c .if3 .taken)))
 
 returns-4 : tie.Need-returns-4 Inv-loop μ-loop
-returns-4 c = step-left _ _ _ _ _ _ (back-end _ _ _ (c .before .before .loop-test .left)) (c .before .before .before .loop .inv .1) (sym (c .before .exceeds2 .ensures) ∙ (c .if3 .left))
+returns-4 c = step-left _ _ _ _ _ _ (none-moved ((c .before .before .before .before .before .args .g)) (back-end _ _ _ ((c .before .before .loop-test .left)))) ((c .before .before .before .loop .inv .1)) (sym ((c .before .exceeds2 .ensures)) ∙ ((c .if3 .left)))
 
 pub spend-back-spec : {M : Type 1} → statement M
 spend-back-spec =
@@ -99,11 +107,13 @@ spend-back-spec =
     mul-minus-2
     shared-slice-read-minus
     minus-requires
+    add-from
     mul-minus-3
     sub-minus-2
     mul-minus-4
     shared-slice-read-minus-2
     minus-requires-2
+    add-to
     sub-i
     exceeds-requires
     returns
@@ -113,6 +123,7 @@ spend-back-spec =
     sub-left
     loop-less
     loop-again
+    add-exceeds
     exceeds-requires-2
     returns-3
     returns-4)

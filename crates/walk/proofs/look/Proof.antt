@@ -1,17 +1,46 @@
--- `walk::look` meets its contract: its window's blocks, and the search through them. Assumes nothing.
-use Rattle.walk.proofs.Steps.{looked}
+-- `walk::look` meets its contract: by `look_into`. Assumes nothing.
+use native.Mathlib.Omega.{arith}
 use borrow.Author.Needs.{needs}
 use Rattle.walk.proofs.look.Statement.{statement}
 use Rattle.walk.proofs.look.Tie as tie
 
-window-requires : tie.Need-window-requires
-window-requires c κs = search needs
+add-if1 : tie.Need-add-if1
+add-if1 c = search needs
 
-spend-requires : tie.Need-spend-requires
-spend-requires c κs = search needs
+add-if1-2 : tie.Need-add-if1-2
+add-if1-2 c = search needs
+
+large-look-requires : tie.Need-large-look-requires
+large-look-requires c κs = (((c .before .before .before .before .before .pre .0)), ((c .before .before .before .before .before .pre .1)), ((c .before .before .before .before .before .pre .2)), ((c .before .before .before .before .before .pre .3)), ((c .before .before .before .before .before .pre .4)), ((c .before .before .before .before .before .pre .5)), ((c .before .before .before .before .before .pre .6)), ((c .before .before .before .before .before .pre .7)))
 
 returns : tie.Need-returns
-returns c = (looked _ _ _ _ ((c .spend .ensures .0)) ((c .before .window .ensures .0)), (c .spend .ensures .1))
+returns c = ((c .large-look .ensures))
+
+slice-aggregate-look-into : tie.Need-slice-aggregate-look-into
+slice-aggregate-look-into c = search needs
+
+slice-aggregate-look-into-2 : tie.Need-slice-aggregate-look-into-2
+slice-aggregate-look-into-2 c = search needs
+
+slice-aggregate-look-into-3 : tie.Need-slice-aggregate-look-into-3
+slice-aggregate-look-into-3 c = search needs
+
+look-into-requires : tie.Need-look-into-requires
+look-into-requires c κs = (((c .before .before .before .before .before .before .before .before .pre .0)), ((c .before .before .before .before .before .before .before .before .pre .1)), ((c .before .before .before .before .before .before .before .before .pre .2)), ((c .before .before .before .before .before .before .before .before .pre .3)), ((c .before .before .before .before .before .before .before .before .pre .4)), ((c .before .before .before .before .before .before .before .before .pre .5)), ((c .before .before .before .before .before .before .before .before .pre .6)), ((c .before .before .before .before .before .before .before .before .pre .7)), search needs, search needs, search needs)
+
+returns-2 : tie.Need-returns-2
+returns-2 c = ((c .before .before .before .look-into .ensures))
 
 pub look-spec : {M : Type 1} → statement M
-look-spec = tie.close (tie.spec window-requires spend-requires returns)
+look-spec =
+    tie.close
+    (tie.spec
+    add-if1
+    add-if1-2
+    large-look-requires
+    returns
+    slice-aggregate-look-into
+    slice-aggregate-look-into-2
+    slice-aggregate-look-into-3
+    look-into-requires
+    returns-2)

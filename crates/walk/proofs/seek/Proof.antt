@@ -6,9 +6,11 @@ use Rattle.model.specs.Walk as way
 use Rattle.laws_skip.specs.Schedules.{ahead-inside}
 use Rattle.rules.specs.Rules.{scheduleIs}
 use Rattle.spend.specs.Spending.{wayOf, found-exact, left-exact}
-use Rattle.walk.specs.Walks.{Short, KeptExact, keptIs, found-at, no-work, out-of-range}
+use Rattle.windows.specs.Distances.{Short}
+use Rattle.windows.proofs.Borders.{ahead-of}
+use Rattle.walk.specs.Walks.{KeptExact, keptIs, found-at, no-work, out-of-range}
 use Rattle.walk.proofs.Seeks.{Seeking, seeking-starts, seeking-runs, seeking-finds, seeking-gap, seeking-left, seeking-ends, sought, sought-count}
-use Rattle.walk.proofs.Steps.{ahead-of, took, some-of}
+use Rattle.walk.proofs.Steps.{took, some-of}
 use Rattle.instant.specs.Instant.{nanos}
 use Rattle.blocks.specs.Counted.{size}
 use Prim.Native.Nat.{_*_, _-_, _<_}
@@ -38,7 +40,7 @@ week-on-requires : tie.Need-week-on-requires Inv-loop μ-loop
 week-on-requires c κs = ((c .before .before .before .before .loop .inv .1), (c .before .before .before .before .before .before .before .pre .3))
 
 look-requires : tie.Need-look-requires Inv-loop μ-loop
-look-requires c κs = ((c .before .before .before .before .before .before .before .before .pre .0), (c .before .before .before .before .before .before .before .before .pre .1), (ahead-of (wayOf ((c .before .before .before .before .before .before .before .before .args .back))) (nanos ((c .before .before .before .before .before .before .before .before .args .t))) _ _ ((c .before .before .before .before .before .before .before .before .args .end)) ((c .before .before .before .before .before .loop .inv .1)) ((c .week-on .ensures .1)) ((c .before .before .before .before .before .before .before .before .pre .2)) ((c .before .before .before .before .before .loop .inv .0 .upto)) ((c .week-on .ensures .0))), (c .before .before .before .before .before .loop .inv .2), (let h = (c .before .before .before .before .before .loop .inv .0 .less) in let k = (c .before .before .before .before .before .before .before .before .pre .5) in omega arith), (c .before .before .before .before .before .loop .inv .3))
+look-requires c κs = ((c .before .before .before .before .before .before .before .before .pre .0), (c .before .before .before .before .before .before .before .before .pre .1), (ahead-of (wayOf ((c .before .before .before .before .before .before .before .before .args .back))) (nanos ((c .before .before .before .before .before .before .before .before .args .t))) _ _ ((c .before .before .before .before .before .before .before .before .args .end)) ((c .before .before .before .before .before .loop .inv .1)) ((c .week-on .ensures .1)) ((c .before .before .before .before .before .before .before .before .pre .2)) ((c .before .before .before .before .before .loop .inv .0 .upto)) ((c .week-on .ensures .0))), (c .before .before .before .before .before .loop .inv .2), (let h = (c .before .before .before .before .before .loop .inv .0 .less) in let k = (c .before .before .before .before .before .before .before .before .pre .5) in omega arith), (c .before .before .before .before .before .loop .inv .3), (let e = (c .before .before .before .before .before .loop .inv .0 .since) in omega arith), (let e = (c .before .before .before .before .before .loop .inv .0 .since) in let n = (c .before .before .before .before .before .loop .inv .0 .near) in omega arith))
 
 add-resolved : tie.Need-add-resolved Inv-loop μ-loop
 add-resolved c = let h = (c .before .before .before .before .before .before .loop .inv .0 .few) (ltb-true (size ((c .before .before .before .before .before .before .loop .x))) (size ((c .before .before .before .before .before .before .before .before .before .args .end))) (sym ((c .before .before .before .before .before .less .ensures)) ∙ (c .before .before .before .before .if1 .taken))) in let r = (c .before .before .before .before .before .before .loop .inv .1 .sec) in let q = (c .before .before .before .before .before .before .loop .inv .1 .ns) in omega arith
