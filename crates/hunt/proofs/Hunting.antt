@@ -1,89 +1,139 @@
--- The loop of `hunt`: its invariant, and that a turn keeps it. Assumes nothing.
-use mathlib.Core.Path.{_≡_, refl, sym, _∙_}
+-- The search through the blocks of a window: the nearest block, those behind it, and the same from the search's instant. Assumes nothing.
+use mathlib.Core.Path.{_≡_, refl, sym, _∙_, ap}
 use mathlib.Core.Bool.{Bool, true, false, not}
 use mathlib.Core.List.{List, [], _∷_}
 use Prim.Native.Nat.{ℕ, _+_, _*_, _-_, _≤_, _<_}
 use native.Mathlib.Omega.{arith}
 use lib.Dec.{ltb, eqb}
-use lib.ListN.{length, take, drop, getD, length-map, drop-of-length-le}
-use lib.Seq.{length-take-le}
+use lib.ListN.{getD}
 use borrow.Author.Tests.{not-true, not-false, eq-eqb, ne-eqb, eqb-true, eqb-false}
 use Rattle.laws_base.specs.Test.{by-test}
-use Rattle.model.specs.Blocks as model
+use Rattle.laws_blocks.specs.Move.{moves}
 use Rattle.model.specs.Basic.{if_then_else_}
-use Rattle.model.specs.Walk.{Way, nothing, growing, ended, tooFar, hunt}
-use Rattle.blocks.specs.Counted.{blockOf, front, nil}
-use Rattle.blocks.specs.declared.Block.{Block}
-use Rattle.spend.specs.Spending.{apart, near, far, placeOf}
-use Rattle.spend.proofs.Spends.{apart-front, apart-length}
-use Rattle.hunt.specs.Hunts.{soFar}
+use Rattle.model.specs.Blocks.{Block, block}
+use Rattle.model.specs.Walk.{Way, on, back, backward, Hunt, nothing, growing, ended, tooFar, hunt}
+use Rattle.pairs.specs.Pairs.{part, pairs}
+use Rattle.pairs.proofs.Parts.{from-first}
+use Rattle.seek.proofs.Looks.{back-at, back-end}
+use Rattle.windows.specs.Distances.{seen}
+use Rattle.hunt.specs.Hunts.{soFar, rest, tailIs}
+use Rattle.hunt.specs.declared.Tail.{Tail}
+use Rattle.hunt.specs.declared.Tail.the-variants as T
 
--- i blocks are passed, with the period from `start` to `end` if there is one: what is left of the window gives what the whole gives
-pub record Hunting (w : Way) (t : ℕ) (b : List Block) (n limit : ℕ) (some : Bool) (f e : ℕ) (found : Bool) (start end i : ℕ) : Type 0 where
-  pub long : length b ≡ 672
-  pub within : i ≤ n
-  pub fits : n ≤ 672
-  pub same : hunt limit (soFar found start end) (drop i (apart w t (front n b))) ≡ hunt limit (soFar some f e) (apart w t (front n b))
+-- ---- the blocks, nearest first
 
-pub hunting-starts : (w : Way) (t : ℕ) (b : List Block) (n limit : ℕ) (some : Bool) (f e : ℕ) → length b ≡ 672 → n ≤ 672 → Hunting w t b n limit some f e some f e 0
-hunting-starts w t b n limit some f e l h = record { long = l; within = omega arith; fits = h; same = refl }
+-- one block less is left behind it
+pub rest-back : (w n i : ℕ) (l : List ℕ) (k from to : ℕ) → i < n → k ≡ n - i → from ≡ w - getD l (2 * k - 1) 0 → to ≡ w - getD l (2 * k - 2) 0
+    → rest back w n i l ≡ block from to ∷ rest back w n (i + 1) l
+unfolding rest
+rest-back w n i l k from to h e p q =
+    let f : k - 1 ≡ n - (i + 1) = omega arith in
+    ap (λ (j : ℕ). backward w (pairs j l)) (sym e) ∙ back-at w k l from to (omega arith) p q ∙ ap (λ (j : ℕ). block from to ∷ backward w (pairs j l)) f
 
-module _ (w : Way) (t : ℕ) (b : List Block) (n limit : ℕ) (some : Bool) (f e : ℕ) (found : Bool) (start end i : ℕ) (m : Hunting w t b n limit some f e found start end i) where
-  module _ (h : i < n) (j : ℕ) (p : j ≡ placeOf w n i) (q : j < n) where
-    here : drop i (apart w t (front n b)) ≡ model.block (near w t (blockOf (getD b j nil))) (far w t (blockOf (getD b j nil))) ∷ drop (i + 1) (apart w t (front n b))
-    here =
-        let l = m .long in let k = m .fits in
-        rw p (apart-front w t n b i h (omega arith) (rw p at q))
+pub rest-on : (w n i : ℕ) (l : List ℕ) → i < n → rest on w n i l ≡ block (getD l (2 * i) 0) (getD l (2 * i + 1) 0) ∷ rest on w n (i + 1) l
+unfolding rest
+rest-on w n i l h = from-first i n l h
 
-    module _ (from to : ℕ) (u : from ≡ near w t (blockOf (getD b j nil))) (v : to ≡ far w t (blockOf (getD b j nil))) where
-      turn : hunt limit (soFar found start end) (model.block from to ∷ drop (i + 1) (apart w t (front n b))) ≡ hunt limit (soFar some f e) (apart w t (front n b))
-      turn = rw (u, v, ← here) (m .same)
+-- none is left
+pub rest-none : (v : Way) (w n i : ℕ) (l : List ℕ) → n ≤ i → rest v w n i l ≡ []
+unfolding part rest
+rest-none on w n i l h = let e : n - i ≡ 0 = omega arith in rw e
+rest-none back w n i l h = back-end w (n - i) l (omega arith)
 
-      module _ {test : Bool} (k : test ≡ (if found then not (eqb from end) else ltb limit from)) where
-        -- a block that does not touch the period
-        pub hunting-ended : test ≡ true → found ≡ true → ended start end ≡ hunt limit (soFar some f e) (apart w t (front n b))
-        unfolding hunt
-        hunting-ended x y = let z : not (eqb from end) ≡ true = rw y at (sym k ∙ x) in rw (not-true (eqb from end) z) at (rw y at turn)
+-- all of them
+pub rest-all : (v : Way) (w n : ℕ) (l : List ℕ) → seen v w (pairs n l) ≡ rest v w n 0 l
+unfolding rest
+rest-all on w n l = let e : n - 0 ≡ n = omega arith in rw e
+rest-all back w n l = let e : n - 0 ≡ n = omega arith in rw e
 
-        -- a first block beyond the limit
-        pub hunting-far : test ≡ true → found ≡ false → tooFar ≡ hunt limit (soFar some f e) (apart w t (front n b))
-        unfolding hunt
-        hunting-far x y = let z : ltb limit from ≡ true = rw y at (sym k ∙ x) in rw z at (rw y at turn)
+-- ---- those behind the nearest
 
-        -- a block that is the first, or touches the period
-        pub hunting-on : test ≡ false → (start′ : ℕ) → start′ ≡ (if found then start else from) → Hunting w t b n limit some f e true start′ to (i + 1)
-        unfolding hunt
-        hunting-on x start′ y = record {
-          long = m .long;
-          within = omega arith;
-          fits = m .fits;
-          same = go found refl;
-        }
-          where
-            go : (a : Bool) → found ≡ a → hunt limit (growing start′ to) (drop (i + 1) (apart w t (front n b))) ≡ hunt limit (soFar some f e) (apart w t (front n b))
-            go true z = let o : not (eqb from end) ≡ false = rw z at (sym k ∙ x) in let g : start′ ≡ start = rw z at y in rw g (rw (not-false (eqb from end) o) at (rw z at turn))
-            go false z = let o : ltb limit from ≡ false = rw z at (sym k ∙ x) in let g : start′ ≡ from = rw z at y in rw g (rw o at (rw z at turn))
-
-  module _ (h : n ≤ i) where
-    at-end : soFar found start end ≡ hunt limit (soFar some f e) (apart w t (front n b))
+module _ (e : ℕ) (k : List Block) (whole : Hunt) (m : hunt 0 (growing 0 e) k ≡ whole) where
+  module _ (from to : ℕ) (tail : List Block) (q : k ≡ block from to ∷ tail) where
+    pub tail-closed : (from ≡ e → ⊥) → ended 0 e ≡ whole
     unfolding hunt
-    at-end =
-        let l = m .long in let k = m .fits in
-        let o : length (front n b) ≡ n = length-map (take n b) blockOf ∙ length-take-le n b (omega arith) in
-        let p = apart-length w t (front n b) in
-        let q : length (apart w t (front n b)) ≤ i = omega arith in
-        let z : drop i (apart w t (front n b)) ≡ [] = drop-of-length-le (apart w t (front n b)) q in
-        go found (rw z at (m .same))
-      where
-        go : (a : Bool) → hunt limit (soFar a start end) [] ≡ hunt limit (soFar some f e) (apart w t (front n b)) → soFar a start end ≡ hunt limit (soFar some f e) (apart w t (front n b))
-        go true x = x
-        go false x = x
+    tail-closed h = rw (q, ne-eqb from e h) at m
 
-    pub hunting-grows : found ≡ true → growing start end ≡ hunt limit (soFar some f e) (apart w t (front n b))
-    hunting-grows x = rw x at at-end
+    pub tail-on : from ≡ e → hunt 0 (growing 0 to) tail ≡ whole
+    unfolding hunt
+    tail-on h = rw (q, eq-eqb from e h) at m
 
-    pub hunting-nothing : found ≡ false → nothing ≡ hunt limit (soFar some f e) (apart w t (front n b))
-    hunting-nothing x = rw x at at-end
+  pub tail-open : k ≡ [] → growing 0 e ≡ whole
+  unfolding hunt
+  tail-open q = rw q at m
+
+-- ---- from the search's instant
+
+eqb-moved : (c a b : ℕ) → eqb (a + c) (b + c) ≡ eqb a b
+eqb-moved c a b =
+    by-test (eqb a b)
+    (λ p. let h = eqb-true a b p in eq-eqb (a + c) (b + c) (omega arith) ∙ sym p)
+    (λ p. let h = eqb-false a b p in ne-eqb (a + c) (b + c) (λ f. h (omega arith)) ∙ sym p)
+
+-- what is known by distances from the window's border, by those from the instant, and with the period's start
+abbrev pub carried : ℕ → ℕ → Hunt → Hunt
+carried c f nothing = nothing
+carried c f (growing g e) = growing f (e + c)
+carried c f (ended g e) = ended f (e + c)
+carried c f tooFar = tooFar
+
+hunt-moved : (c limit f e : ℕ) (l : List Block) → hunt limit (growing f (e + c)) (moves c l) ≡ carried c f (hunt 0 (growing 0 e) l)
+unfolding hunt moves
+hunt-moved c limit f e [] = refl
+hunt-moved c limit f e (b ∷ l) =
+    by-test (eqb (b .start) e)
+    (λ p. rw (p, eqb-moved c (b .start) e ∙ p) (hunt-moved c limit f (b .end) l))
+    (λ p. rw (p, eqb-moved c (b .start) e ∙ p))
+
+module _ (v : Way) (w n : ℕ) (l : List ℕ) (limit c : ℕ) (some : Bool) (f e : ℕ) where
+  -- a window without a block
+  window-none : n ≡ 0 → soFar some f e ≡ hunt limit (soFar some f e) (moves c (seen v w (pairs n l)))
+  unfolding hunt moves
+  window-none h = let q : seen v w (pairs n l) ≡ [] = rest-all v w n l ∙ rest-none v w n 0 l (omega arith) in rw q (go some)
+    where
+      go : (a : Bool) → soFar a f e ≡ hunt limit (soFar a f e) []
+      go true = refl
+      go false = refl
+
+  pub window-grows : n ≡ 0 → some ≡ true → growing f e ≡ hunt limit (soFar some f e) (moves c (seen v w (pairs n l)))
+  window-grows h x = rw x (rw x at (window-none h))
+
+  pub window-nothing : n ≡ 0 → some ≡ false → nothing ≡ hunt limit (soFar some f e) (moves c (seen v w (pairs n l)))
+  window-nothing h x = rw x (rw x at (window-none h))
+
+  module _ (from to : ℕ) (q : rest v w n 0 l ≡ block from to ∷ rest v w n 1 l) (a : ℕ) (u : a ≡ from + c) {test : Bool} (t : test ≡ (if some then not (eqb a e) else ltb limit a)) where
+    whole : hunt limit (soFar some f e) (block a (to + c) ∷ moves c (rest v w n 1 l)) ≡ hunt limit (soFar some f e) (moves c (seen v w (pairs n l)))
+    unfolding moves
+    whole = rw (rest-all v w n l, q, u)
+
+    -- a nearest block that does not touch the period
+    pub window-ended : test ≡ true → some ≡ true → ended f e ≡ hunt limit (soFar some f e) (moves c (seen v w (pairs n l)))
+    unfolding hunt
+    window-ended x y = let z : not (eqb a e) ≡ true = rw y at (sym t ∙ x) in rw y (rw (not-true (eqb a e) z) at (rw y at whole))
+
+    -- one beyond the limit
+    pub window-far : test ≡ true → some ≡ false → tooFar ≡ hunt limit (soFar some f e) (moves c (seen v w (pairs n l)))
+    unfolding hunt
+    window-far x y = let z : ltb limit a ≡ true = rw y at (sym t ∙ x) in rw y (rw z at (rw y at whole))
+
+    module _ (x : test ≡ false) (start : ℕ) (y : start ≡ (if some then f else a)) where
+      -- one that is the first, or touches the period
+      window-on : carried c start (hunt 0 (growing 0 to) (rest v w n 1 l)) ≡ hunt limit (soFar some f e) (moves c (seen v w (pairs n l)))
+      unfolding hunt
+      window-on = sym (hunt-moved c limit start to (rest v w n 1 l)) ∙ go some refl
+        where
+          go : (b : Bool) → some ≡ b → hunt limit (growing start (to + c)) (moves c (rest v w n 1 l)) ≡ hunt limit (soFar some f e) (moves c (seen v w (pairs n l)))
+          go true z = let o : not (eqb a e) ≡ false = rw z at (sym t ∙ x) in let g : start ≡ f = rw z at y in rw (z, g) (rw (not-false (eqb a e) o) at (rw z at whole))
+          go false z = let o : ltb limit a ≡ false = rw z at (sym t ∙ x) in let g : start ≡ a = rw z at y in rw (z, g) (rw o at (rw z at whole))
+
+      module _ {r : Tail} (p : tailIs r ≡ hunt 0 (growing 0 to) (rest v w n 1 l)) (d b : ℕ) (g : b ≡ d + c) where
+        -- the period may go on in the next window
+        pub window-open : r ≡ T.Open d → growing start b ≡ hunt limit (soFar some f e) (moves c (seen v w (pairs n l)))
+        window-open k = let z : growing 0 d ≡ hunt 0 (growing 0 to) (rest v w n 1 l) = rw k at p in rw g (ap (carried c start) z ∙ window-on)
+
+        -- it has ended
+        pub window-closed : r ≡ T.Closed d → ended start b ≡ hunt limit (soFar some f e) (moves c (seen v w (pairs n l)))
+        window-closed k = let z : ended 0 d ≡ hunt 0 (growing 0 to) (rest v w n 1 l) = rw k at p in rw g (ap (carried c start) z ∙ window-on)
 
 -- ---- equal lengths
 

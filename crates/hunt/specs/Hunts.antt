@@ -1,17 +1,18 @@
 -- What the code's values mean to the definitions' search for a period.
 use mathlib.Core.Path.{_≡_}
 use mathlib.Core.Bool.{Bool, true, false}
-use Prim.Native.Nat.{ℕ, _≤_, _<_}
-use Rattle.instant.specs.Instant.{nanos}
-use Rattle.instant.specs.declared.Instant.{Instant}
-use Rattle.model.specs.Walk.{nothing, growing, ended, tooFar}
+use mathlib.Core.List.{List}
+use Prim.Native.Nat.{ℕ, _-_, _<_}
+use Rattle.model.specs.Blocks as model
+use Rattle.model.specs.Walk.{Way, on, back, backward, nothing, growing, ended, tooFar}
 use Rattle.model.specs.Walk as walk
-use Rattle.blocks.specs.Counted.{listOf, size, most}
-use Rattle.blocks.specs.declared.Blocks.{Blocks}
+use Rattle.blocks.specs.Counted.{size}
 use Rattle.blocks.specs.declared.Span.{Span}
-use Rattle.spend.specs.Spending.{Below}
+use Rattle.pairs.specs.Pairs.{part, pairs}
 use Rattle.hunt.specs.declared.Known.{Known}
 use Rattle.hunt.specs.declared.Known.the-variants as K
+use Rattle.hunt.specs.declared.Tail.{Tail}
+use Rattle.hunt.specs.declared.Tail.the-variants as T
 
 -- a period that may go on, if there is one
 abbrev pub soFar : Bool → ℕ → ℕ → walk.Hunt
@@ -44,10 +45,12 @@ ended-exact {r} {f} {e} x p = go (rw p at x)
     go : Exact (K.Ended f e) → (f .ns < 1000000000) × (e .ns < 1000000000)
     go (exact-ended h k) = (h, k)
 
--- what the search asks of its numbers
-pub record Ready (b : Blocks) (t : Instant) (f e : Span) : Type 0 where
-  pub few : b .len ≤ 672
-  pub below : Below most (listOf b)
-  pub here : nanos t < most
-  pub start-ns : f .ns < 1000000000
-  pub end-ns : e .ns < 1000000000
+-- those of the first n blocks that are left behind the i nearest
+unfoldable pub rest : Way → ℕ → ℕ → ℕ → List ℕ → List model.Block
+rest on w n i l = part i (n - i) l
+rest back w n i l = backward w (pairs (n - i) l)
+
+-- how far a period goes on, its start left out
+abbrev pub tailIs : Tail → walk.Hunt
+tailIs (T.Open e) = growing 0 e
+tailIs (T.Closed e) = ended 0 e

@@ -131,9 +131,6 @@ reach-short on t h = omega arith
 reach-short back t h = let x = h .high in let y = h .ns in omega arith
 
 module _ {w : Way} {f e : Span} where
-  pub near-fits : {t : ℕ} → PeriodFits w t f e → size f ≤ reach w t
-  near-fits p = let x = p .order in let y = p .near in omega arith
-
   pub near-short : (t : Instant) → InRange t → PeriodFits w (nanos t) f e → Short f
   near-short t h p = let r = reach-short w t h in let x = p .order in let y = p .near in record { sec = omega arith; ns = p .start-ns }
 

@@ -35,8 +35,8 @@ pub fn next_in(book: &[u8], pack: &[u8], s: Schedule, sec: i64, ns: i64) -> Next
         Found::NoWork => NextPeriod::Refused(6, 0),
         Found::OutOfRange => NextPeriod::Refused(7, 0),
         Found::Period(f, e) => {
-            let a = windows::at(t, false, f);
-            let b = windows::at(t, false, e);
+            let a = windows::away(t, false, f);
+            let b = windows::away(t, false, e);
             let start = edge::seconds_of(a.sec);
             let end = edge::seconds_of(b.sec);
             NextPeriod::Is(start, a.ns as i64, end, b.ns as i64)
@@ -56,8 +56,8 @@ pub fn previous_in(book: &[u8], pack: &[u8], s: Schedule, sec: i64, ns: i64) -> 
         Found::NoWork => PreviousPeriod::Refused(6, 0),
         Found::OutOfRange => PreviousPeriod::Refused(7, 0),
         Found::Period(f, e) => {
-            let a = windows::at(t, true, e);
-            let b = windows::at(t, true, f);
+            let a = windows::away(t, true, e);
+            let b = windows::away(t, true, f);
             let start = edge::seconds_of(a.sec);
             let end = edge::seconds_of(b.sec);
             PreviousPeriod::Is(start, a.ns as i64, end, b.ns as i64)

@@ -10,15 +10,17 @@ use borrow.Author.Tests.{eqb-true, ltb-true, ltb-false, le-leb, lt-leb}
 use Rattle.model.specs.Instant.{second, week}
 use Rattle.model.specs.Answer.{Answer, gives, refuses}
 use Rattle.model.specs.Blocks.{Block, block}
-use Rattle.model.specs.Working.{Schedule}
-use Rattle.model.specs.Walk.{Way, Hunt, nothing, growing, ended, tooFar, hunt, huntFrom, capped, atRangeEnd, begun, reach, ahead, period}
+use Rattle.model.specs.Working.{Schedule, working}
+use Rattle.model.specs.Walk.{Way, Hunt, nothing, growing, ended, tooFar, hunt, huntFrom, capped, atRangeEnd, begun, reach, onward, ahead, period}
 use Rattle.laws_base.specs.Test.{by-test}
+use Rattle.laws_blocks.specs.Move.{moves}
 use Rattle.laws_skip.specs.Edges.{Inside}
 use Rattle.blocks.specs.Counted.{size, most}
 use Rattle.blocks.specs.declared.Span.{Span}
 use Rattle.hunt.specs.Hunts.{soFar, huntIs}
 use Rattle.hunt.specs.declared.Known.{Known}
-use Rattle.windows.specs.Distances.{Short}
+use Rattle.windows.proofs.Near.{into-placed}
+use Rattle.windows.specs.Distances.{Short, Placed, seen}
 use Rattle.periods.specs.Found.{PeriodFits}
 
 -- ---- the definition turn by turn
@@ -219,8 +221,11 @@ reaches limit len n q =
 
 -- ---- what a window's blocks make known
 
-pub knows : (limit : ℕ) (h : Hunt) {l l′ : List Block} {r r′ : Known} → r ≡ r′ → huntIs r ≡ hunt limit h l → l ≡ l′ → huntIs r′ ≡ hunt limit h l′
-knows limit h p q e = rw (← p, ← e) q
+-- the blocks that were found in the window are those ahead
+module _ (limit : ℕ) (h : Hunt) (v : Way) (s : Schedule) (t x y lo hi w : ℕ) (p : List Block) where
+  pub looked : {r r′ : Known} → r ≡ r′ → huntIs r ≡ hunt limit h (moves x (seen v w p)) → w ≡ y - x → (end : ℕ) → x ≤ end → y ≡ min (x + week) end → Placed v t x y lo hi → p ≡ onward lo (working s lo hi)
+      → huntIs r′ ≡ hunt limit h (ahead v s t x y)
+  looked e q f end k m g o = let z : moves x (seen v (y - x) p) ≡ ahead v s t x y = into-placed v s t x y lo hi p (omega arith) g o in rw (← e, ← z, ← f) q
 
 -- ---- what fits
 

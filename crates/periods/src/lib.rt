@@ -3,12 +3,15 @@ ghost use mathlib.Core.Path.{_≡_};
 ghost use mathlib.Core.Bool.{_||_};
 ghost use Prim.Native.Nat.{ℕ, _+_, _*_, _-_, _≤_, _<_, min};
 ghost use lib.Dec.{ltb, leb};
+ghost use lib.ListN.{length};
 ghost use Rattle.instant.specs.Instant.{nanos};
+ghost use Rattle.model.specs.Instant.{week};
 ghost use Rattle.model.specs.Walk.{period};
 ghost use Rattle.blocks.specs.Counted.{size, most};
 ghost use Rattle.rules.specs.Rules.{scheduleIs, ScheduleFits};
 ghost use Rattle.dates.specs.Dates.{InRange};
 ghost use Rattle.spend.specs.Spending.{wayOf};
+ghost use Rattle.week.specs.Room.{room};
 ghost use Rattle.periods.specs.Found.{foundIs, FoundFits};
 use blocks::Span;
 use hunt::Known;
@@ -46,25 +49,43 @@ fn cut(limit: Span, f: Span, e: Span) -> Span
     e
 }
 
-// The nearest period to t, going on or back.
-pub fn period_walk(book: &[u8], pack: &[u8], s: Schedule, t: Instant, back: bool) -> Found
-    requires { ⌜ ScheduleFits (now book) (now pack) s × InRange t ⌝ }
+// The length in nanoseconds of the window between two distances.
+fn width(x: Span, y: Span) -> u64
+    requires { ⌜ (x .ns < 1000000000) × (y .ns < 1000000000) × (size x ≤ size y) × (size y ≤ size x + week) ⌝ }
+    ensures { λ r. ⌜ r ≡ size y - size x ⌝ }
+{
+    (y.sec - x.sec) * 1000000000 + y.ns as u64 - x.ns as u64
+}
+
+// The nearest period to t, going on or back. A window's blocks are found in lent memory. The loop calls no other function with the schedule than
+// `working_into`, because each such call copies it.
+fn walk_into(
+    book: &[u8],
+    pack: &[u8],
+    s: Schedule,
+    t: Instant,
+    back: bool,
+    on: &mut [u64],
+    off: &mut [u64],
+    out: &mut [u64],
+) -> Found
+    requires { ⌜ ScheduleFits (now book) (now pack) s × InRange t × (room s ≤ length (now on)) × (room s ≤ length (now off)) × (room s ≤ length (now out)) ⌝ }
     ensures { λ r. ⌜ (foundIs r ≡ period (wayOf back) (scheduleIs (now (book .entry)) (now (pack .entry)) s) (nanos t)) × FoundFits (wayOf back) (nanos t) r ⌝ }
 {
     let zero = Span { sec: 0, ns: 0 };
     let end = windows::reach(t, back);
-    let limit = Span {
-        sec: s.limit,
-        ns: 0,
-    };
+    let most = s.limit;
+    let limit = Span { sec: most, ns: 0 };
     let mut x = zero;
     let mut some = false;
     let mut f = zero;
     let mut e = zero;
     while spend::less(x, end) {
         let y = windows::week_on(x, end);
-        let w = windows::window(book, pack, s, t, back, x, y);
-        let known = hunt::hunt(w, back, t, limit, some, f, e);
+        let at = windows::place(t, back, x, y);
+        let n = week::working_into(book, pack, s, at.lo, at.hi, on, off, out);
+        let w = width(x, y);
+        let known = hunt::hunt_window(out, n, back, w, x, limit, some, f, e);
         match known {
             Known::Nothing => {
                 if spend::less(limit, y) {
@@ -89,4 +110,44 @@ pub fn period_walk(book: &[u8], pack: &[u8], s: Schedule, t: Instant, back: bool
         return Found::Period(f, cut(limit, f, e));
     }
     Found::OutOfRange
+}
+
+// The same for a schedule of any size.
+fn large_walk(book: &[u8], pack: &[u8], s: Schedule, t: Instant, back: bool) -> Found
+    requires { ⌜ ScheduleFits (now book) (now pack) s × InRange t ⌝ }
+    ensures { λ r. ⌜ (foundIs r ≡ period (wayOf back) (scheduleIs (now (book .entry)) (now (pack .entry)) s) (nanos t)) × FoundFits (wayOf back) (nanos t) r ⌝ }
+{
+    let mut on = [0u64; 1122];
+    let mut off = [0u64; 1122];
+    let mut out = [0u64; 1122];
+    walk_into(book, pack, s, t, back, &mut on, &mut off, &mut out)
+}
+
+// The same for a schedule of up to four records, which needs less memory.
+fn middle_walk(book: &[u8], pack: &[u8], s: Schedule, t: Instant, back: bool) -> Found
+    requires { ⌜ ScheduleFits (now book) (now pack) s × InRange t × (s .works + s .pauses + s .closings ≤ 4) ⌝ }
+    ensures { λ r. ⌜ (foundIs r ≡ period (wayOf back) (scheduleIs (now (book .entry)) (now (pack .entry)) s) (nanos t)) × FoundFits (wayOf back) (nanos t) r ⌝ }
+{
+    let mut on = [0u64; 114];
+    let mut off = [0u64; 114];
+    let mut out = [0u64; 114];
+    walk_into(book, pack, s, t, back, &mut on, &mut off, &mut out)
+}
+
+// The nearest period to t, going on or back. A schedule of one record needs the least memory.
+pub fn period_walk(book: &[u8], pack: &[u8], s: Schedule, t: Instant, back: bool) -> Found
+    requires { ⌜ ScheduleFits (now book) (now pack) s × InRange t ⌝ }
+    ensures { λ r. ⌜ (foundIs r ≡ period (wayOf back) (scheduleIs (now (book .entry)) (now (pack .entry)) s) (nanos t)) × FoundFits (wayOf back) (nanos t) r ⌝ }
+{
+    let records = s.works + s.pauses + s.closings;
+    if 4 < records {
+        return large_walk(book, pack, s, t, back);
+    }
+    if 1 < records {
+        return middle_walk(book, pack, s, t, back);
+    }
+    let mut on = [0u64; 30];
+    let mut off = [0u64; 30];
+    let mut out = [0u64; 30];
+    walk_into(book, pack, s, t, back, &mut on, &mut off, &mut out)
 }
