@@ -1,28 +1,29 @@
 -- The loop of `walk` over windows: its invariant, and that a turn keeps it. Assumes nothing.
-use mathlib.Core.Path.{_≡_, refl, sym, ap, _∙_}
+use mathlib.Core.Path.{_≡_, refl, sym, ap, ap₂, _∙_}
 use mathlib.Core.Bool.{Bool, true, false}
 use mathlib.Core.List.{List, [], _∷_, _++_}
 use Prim.Native.Nat.{ℕ, suc, _+_, _*_, _-_, _≤_, _<_, min}
 use native.Mathlib.Omega.{arith}
 use native.Mathlib.Decide.{decLe}
 use lib.IntN.{ℤ}
-use lib.ListN.{length, take, length-append, length-map, length-take}
+use lib.ListN.{length, length-append}
 use Rattle.model.specs.Instant.{week, lastInstant}
 use Rattle.model.specs.Blocks.{Block, block}
 use Rattle.model.specs.Working.{Schedule, working}
-use Rattle.model.specs.Walk.{begun, listed, stretches}
+use Rattle.model.specs.Walk.{begun, onward, listed, stretches}
+use Rattle.laws_blocks.specs.Move.{moves}
 use Rattle.instant.specs.Instant.{nanos}
 use Rattle.instant.specs.declared.Instant.{Instant}
 use Rattle.dates.specs.Dates.{InRange}
 use Rattle.laws_skip.specs.Edges.{Inside}
 use Rattle.laws_skip.specs.Schedules.{working-inside}
-use Rattle.blocks.specs.Counted.{blockOf, front, listOf}
-use Rattle.blocks.specs.declared.Block as code
-use Rattle.blocks.specs.declared.Blocks.{Blocks}
+use Rattle.blocks.specs.Counted.{blockOf}
+use Rattle.pairs.specs.Pairs.{part, pairs}
 use Rattle.stretch.specs.Stretched.{onFrom, ended, stillOpen, anyOpen, stored, Small, Below, Ready, Left}
 use Rattle.stretch.specs.declared.Open.{Open}
 use Rattle.stretch.proofs.Joins.{from-append, ended-few}
 use Rattle.stretch.proofs.Placing.{stored-append, stored-long}
+use Rattle.stretch.proofs.Turns.{moved-long}
 
 -- ---- the windows that are left
 
@@ -59,8 +60,14 @@ range-small t r = let h = r .high in let n = r .ns in (omega arith, omega arith)
 
 -- ---- a window's blocks
 
-front-few : (n : ℕ) (l : List code.Block) → length (front n l) ≤ n
-front-few n l = let p = length-map (take n l) blockOf in let q = length-take n l in omega arith
+-- distances from t, moved by t, are the blocks again
+back-again : (t hi : ℕ) (l : List Block) → Inside t hi l → moves t (onward t l) ≡ l
+unfolding onward moves
+back-again t hi [] i = refl
+back-again t hi (b ∷ l) i =
+    let p = i .0 in let q = i .1 in
+    let u : (b .start - t) + t ≡ b .start = omega arith in let v : (b .end - t) + t ≡ b .end = omega arith in
+    ap₂ {C = List Block} (λ (x : Block) (y : List Block). x ∷ y) (λ i. record { start = u i; end = v i }) (back-again t hi l (i .3))
 
 below-of : (lo hi : ℕ) (l : List Block) → hi ≤ lastInstant → Inside lo hi l → Below l
 below-of lo hi [] h i = tt
@@ -83,52 +90,62 @@ unfolding ahead onFrom
 walking-starts s a b w e o h = record { from = omega arith; small = h; few = λ p. omega arith; most = omega arith; count = omega arith; long = refl; same = refl }
 
 module _ (s : Schedule) (a b : ℕ) (w : Bool) (e : List ℤ) (lo : ℕ) (o : Open) (out : List ℤ) (m : Walking s a b w e lo (o .known) (blockOf (o .block)) (o .count) out) (h : lo < b) (hi : ℕ) (q : hi ≡ min (lo + week) b)
-    (l : Blocks) (p : listOf l ≡ working s lo hi) (f : l .len ≤ 672) where
+    (n : ℕ) (d : List ℕ) (p : pairs n d ≡ onward lo (working s lo hi)) (f : n ≤ 672) where
+  -- the blocks of the window
+  abbrev l : List Block
+  l = moves lo (pairs n d)
+
+  l-is : l ≡ working s lo hi
+  l-is = ap (moves lo) p ∙ back-again lo hi (working s lo hi) (working-inside s lo hi (omega arith))
+
+  l-few : length l ≤ 672
+  l-few = let x = moved-long lo 0 n d in omega arith
+
   -- what is ahead, in two parts
   parts : onFrom (o .known) (blockOf (o .block)) (ahead s lo b)
-      ≡ ended (o .known) (blockOf (o .block)) (listOf l) ++ onFrom (anyOpen (o .known) (listOf l)) (stillOpen (o .known) (blockOf (o .block)) (listOf l)) (ahead s hi b)
+      ≡ ended (o .known) (blockOf (o .block)) l ++ onFrom (anyOpen (o .known) l) (stillOpen (o .known) (blockOf (o .block)) l) (ahead s hi b)
   parts =
-      ap (onFrom (o .known) (blockOf (o .block))) (ahead-turn s lo b hi h q ∙ ap (λ (x : List Block). x ++ ahead s hi b) (sym p))
-      ∙ from-append (o .known) (blockOf (o .block)) (listOf l) (ahead s hi b)
+      ap (onFrom (o .known) (blockOf (o .block))) (ahead-turn s lo b hi h q ∙ ap (λ (x : List Block). x ++ ahead s hi b) (sym l-is))
+      ∙ from-append (o .known) (blockOf (o .block)) l (ahead s hi b)
 
   parts-long : length (onFrom (o .known) (blockOf (o .block)) (ahead s lo b))
-      ≡ length (ended (o .known) (blockOf (o .block)) (listOf l)) + length (onFrom (anyOpen (o .known) (listOf l)) (stillOpen (o .known) (blockOf (o .block)) (listOf l)) (ahead s hi b))
-  parts-long = ap length parts ∙ length-append (ended (o .known) (blockOf (o .block)) (listOf l)) _
+      ≡ length (ended (o .known) (blockOf (o .block)) l) + length (onFrom (anyOpen (o .known) l) (stillOpen (o .known) (blockOf (o .block)) l) (ahead s hi b))
+  parts-long = ap length parts ∙ length-append (ended (o .known) (blockOf (o .block)) l) _
 
-  ends-few : length (ended (o .known) (blockOf (o .block)) (listOf l)) ≤ 672
-  ends-few = let u = ended-few (o .known) (blockOf (o .block)) (listOf l) in let v = front-few (l .len) (l .items) in omega arith
+  ends-few : length (ended (o .known) (blockOf (o .block)) l) ≤ 672
+  ends-few = let u = ended-few (o .known) (blockOf (o .block)) l in let v = l-few in omega arith
 
   -- `join_window` may be called
-  pub walking-ready : b ≤ lastInstant → (w ≡ true → 4 * length (stretches s a b) ≤ length e) → Ready l o w out
+  pub walking-ready : b ≤ lastInstant → (w ≡ true → 4 * length (stretches s a b) ≤ length e) → Ready (moves lo (pairs n d)) o w out
   walking-ready i r =
       let u = m .few h in let g = m .from in
       record {
-        few = f;
+        few = l-few;
         small = m .small;
-        below = rw p (below-of lo hi (working s lo hi) (omega arith) (working-inside s lo hi (omega arith)));
+        below = rw l-is (below-of lo hi (working s lo hi) (omega arith) (working-inside s lo hi (omega arith)));
         count = omega arith;
         room = λ v. let x = r v in let y = m .count in let z = parts-long in let t = m .long in omega arith;
       }
 
   -- and what it leaves goes on
-  pub walking-on : (w ≡ true → 4 * length (stretches s a b) ≤ length e) → (r : Open) → Left l o r → (o′ : List ℤ) → o′ ≡ stored w (o .count) (ended (o .known) (blockOf (o .block)) (listOf l)) out
+  pub walking-on : (w ≡ true → 4 * length (stretches s a b) ≤ length e) → (r : Open) → Left (moves lo (pairs n d)) o r → (o′ : List ℤ) → o′ ≡ stored w (o .count) (ended (o .known) (blockOf (o .block)) (moves lo (pairs n d))) out
       → Walking s a b w e hi (r .known) (blockOf (r .block)) (r .count) o′
   walking-on room r left o′ t =
       let i = m .from in
       let u = m .few h in
       let v = ends-few in
       let n = left .count in
-      let g : w ≡ true → 4 * (o .count + length (ended (o .known) (blockOf (o .block)) (listOf l))) ≤ length out = λ y. let x = room y in let d = m .count in let z = parts-long in let j = m .long in omega arith in
+      let g : w ≡ true → 4 * (o .count + length (ended (o .known) (blockOf (o .block)) l)) ≤ length out = λ y. let x = room y in let d = m .count in let z = parts-long in let j = m .long in omega arith in
       record {
         from = omega arith;
         small = left .small;
         few = λ y. omega arith;
         most = omega arith;
         count = rw (left .known, left .last, left .count) (let d = m .count in let z = parts-long in omega arith);
-        long = rw t (stored-long w (o .count) (ended (o .known) (blockOf (o .block)) (listOf l)) out g) ∙ m .long;
+        long = rw t (stored-long w (o .count) (ended (o .known) (blockOf (o .block)) l) out g) ∙ m .long;
         same =
             rw (left .known, left .last, left .count, t)
-            (stored-append w (o .count) (ended (o .known) (blockOf (o .block)) (listOf l)) _ out (λ y. let x = g y in omega arith)
+            (stored-append w (o .count) (ended (o .known) (blockOf (o .block)) l) _ out (λ y. let x = g y in omega arith)
             ∙ ap (λ (x : List Block). stored w (o .count) x out) (sym parts)
             ∙ m .same);
       }

@@ -13,6 +13,7 @@ ghost use Rattle.model.specs.Walk.{begun, stretches};
 ghost use Rattle.rules.specs.Rules.{scheduleIs, ScheduleFits};
 ghost use Rattle.dates.specs.Dates.{InRange};
 ghost use Rattle.stretch.specs.Stretched.{stored};
+ghost use Rattle.week.specs.Room.{room};
 ghost use Rattle.listing.specs.Listings.{listingIs, countOf, numbersOf};
 use blocks::Block;
 use edge::InstantRead;
@@ -41,7 +42,69 @@ fn window_end(lo: Instant, b: Instant) -> Instant
     b
 }
 
-// Walks the windows from a to b and tells how many stretches they have. They are written to the front of `out` where `write` is set.
+// Walks the windows from a to b and tells how many stretches they have. They are written to the front of `out` where `write` is set. `on`, `off` and
+// `found` are lent for the blocks of one window, which stand in `found` as pairs of numbers.
+fn walk_lent(
+    book: &[u8],
+    pack: &[u8],
+    s: Schedule,
+    a: Instant,
+    b: Instant,
+    write: bool,
+    on: &mut [u64],
+    off: &mut [u64],
+    found: &mut [u64],
+    out: &mut [i64],
+) -> usize
+    requires { ⌜ ScheduleFits (now book) (now pack) s × InRange a × InRange b × (write ≡ true → 4 * length (stretches (scheduleIs (now book) (now pack) s) (nanos a) (nanos b)) ≤ length (now out)) × (room s ≤ length (now on)) × (room s ≤ length (now off)) × (room s ≤ length (now found)) ⌝ }
+    ensures { λ r. ⌜ (r ≡ length (stretches (scheduleIs (now (book .entry)) (now (pack .entry)) s) (nanos a) (nanos b))) × (now (out .exit) ≡ stored write 0 (stretches (scheduleIs (now (book .entry)) (now (pack .entry)) s) (nanos a) (nanos b)) (now (out .entry))) ⌝ }
+{
+    let mut lo = a;
+    let mut last = Open {
+        known: false,
+        block: Block { start: a, end: a },
+        count: 0,
+    };
+    while instant::precedes(lo, b) {
+        let hi = window_end(lo, b);
+        let n = week::working_into(book, pack, s, lo, hi, on, off, found);
+        last = stretch::join_window(found, n, lo, last, write, out);
+        lo = hi;
+    }
+    stretch::finish(last, write, out)
+}
+
+// The same with memory for the windows of a schedule of any size.
+fn large_walk(
+    book: &[u8],
+    pack: &[u8],
+    s: Schedule,
+    a: Instant,
+    b: Instant,
+    write: bool,
+    out: &mut [i64],
+) -> usize
+    requires { ⌜ ScheduleFits (now book) (now pack) s × InRange a × InRange b × (write ≡ true → 4 * length (stretches (scheduleIs (now book) (now pack) s) (nanos a) (nanos b)) ≤ length (now out)) ⌝ }
+    ensures { λ r. ⌜ (r ≡ length (stretches (scheduleIs (now (book .entry)) (now (pack .entry)) s) (nanos a) (nanos b))) × (now (out .exit) ≡ stored write 0 (stretches (scheduleIs (now (book .entry)) (now (pack .entry)) s) (nanos a) (nanos b)) (now (out .entry))) ⌝ }
+{
+    let mut on = [0u64; 1122];
+    let mut off = [0u64; 1122];
+    let mut found = [0u64; 1122];
+    walk_lent(
+        book,
+        pack,
+        s,
+        a,
+        b,
+        write,
+        &mut on,
+        &mut off,
+        &mut found,
+        out,
+    )
+}
+
+// The same: a schedule of up to four records needs less memory.
 fn walk(
     book: &[u8],
     pack: &[u8],
@@ -54,19 +117,24 @@ fn walk(
     requires { ⌜ ScheduleFits (now book) (now pack) s × InRange a × InRange b × (write ≡ true → 4 * length (stretches (scheduleIs (now book) (now pack) s) (nanos a) (nanos b)) ≤ length (now out)) ⌝ }
     ensures { λ r. ⌜ (r ≡ length (stretches (scheduleIs (now (book .entry)) (now (pack .entry)) s) (nanos a) (nanos b))) × (now (out .exit) ≡ stored write 0 (stretches (scheduleIs (now (book .entry)) (now (pack .entry)) s) (nanos a) (nanos b)) (now (out .entry))) ⌝ }
 {
-    let mut lo = a;
-    let mut last = Open {
-        known: false,
-        block: Block { start: a, end: a },
-        count: 0,
-    };
-    while instant::precedes(lo, b) {
-        let hi = window_end(lo, b);
-        let w = listed::window_blocks(book, pack, s, lo, hi);
-        last = stretch::join_window(w, last, write, out);
-        lo = hi;
+    if 4 < s.works + s.pauses + s.closings {
+        return large_walk(book, pack, s, a, b, write, out);
     }
-    stretch::finish(last, write, out)
+    let mut on = [0u64; 114];
+    let mut off = [0u64; 114];
+    let mut found = [0u64; 114];
+    walk_lent(
+        book,
+        pack,
+        s,
+        a,
+        b,
+        write,
+        &mut on,
+        &mut off,
+        &mut found,
+        out,
+    )
 }
 
 // No fewer than the stretches from a to b that so many rules can make: in a window each rule shows at most 14 dates, and of each date one block.

@@ -1,35 +1,41 @@
 -- The loop of `join_window`: its invariant, and that a turn keeps it. Assumes nothing.
-use mathlib.Core.Path.{_≡_, refl, sym, _∙_}
+use mathlib.Core.Path.{_≡_, refl, sym, _∙_, ap}
 use mathlib.Core.Bool.{Bool, true, false}
 use mathlib.Core.List.{List, [], _∷_}
-use Prim.Native.Nat.{ℕ, suc, _+_, _*_, _≤_, _<_, max}
+use Prim.Native.Nat.{ℕ, zero, suc, _+_, _*_, _-_, _≤_, _<_, max}
 use native.Mathlib.Omega.{arith}
-use native.Mathlib.Numerals.{add-one}
 use lib.Dec.{ltb}
 use lib.IntN.{ℤ}
-use lib.ListN.{length, drop, take, getD, length-map, List·getD-map, drop-of-length-le}
-use lib.Seq.{drop-cons, getD-take, length-take-le}
+use lib.ListN.{length, getD}
 use Rattle.model.specs.Blocks.{Block, block, merged, mergedFrom}
-use Rattle.blocks.specs.Counted.{blockOf, front, nil}
-use Rattle.blocks.specs.declared.Block as code
+use Rattle.laws_blocks.specs.Move.{moves}
+use Rattle.pairs.specs.Pairs.{part, pairs}
+use Rattle.pairs.proofs.Parts.{from-first, from-none}
 use Rattle.stretch.specs.Stretched.{onFrom, ended, stillOpen, anyOpen, stored, Small, Below}
 use Rattle.stretch.proofs.Placing.{stored-append, stored-long, stored-none}
 use Rattle.stretch.proofs.Joins.{ended-none, ended-first, ended-joins, ended-apart, open-none, open-first, open-joins, open-apart}
 
--- ---- the blocks of an array that are left
+-- ---- the blocks that are left
 
-module _ (n : ℕ) (b : List code.Block) (h : n ≤ 672) (g : length b ≡ 672) where
-  front-long : length (front n b) ≡ n
-  front-long = length-map (take n b) blockOf ∙ length-take-le n b (omega arith)
+-- of the first n blocks of l those from i on, where l has distances from t
+abbrev pub left : ℕ → ℕ → List ℕ → ℕ → List Block
+left t n l i = moves t (part i (n - i) l)
 
-  pub left-next : (i : ℕ) → i < n → drop i (front n b) ≡ blockOf (getD b i nil) ∷ drop (i + 1) (front n b)
-  left-next i k =
-      let e = front-long in
-      let p : i < length (front n b) = omega arith in
-      drop-cons (front n b) i (blockOf nil) p ∙ rw (add-one, List·getD-map blockOf (take n b) i nil, getD-take n b i nil)
+pub moved-long : (t a n : ℕ) (l : List ℕ) → length (moves t (part a n l)) ≡ n
+unfolding moves part
+moved-long t a zero l = refl
+moved-long t a (suc n) l = let h = moved-long t (suc a) n l in omega arith
 
-  pub left-none : (i : ℕ) → n ≤ i → drop i (front n b) ≡ []
-  left-none i k = let e = front-long in let p : length (front n b) ≤ i = omega arith in drop-of-length-le (front n b) p
+left-all : (t n : ℕ) (l : List ℕ) → moves t (pairs n l) ≡ left t n l 0
+left-all t n l = let e : n ≡ n - 0 = omega arith in ap (λ (k : ℕ). moves t (part 0 k l)) e
+
+pub left-next : (t n : ℕ) (l : List ℕ) (i : ℕ) → i < n → (x : Block) → x ≡ block (getD l (2 * i) 0 + t) (getD l (2 * i + 1) 0 + t) → left t n l i ≡ x ∷ left t n l (i + 1)
+unfolding moves
+left-next t n l i h x e = ap (moves t) (from-first i n l h) ∙ ap (λ (y : Block). y ∷ left t n l (i + 1)) (sym e)
+
+pub left-none : (t n : ℕ) (l : List ℕ) (i : ℕ) → i ≤ n → n ≤ i → left t n l i ≡ []
+unfolding moves
+left-none t n l i h k = let e : i ≡ n = omega arith in rw e (ap (moves t) (from-none n l))
 
 -- ---- the loop
 
@@ -45,11 +51,10 @@ pub record Joining (w : Bool) (l : List Block) (e : List ℤ) (k₀ : Bool) (b�
   pub long : length out ≡ length e
   pub same : stored w c (ended k b rest) out ≡ stored w c₀ (ended k₀ b₀ l) e
 
-pub joining-starts : (w : Bool) (n : ℕ) (b : List code.Block) (e : List ℤ) (k₀ : Bool) (b₀ : Block) (c₀ : ℕ) → n ≤ 672 → length b ≡ 672 → Small b₀ → Below (front n b)
-    → (w ≡ true → 4 * (c₀ + length (ended k₀ b₀ (front n b))) ≤ length e) → Joining w (front n b) e k₀ b₀ c₀ (front n b) e k₀ b₀ c₀
-joining-starts w n b e k₀ b₀ c₀ h g s m r =
-    let p = front-long n b h g in
-    record { any = refl; last = refl; count = refl; few = omega arith; small = s; below = m; room = r; long = refl; same = refl }
+pub joining-starts : (w : Bool) (t n : ℕ) (p : List ℕ) (e : List ℤ) (k₀ : Bool) (b₀ : Block) (c₀ : ℕ) → length (moves t (pairs n p)) ≤ 672 → Small b₀ → Below (moves t (pairs n p))
+    → (w ≡ true → 4 * (c₀ + length (ended k₀ b₀ (moves t (pairs n p)))) ≤ length e) → Joining w (moves t (pairs n p)) e k₀ b₀ c₀ (left t n p 0) e k₀ b₀ c₀
+joining-starts w t n p e k₀ b₀ c₀ h s m r =
+    rw (← left-all t n p) (record { any = refl; last = refl; count = refl; few = omega arith; small = s; below = m; room = r; long = refl; same = refl })
 
 open-any : (r : List Block) → anyOpen true r ≡ true
 open-any [] = refl

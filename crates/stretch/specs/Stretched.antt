@@ -9,8 +9,7 @@ use lib.ListN.{length, take, drop}
 use Rattle.model.specs.Basic.{if_then_else_, joined}
 use Rattle.model.specs.Blocks.{Block, block, merged, mergedFrom}
 use Rattle.model.specs.Instant.{instant}
-use Rattle.blocks.specs.Counted.{blockOf, listOf, most}
-use Rattle.blocks.specs.declared.Blocks.{Blocks}
+use Rattle.blocks.specs.Counted.{blockOf, most}
 use Rattle.stretch.specs.declared.Open.{Open}
 
 -- ---- stretches
@@ -69,17 +68,17 @@ abbrev pub Below : List Block → Type 0
 Below [] = Unit {0}
 Below (b ∷ l) = Small b × Below l
 
--- the blocks of a window, and the lent numbers: those that are written have room
-pub record Ready (b : Blocks) (o : Open) (write : Bool) (e : List ℤ) : Type 0 where
-  pub few : b .len ≤ 672
+-- the blocks l of a window, and the lent numbers: those that are written have room
+pub record Ready (l : List Block) (o : Open) (write : Bool) (e : List ℤ) : Type 0 where
+  pub few : length l ≤ 672
   pub small : Small (blockOf (o .block))
-  pub below : Below (listOf b)
+  pub below : Below l
   pub count : o .count < 1000000000000
-  pub room : write ≡ true → 4 * (o .count + length (ended (o .known) (blockOf (o .block)) (listOf b))) ≤ length e
+  pub room : write ≡ true → 4 * (o .count + length (ended (o .known) (blockOf (o .block)) l)) ≤ length e
 
 -- what a window leaves: the stretch that is open, and how many have ended
-pub record Left (b : Blocks) (o r : Open) : Type 0 where
-  pub known : r .known ≡ anyOpen (o .known) (listOf b)
-  pub last : blockOf (r .block) ≡ stillOpen (o .known) (blockOf (o .block)) (listOf b)
+pub record Left (l : List Block) (o r : Open) : Type 0 where
+  pub known : r .known ≡ anyOpen (o .known) l
+  pub last : blockOf (r .block) ≡ stillOpen (o .known) (blockOf (o .block)) l
   pub small : Small (blockOf (r .block))
-  pub count : r .count ≡ o .count + length (ended (o .known) (blockOf (o .block)) (listOf b))
+  pub count : r .count ≡ o .count + length (ended (o .known) (blockOf (o .block)) l)

@@ -1,19 +1,22 @@
 // The stretches of a listing, block by block: a block that touches the open stretch makes it longer, any other ends it and begins the next. Where they
-// are to be written, each stretch that ends is written as four numbers behind those before it.
+// are to be written, each stretch that ends is written as four numbers behind those before it. The blocks of a window come as pairs of numbers in lent
+// memory, distances from the window's start.
 ghost use mathlib.Core.Path.{_≡_};
 ghost use mathlib.Core.Bool.{true};
 ghost use mathlib.Core.List.{[], _∷_};
 ghost use Prim.Native.Nat.{_+_, _*_, _/_, _%_, _≤_, _<_};
 ghost use lib.Dec.{ltb};
-ghost use lib.ListN.{length};
+ghost use lib.ListN.{length, getD};
 ghost use lib.IntN.{pos};
+ghost use Rattle.model.specs.Blocks.{block};
 ghost use Rattle.model.specs.Instant.{second, instant};
+ghost use Rattle.laws_blocks.specs.Move.{moves};
 ghost use Rattle.instant.specs.Instant.{nanos};
 ghost use Rattle.edge.specs.Reads.{secondsFrom};
-ghost use Rattle.blocks.specs.Counted.{blockOf, listOf, most};
+ghost use Rattle.blocks.specs.Counted.{blockOf, most};
+ghost use Rattle.pairs.specs.Pairs.{pairs};
 ghost use Rattle.stretch.specs.Stretched.{placed, onFrom, stored, ended, Small, Ready, Left};
 use blocks::Block;
-use blocks::Blocks;
 use instant::Instant;
 
 // How many stretches have ended, and the one that is still open, where `known` says that there is one.
@@ -28,6 +31,9 @@ fn seconds(t: Instant) -> i64
     requires { ⌜ nanos t < most ⌝ }
     ensures { λ r. ⌜ r ≡ secondsFrom (nanos t / second) ⌝ }
 {
+    if t.ns < 1000000000 {
+        return edge::seconds_of(t.sec);
+    }
     edge::seconds_of(t.sec + (t.ns / 1000000000) as u64)
 }
 
@@ -35,6 +41,9 @@ fn seconds(t: Instant) -> i64
 fn rest(t: Instant) -> i64
     ensures { λ r. ⌜ r ≡ pos (nanos t % second) ⌝ }
 {
+    if t.ns < 1000000000 {
+        return t.ns as i64;
+    }
     (t.ns % 1000000000) as i64
 }
 
@@ -74,19 +83,54 @@ fn is_apart(b: Block, x: Block) -> bool
     instant::precedes(e, s)
 }
 
-// Goes on with the blocks of a window: a block that touches the open stretch makes it longer, any other ends it, and is open then. What ends is counted,
-// and written where `write` is set.
-pub fn join_window(w: Blocks, prev: Open, write: bool, out: &mut [i64]) -> Open
-    requires { ⌜ Ready w prev write (now out) ⌝ }
-    ensures { λ r. ⌜ Left w prev r × (now (out .exit) ≡ stored write (prev .count) (ended (prev .known) (blockOf (prev .block)) (listOf w)) (now (out .entry))) ⌝ }
+// The instant x nanoseconds after t.
+fn after(t: Instant, x: u64) -> Instant
+    requires { ⌜ t .sec ≤ 643761727200 ⌝ }
+    ensures { λ r. ⌜ nanos r ≡ x + nanos t ⌝ }
 {
-    let n = w.len;
+    let s = t.sec + x / 1000000000;
+    let n = t.ns as u64 + x % 1000000000;
+    if n < 1000000000 {
+        return Instant {
+            sec: s,
+            ns: n as u32,
+        };
+    }
+    Instant {
+        sec: s + n / 1000000000,
+        ns: (n % 1000000000) as u32,
+    }
+}
+
+// Block i of l, whose numbers are distances from lo.
+fn block_at(l: &[u64], i: usize, lo: Instant) -> Block
+    requires { ⌜ (2 * i + 2 ≤ length (now l)) × (lo .sec ≤ 643761727200) ⌝ }
+    ensures { λ r. ⌜ blockOf r ≡ block (getD (now (l .entry)) (2 * i) 0 + nanos lo) (getD (now (l .entry)) (2 * i + 1) 0 + nanos lo) ⌝ }
+{
+    let start = after(lo, l[2 * i]);
+    let end = after(lo, l[2 * i + 1]);
+    Block { start, end }
+}
+
+// Goes on with the blocks of a window that begins at lo, the first n of l: a block that touches the open stretch makes it longer, any other ends it, and
+// is open then. What ends is counted, and written where `write` is set.
+pub fn join_window(
+    l: &[u64],
+    n: usize,
+    lo: Instant,
+    prev: Open,
+    write: bool,
+    out: &mut [i64],
+) -> Open
+    requires { ⌜ Ready (moves (nanos lo) (pairs n (now l))) prev write (now out) × (2 * n ≤ length (now l)) × (lo .sec ≤ 643761727200) ⌝ }
+    ensures { λ r. ⌜ Left (moves (nanos lo) (pairs n (now (l .entry)))) prev r × (now (out .exit) ≡ stored write (prev .count) (ended (prev .known) (blockOf (prev .block)) (moves (nanos lo) (pairs n (now (l .entry))))) (now (out .entry))) ⌝ }
+{
     let mut known = prev.known;
     let mut last = prev.block;
     let mut count = prev.count;
     let mut i = 0;
     while i < n {
-        let x = w.items[i];
+        let x = block_at(l, i, lo);
         i += 1;
         if known {
             if is_apart(last, x) {

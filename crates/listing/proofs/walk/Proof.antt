@@ -1,66 +1,41 @@
--- `listing::walk` meets its contract: the loop keeps `Walking`, of proofs/Windows.antt. Assumes nothing.
-use Rattle.listing.proofs.Windows.{Walking, walking-starts, walking-ready, walking-on, walked-room, walked-few, walked-count, walked-same, range-last, range-small}
-use Rattle.rules.specs.Rules.{scheduleIs}
-use Rattle.dates.specs.Dates.{InRange}
-use Rattle.blocks.specs.Counted.{blockOf}
-use Rattle.instant.specs.Instant.{nanos}
-use Prim.Native.Nat.{_-_}
-use mathlib.Core.Path.{sym, _∙_}
-use native.Mathlib.Omega.{arith}
-use borrow.Author.Tests.{ltb-true, ltb-false}
+-- `listing::walk` meets its contract. Assumes nothing.
 use borrow.Author.Needs.{needs}
+use native.Mathlib.Omega.{arith}
 use Rattle.listing.proofs.walk.Statement.{statement}
 use Rattle.listing.proofs.walk.Tie as tie
 
-abbrev Inv-loop : tie.InvT-loop
-Inv-loop book pack s b write out₀ lo₀ last₀ out lo last = Walking (scheduleIs book pack s) (nanos lo₀) (nanos b) write out₀ (nanos lo) (last .known) (blockOf (last .block)) (last .count) out × InRange lo
+add-if1 : tie.Need-add-if1
+add-if1 c = search needs
 
-abbrev μ-loop : tie.MeasureT-loop
-μ-loop book pack s b write out₀ lo₀ last₀ out lo last = nanos b - nanos lo
+add-if1-2 : tie.Need-add-if1-2
+add-if1-2 c = search needs
 
-loop-holds : tie.Need-loop-holds Inv-loop μ-loop
-loop-holds c = (walking-starts _ _ _ _ _ _ (range-small _ ((c .before .before .pre) .1)), (c .before .before .pre) .1)
+large-walk-requires : tie.Need-large-walk-requires
+large-walk-requires c κs = (c .before .before .before .before .before .before .pre)
 
-precedes-requires : tie.Need-precedes-requires Inv-loop μ-loop
-precedes-requires c κs = search needs
+same-length : tie.Need-same-length
+same-length c = (c .before .large-walk .kept) .1 .1 .1 .1 .1 .1 .0
 
-window-end-requires : tie.Need-window-end-requires Inv-loop μ-loop
-window-end-requires c κs = ((c .before .before .loop .inv) .1, (c .before .before .before .before .before .pre) .2)
+returns : tie.Need-returns
+returns c = (c .before .large-walk .ensures)
 
-window-blocks-requires : tie.Need-window-blocks-requires Inv-loop μ-loop
-window-blocks-requires c κs = let h = (ltb-true (nanos (c .before .before .before .loop .lo)) (nanos (c .before .before .before .before .before .before .args .b)) (sym (c .before .before .precedes .ensures) ∙ (c .before .if1 .taken))) in let e = (c .window-end .ensures) .0 in ((c .before .before .before .before .before .before .pre) .0, record { low = (c .before .before .before .loop .inv) .1; high = (c .window-end .ensures) .1; order = omega arith; short = omega arith })
+slice-aggregate-walk-lent : tie.Need-slice-aggregate-walk-lent
+slice-aggregate-walk-lent c = search needs
 
-join-window-requires : tie.Need-join-window-requires Inv-loop μ-loop
-join-window-requires c κs = walking-ready _ _ _ _ _ _ _ _ ((c .before .before .before .before .before .loop .inv) .0) (ltb-true (nanos (c .before .before .before .before .before .loop .lo)) (nanos (c .before .before .before .before .before .before .before .before .args .b)) (sym (c .before .before .before .before .precedes .ensures) ∙ (c .before .before .before .if1 .taken))) _ ((c .before .before .window-end .ensures) .0) _ ((c .before .window-blocks .ensures) .0) ((c .before .window-blocks .ensures) .1) (range-last _ ((c .before .before .before .before .before .before .before .before .pre) .2)) ((c .before .before .before .before .before .before .before .before .pre) .3)
+slice-aggregate-walk-lent-2 : tie.Need-slice-aggregate-walk-lent-2
+slice-aggregate-walk-lent-2 c = search needs
 
-loop-less : tie.Need-loop-less Inv-loop μ-loop
-loop-less c = let h = (ltb-true (nanos (c .before .before .before .before .before .before .before .loop .lo)) (nanos (c .before .before .before .before .before .before .before .before .before .before .args .b)) (sym (c .before .before .before .before .before .before .precedes .ensures) ∙ (c .before .before .before .before .before .if1 .taken))) in let e = (c .before .before .before .before .window-end .ensures) .0 in omega arith
+slice-aggregate-walk-lent-3 : tie.Need-slice-aggregate-walk-lent-3
+slice-aggregate-walk-lent-3 c = search needs
 
-loop-again : tie.Need-loop-again Inv-loop μ-loop
-loop-again c = (walking-on _ _ _ _ _ _ _ _ ((c .before .before .before .before .before .before .before .loop .inv) .0) (ltb-true (nanos (c .before .before .before .before .before .before .before .loop .lo)) (nanos (c .before .before .before .before .before .before .before .before .before .before .args .b)) (sym (c .before .before .before .before .before .before .precedes .ensures) ∙ (c .before .before .before .before .before .if1 .taken))) _ ((c .before .before .before .before .window-end .ensures) .0) _ ((c .before .before .before .window-blocks .ensures) .0) ((c .before .before .before .window-blocks .ensures) .1) ((c .before .before .before .before .before .before .before .before .before .before .pre) .3) _ ((c .before .join-window .ensures) .0) _ ((c .before .join-window .ensures) .1), (c .before .before .before .before .window-end .ensures) .1)
+walk-lent-requires : tie.Need-walk-lent-requires
+walk-lent-requires c κs = let h = (c .before .before .before .before .if1 .left) in ((c .before .before .before .before .before .before .before .before .before .pre) .0, (c .before .before .before .before .before .before .before .before .before .pre) .1, (c .before .before .before .before .before .before .before .before .before .pre) .2, (c .before .before .before .before .before .before .before .before .before .pre) .3, omega arith, omega arith, omega arith)
 
-finish-requires : tie.Need-finish-requires Inv-loop μ-loop
-finish-requires c κs = (((c .before .before .before .loop .inv) .0) .small, walked-few _ _ _ _ _ _ _ _ _ _ ((c .before .before .before .loop .inv) .0) (range-last _ ((c .before .before .before .loop .inv) .1)), walked-room _ _ _ _ _ _ _ _ _ _ ((c .before .before .before .loop .inv) .0) (ltb-false (nanos (c .before .before .before .loop .lo)) (nanos (c .before .before .before .before .before .before .args .b)) (sym (c .before .before .precedes .ensures) ∙ (c .before .if1 .left))) ((c .before .before .before .before .before .before .pre) .3))
+same-length-2 : tie.Need-same-length-2
+same-length-2 c = (c .before .before .before .before .walk-lent .kept) .1 .1 .1 .1 .1 .1 .1 .1 .1 .0
 
-same-length : tie.Need-same-length Inv-loop μ-loop
-same-length c = (c .before .finish) .kept .1 .1 .0 ∙ ((c .before .before .before .before .before .loop .inv) .0) .long
-
-returns : tie.Need-returns Inv-loop μ-loop
-returns c = (walked-count _ _ _ _ _ _ _ _ _ _ ((c .before .before .before .before .before .loop .inv) .0) (ltb-false (nanos (c .before .before .before .before .before .loop .lo)) (nanos (c .before .before .before .before .before .before .before .before .args .b)) (sym (c .before .before .before .before .precedes .ensures) ∙ (c .before .before .before .if1 .left))) _ ((c .before .finish .ensures) .0), walked-same _ _ _ _ _ _ _ _ _ _ ((c .before .before .before .before .before .loop .inv) .0) (ltb-false (nanos (c .before .before .before .before .before .loop .lo)) (nanos (c .before .before .before .before .before .before .before .before .args .b)) (sym (c .before .before .before .before .precedes .ensures) ∙ (c .before .before .before .if1 .left))) _ ((c .before .finish .ensures) .1))
+returns-2 : tie.Need-returns-2
+returns-2 c = (c .before .before .before .before .walk-lent .ensures)
 
 pub walk-spec : {M : Type 1} → statement M
-walk-spec =
-    tie.close
-    (tie.spec
-    Inv-loop
-    μ-loop
-    loop-holds
-    precedes-requires
-    window-end-requires
-    window-blocks-requires
-    join-window-requires
-    loop-less
-    loop-again
-    finish-requires
-    same-length
-    returns)
+walk-spec = tie.close (tie.spec add-if1 add-if1-2 large-walk-requires same-length returns slice-aggregate-walk-lent slice-aggregate-walk-lent-2 slice-aggregate-walk-lent-3 walk-lent-requires same-length-2 returns-2)
