@@ -25,6 +25,8 @@ const MOST: usize = 8192;
 const ROUNDS: usize = 8;
 /// Rows that take longer than this, in nanoseconds, are timed in the first round only.
 const LONG: f64 = 1e8;
+/// Four numbers for each stretch that 40 records can have in the 53 windows of a year: 14 a record and window.
+const SPARE: usize = 4 * 14 * 40 * 53;
 /// Questions of the one batch that WHO runs.
 const FEW: usize = 512;
 
@@ -74,7 +76,8 @@ fn spent() -> f64 {
 enum Task {
     Ask(Call),
     Build,
-    List(Timestamp, Timestamp),
+    /// From one instant to another, and how many numbers are lent to us beyond those that the stretches need.
+    List(Timestamp, Timestamp, usize),
 }
 
 struct Book {
@@ -147,14 +150,19 @@ fn ours(on: &Book, task: Task, count: usize, room: usize) -> Batch {
             // The original does not tell its search limit: that it builds is all that is compared.
             (spent() - since, vec![i64::from(work.iter().all(|&limit| limit > 10))])
         }
-        Task::List(a, b) => {
+        Task::List(a, b, spare) => {
             let ([a, b], [c, d]) = (pair(a), pair(b));
-            let mut work = vec![-1; room];
+            let mut work = vec![-1; room + spare];
             let since = spent();
             unsafe {
                 bench_clock_lists(book.as_ptr(), book.len(), pack.as_ptr(), pack.len(), count, a, b, c, d, work.as_mut_ptr(), work.len());
             }
-            (spent() - since, work)
+            let time = spent() - since;
+            // A number behind the stretches that is not as it was makes the answer differ.
+            while work.len() > room && work.last() == Some(&-1) {
+                work.pop();
+            }
+            (time, work)
         }
     }
 }
@@ -184,7 +192,7 @@ fn original(on: &Book, task: Task, count: usize, _: usize) -> Batch {
             }
             (spent() - since, vec![1])
         }
-        Task::List(a, b) => {
+        Task::List(a, b, _) => {
             let since = spent();
             let schedule = built(on);
             let mut found = Vec::new();
@@ -268,7 +276,9 @@ fn tasks() -> Vec<(&'static str, Task)> {
     let until = Timestamp::constant(WEDNESDAY + 365 * DAY, 0);
     let mut all = vec![("build", Task::Build)];
     all.extend(calls().into_iter().map(|(name, call)| (name, Task::Ask(call))));
-    all.push(("list-1-year", Task::List(Timestamp::constant(WEDNESDAY, 0), until)));
+    // With room for all stretches that 40 records can have, we need not count them before we write; with just enough we must.
+    all.push(("list-1-year", Task::List(Timestamp::constant(WEDNESDAY, 0), until, SPARE)));
+    all.push(("list-1-year-just-enough", Task::List(Timestamp::constant(WEDNESDAY, 0), until, 0)));
     all
 }
 
