@@ -1,0 +1,22 @@
+-- What the block list of the code means: the blocks of the definitions.
+use Prim.Native.Nat.{ℕ}
+use mathlib.Core.List.{List, map}
+use lib.ListN.{take}
+use Rattle.model.specs.Blocks.{Block as Block′, block}
+use Rattle.block_list.specs.declared.Block.{Block}
+use Rattle.block_list.specs.declared.Blocks.{Blocks}
+
+abbrev pub blockOf : Block → Block′
+blockOf b = block (b .start) (b .end)
+
+-- the first n of an array
+abbrev pub front : ℕ → List Block → List Block′
+front n l = map blockOf (take n l)
+
+-- the blocks that are used
+abbrev pub listOf : Blocks → List Block′
+listOf b = front (b .len) (b .items)
+
+-- what the code reads past the end of an array
+abbrev pub nil : Block
+nil = record { start = 0; end = 0 }
