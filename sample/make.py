@@ -1,7 +1,7 @@
 #!/usr/bin/env python3
 """Makes the sample calendar: book.bin and zones.bin beside this file.
 
-    sample/make.py [ZONEINFO]
+usage: sample/make.py [ZONEINFO]
 
 The book: Monday to Friday 08:00 to 18:00, Europe/Berlin, and the site's holidays of 2026 to 2028. The pack holds that one zone, from the folder
 ZONEINFO (/usr/share/zoneinfo if not told otherwise). Both layouts are those of document 01: a count, pairs of offset and length, the records.
@@ -43,6 +43,8 @@ def pack(zoneinfo):
     return directory([bytes([len(ZONE)]) + ZONE + (zoneinfo / ZONE.decode()).read_bytes()])
 
 
+if len(sys.argv) > 2 or sys.argv[1:2] and sys.argv[1].startswith("-"):
+    sys.exit(__doc__)
 here = Path(__file__).parent
 (here / "book.bin").write_bytes(book())
 (here / "zones.bin").write_bytes(pack(Path(sys.argv[1] if len(sys.argv) > 1 else "/usr/share/zoneinfo")))

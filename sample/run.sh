@@ -3,16 +3,42 @@
 #
 #   sample/run.sh [PROGRAM]
 #
-# PROGRAM is a clock that is built already. Without it `rt check clock` proves and builds one, which takes some minutes on a new machine.
+# PROGRAM is a clock that is built already. Without it `rt check clock` proves and builds one, which takes about ten minutes on a new machine with two
+# free cores, and seconds afterwards; how many crates are proved is shown meanwhile.
 # Dates are turned into words by GNU date, with Berlin's rule of today; the clock itself reads the zone from zones.bin.
 set -eu
 here=$(cd "$(dirname "$0")" && pwd)
 root=$(cd "$here/.." && pwd)
 program=${1:-}
+
+# Proves and builds the clock; shows how many of its crates are proved, and what `rt` wrote where it fails.
+prove() {
+    log=$root/target/sample.log
+    mkdir -p "$root/target"
+    crates=$(crates_of clock)
+    (cd "$root" && rt check clock 2>&1 && echo 'rt check: done') | tee "$log" | awk -v all="$crates" '
+        /^rt: [a-z0-9_]+ proved/ { n++; printf "%d of %d crates proved\n", n, all > "/dev/stderr" }'
+    tail -n 1 "$log" | grep -qx 'rt check: done' || { tail -n 20 "$log" >&2; return 1; }
+}
+
+# How many crates of the repository a crate rests on, itself included, by crates.txt.
+crates_of() {
+    awk -v want="$1" -F: '
+        /^[a-z]/ { own[$1] = 1; needs[$1] = $2 }
+        function visit(c,   i, k, list) {
+            if (!(c in own) || c in seen) return
+            seen[c] = 1; total++
+            k = split(needs[c], list, " ")
+            for (i = 1; i <= k; i++) visit(list[i])
+        }
+        END { visit(want); print total }' "$root/crates.txt"
+}
+
 if [ -z "$program" ]; then
-    (cd "$root" && rt check clock >&2)
+    prove
     program=$root/target/bin/clock
 fi
+program=$(cd "$(dirname "$program")" && pwd)/$(basename "$program")
 
 berlin='CET-1CEST,M3.5.0,M10.5.0/3'
 second() { TZ=$berlin date -d "$1" +%s; }

@@ -1,7 +1,7 @@
 #!/usr/bin/env python3
 """Writes stored listings with the answers that are expected, for the program `replay_lists`.
 
-    tools/list_cases.py CASES OUT
+usage: tools/list_cases.py CASES OUT
 
 CASES is a folder of cases-00.bin and so on, as tools/vector_cases.py writes them; of each case the book and the pack are taken, not the query lines. OUT
 gets lists.bin. The answers come from compare/second.py, not from the code that is to be compared.
@@ -112,6 +112,8 @@ def joined(book, pack, asked):
     return struct.pack(">III", *map(len, parts)) + b"".join(parts)
 
 
+if len(sys.argv) != 3 or sys.argv[1].startswith("-"):
+    sys.exit(__doc__)
 every = list(cases(Path(sys.argv[1])))
 out, seen = b"", {}
 for place, days in CHOSEN.items():

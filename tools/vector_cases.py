@@ -1,7 +1,7 @@
 #!/usr/bin/env python3
 """Puts cases of book, zone pack, query lines and expected answers into a few files, for the program `replay`.
 
-    tools/vector_cases.py FOLDER.. OUT
+usage: tools/vector_cases.py FOLDER.. OUT
 
 Each FOLDER has a folder for each case: book.bin, zones.bin, queries.txt and expected.txt. OUT gets cases-00.bin, cases-01.bin and so on, of at most
 65,536 bytes each. In them a case is four numbers of 4 bytes, big-endian, the lengths of its parts, and then the parts: book, pack, query lines, answers.
@@ -25,6 +25,8 @@ def case(folder):
     return struct.pack(">IIII", *map(len, parts)) + b"".join(parts)
 
 
+if len(sys.argv) < 3 or sys.argv[1].startswith("-"):
+    sys.exit(__doc__)
 folders, out = [Path(word) for word in sys.argv[1:-1]], Path(sys.argv[-1])
 out.mkdir(parents=True, exist_ok=True)
 files, cases, lines = [b""], 0, 0

@@ -1,7 +1,7 @@
 #!/usr/bin/env python3
 """Makes the zone pack and the stored answers of the program zone_test.
 
-usage: zone_answers.py ZONEINFO OUT
+usage: tools/zone_answers.py ZONEINFO OUT
 
 ZONEINFO is a folder of compiled zone files (Debian's package tzdata installs one), OUT the folder to write to. zones.bin is a zone pack in
 document 01's layout with the zones named below and one made here, whose offsets lie at both limits. answers-KKK.bin belongs to record KKK of the
@@ -144,4 +144,6 @@ def main(folder, out):
 
 
 if __name__ == "__main__":
+    if len(sys.argv) != 3 or sys.argv[1].startswith("-"):
+        sys.exit(__doc__)
     main(sys.argv[1], sys.argv[2])

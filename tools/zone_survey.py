@@ -1,7 +1,7 @@
 #!/usr/bin/env python3
 """Says of every file of a zone database whether document 01 calls it usable, and holds the program zone_test to that.
 
-usage: zone_survey.py ZONEINFO [PROGRAM [DAMAGED]]
+usage: tools/zone_survey.py ZONEINFO [PROGRAM [DAMAGED]]
 
 ZONEINFO is a folder of compiled zone files (Debian's package tzdata installs one). Every file below it is a record of a zone pack, under its path
 in the folder; a pack has at most 1,024 records and 65,536 bytes, so there are many. The judgement below is written from document 01 and RFC 8536
@@ -267,4 +267,6 @@ def main(folder, program=None, more=0):
 
 
 if __name__ == "__main__":
+    if not 2 <= len(sys.argv) <= 4 or sys.argv[1].startswith("-"):
+        sys.exit(__doc__)
     main(sys.argv[1], sys.argv[2] if len(sys.argv) > 2 else None, int(sys.argv[3]) if len(sys.argv) > 3 else 0)
