@@ -11,7 +11,7 @@ use Rattle.model.specs.Answer.{Answer, gives, refuses, _>>=_}
 use Rattle.model.specs.Instant.{instantOf, durationOf, negated}
 use Rattle.model.specs.Working.{Schedule}
 use Rattle.model.specs.Walk.{Way, on, back, search}
-use Rattle.model.specs.Calls.{Reply, betweenCall, moved, moveCall, turned, periodCall}
+use Rattle.model.specs.Calls.{Reply, betweenCall, moved, moveCall, turned, periodCall, said, Windows}
 use Rattle.model.specs.Bytes.{text}
 use Rattle.model.specs.Lines as model
 use Rattle.model.specs.Lines.{Count, printed, replyTo, replyIn, leastOnly}
@@ -21,11 +21,10 @@ use Rattle.rules.specs.Rules.{scheduleIs}
 use Rattle.build.specs.declared.Built.{Built}
 use borrow.Author.Tests.{eq-eqb, ne-eqb}
 use Rattle.reply.specs.Placed.{Placed, exactly}
-use Rattle.laws.specs.Demand3.{said}
 use Rattle.lines.specs.Reading.{queryIs}
 use Rattle.lines.specs.declared.Query.{Query}
 use Rattle.lines.specs.declared.Query.the-variants as Q
-use Rattle.schedule.specs.Answers.{timeIs, timeCount, movedIs, movedCount, Windows}
+use Rattle.schedule.specs.Answers.{timeIs, timeCount, movedIs, movedCount}
 use Rattle.schedule.specs.declared.TimeAnswer.{TimeAnswer}
 use Rattle.schedule.specs.declared.TimeAnswer.the-variants as T
 use Rattle.schedule.specs.declared.Moved.{Moved}

@@ -10,10 +10,9 @@ use mir.Syntax.{w64}
 use mir.Val.{SFits, toZ, ofZ}
 use mir.Facts.{toZ-ofZ}
 use borrow.Author.Tests.{eq-eqb, ne-eqb}
-use Rattle.laws.specs.Demand3.{said}
 use Rattle.model.specs.Answer.{Answer, gives, refuses}
 use Rattle.model.specs.Build.{build}
-use Rattle.model.specs.Calls.{Reply, betweenCall, moveCall, periodCall, listCall}
+use Rattle.model.specs.Calls.{Reply, betweenCall, moveCall, periodCall, listCall, said, numbersAfter}
 use Rattle.model.specs.Instant.{second}
 use Rattle.model.specs.Walk.{on, back}
 use Rattle.model.specs.Working.{Schedule}
@@ -30,7 +29,6 @@ use Rattle.period_calls.specs.declared.NextPeriod.the-variants as N
 use Rattle.period_calls.specs.declared.PreviousPeriod.{PreviousPeriod}
 use Rattle.period_calls.specs.declared.PreviousPeriod.the-variants as P
 use Rattle.period_calls.specs.Replies.{nextIs, previousIs}
-use Rattle.listing.specs.Listings.{numbersOf}
 use Rattle.bench_clock.specs.declared.Told.{Told}
 use Rattle.bench_clock.specs.declared.Told.the-variants as A
 use Rattle.bench_clock.specs.Asked.{toldIs, asked, written, writtenAt, answered, groupsFrom, groups, groupsOf, limitIn, limitOf, listed, listedOf}
@@ -124,12 +122,12 @@ unfolding groupsFrom
 groups-none k s zero i e h = refl
 groups-none k s (suc n) i e h = absurd (omega arith)
 
-lists-turn : (n : ℕ) (s : Schedule) (a b c d : ℤ) (e : List ℤ) → 0 < n → listed n s a b c d e ≡ listed (n - 1) s a b c d (numbersOf (listCall s a b c d e) e)
+lists-turn : (n : ℕ) (s : Schedule) (a b c d : ℤ) (e : List ℤ) → 0 < n → listed n s a b c d e ≡ listed (n - 1) s a b c d (numbersAfter (listCall s a b c d e) e)
 unfolding listed
 lists-turn zero s a b c d e h = absurd (omega arith)
-lists-turn (suc n) s a b c d e h = let p : n ≡ suc n - 1 = omega arith in ap (λ m. listed m s a b c d (numbersOf (listCall s a b c d e) e)) p
+lists-turn (suc n) s a b c d e h = let p : n ≡ suc n - 1 = omega arith in ap (λ m. listed m s a b c d (numbersAfter (listCall s a b c d e) e)) p
 
-pub lists-turned : (n : ℕ) (s : Schedule) (a b c d : ℤ) (e : List ℤ) {x g : List ℤ} → 0 < n → x ≡ numbersOf (listCall s a b c d e) e → listed n s a b c d e ≡ g → listed (n - 1) s a b c d x ≡ g
+pub lists-turned : (n : ℕ) (s : Schedule) (a b c d : ℤ) (e : List ℤ) {x g : List ℤ} → 0 < n → x ≡ numbersAfter (listCall s a b c d e) e → listed n s a b c d e ≡ g → listed (n - 1) s a b c d x ≡ g
 lists-turned n s a b c d e h p q = ap (listed (n - 1) s a b c d) p ∙ sym (lists-turn n s a b c d e h) ∙ q
 
 pub lists-none : (n : ℕ) (s : Schedule) (a b c d : ℤ) (e : List ℤ) → n ≤ 0 → listed n s a b c d e ≡ e

@@ -4,12 +4,10 @@ use Prim.Native.Nat.{ℕ, zero, suc, _+_, _/_}
 use lib.Dec.{eqb}
 use lib.IntN.{ℤ, pos}
 use lib.ListN.{length, getD, set, take}
-use Rattle.laws.specs.Demand3.{said}
-use Rattle.listing.specs.Listings.{numbersOf}
 use Rattle.model.specs.Answer.{Answer, gives, refuses}
 use Rattle.model.specs.Basic.{if_then_else_}
 use Rattle.model.specs.Build.{build}
-use Rattle.model.specs.Calls.{betweenCall, moveCall, periodCall, listCall}
+use Rattle.model.specs.Calls.{betweenCall, moveCall, periodCall, listCall, said, numbersAfter}
 use Rattle.model.specs.Instant.{second}
 use Rattle.model.specs.Walk.{on, back}
 use Rattle.model.specs.Working.{Schedule}
@@ -71,7 +69,7 @@ limitOf book pack n = limitIn (build (take n book) pack)
 -- the lent numbers after so many listings
 unfoldable pub listed : ℕ → Schedule → ℤ → ℤ → ℤ → ℤ → List ℤ → List ℤ
 listed zero s a b c d e = e
-listed (suc n) s a b c d e = listed n s a b c d (numbersOf (listCall s a b c d e) e)
+listed (suc n) s a b c d e = listed n s a b c d (numbersAfter (listCall s a b c d e) e)
 
 -- of a book: one that is refused changes nothing
 abbrev pub listedOf : ℕ → Answer Schedule → ℤ → ℤ → ℤ → ℤ → List ℤ → List ℤ

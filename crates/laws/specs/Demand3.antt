@@ -15,7 +15,7 @@ use Rattle.model.specs.Answer.{Answer, gives, refuses, _>>=_}
 use Rattle.model.specs.Working.{Schedule}
 use Rattle.model.specs.Build.{build}
 use Rattle.model.specs.Walk.{Way, on, back, at, begun, timeFrom, timeBetween, search}
-use Rattle.model.specs.Calls.{Reply, betweenCall, moved, moveCall, between, add, sub}
+use Rattle.model.specs.Calls.{Reply, betweenCall, moved, moveCall, between, add, sub, said}
 use Rattle.laws.specs.Pairs.{Pair, nanos, IsInstant, IsDuration, shown}
 use Rattle.laws.specs.Zones.{Each, zonesOf, WithinDay}
 use Rattle.laws.specs.Diff.{diff, diff-add, diff-same, neg-pos, pos-diff, nat-diff}
@@ -31,10 +31,7 @@ pub record Given (p : Pair) : Type 0 where
   pub instant : IsInstant p
   pub since : negℤ (pos 377673580800) ≤ℤ p .sec
 
--- an answer's numbers. "Window counts stand outside demand 3."
-abbrev pub said : Answer Reply → Answer (List ℤ)
-said a = a >>= λ (r : Reply). gives (r .values)
-
+-- what is said of an answer is its numbers (`said`): "Window counts stand outside demand 3."
 module _ (book pack : List ℕ) where
   -- "Working time .. is the duration that `between` gives, signed .., and summed and compared in exact nanoseconds": from a to b it is w
   abbrev pub WorkingTime : Pair → Pair → ℤ → Type 0

@@ -15,11 +15,11 @@ use Rattle.model.specs.Answer.{Answer, gives}
 use Rattle.model.specs.Zone.{offsetAt}
 use Rattle.model.specs.Working.{Schedule}
 use Rattle.model.specs.Build.{build}
-use Rattle.model.specs.Calls.{between}
+use Rattle.model.specs.Calls.{between, said}
 use Rattle.model.specs.All.{everything}
 use Rattle.laws.specs.Pairs.{Pair, nanos, shown}
 use Rattle.laws.specs.Zones.{Each, WithinDay, usedIn, zonesOf}
-use Rattle.laws.specs.Demand3.{said, Given, WorkingTime, Demand3, demand-3}
+use Rattle.laws.specs.Demand3.{Given, WorkingTime, Demand3, demand-3}
 
 -- a default zone "z", and work on Mondays from 23:59:59.5 for 24 hours
 abbrev book : List ℕ

@@ -16,11 +16,11 @@ use Rattle.model.specs.Answer.{Answer, gives, refuses, _>>=_, orRefuse}
 use Rattle.model.specs.Working.{Schedule}
 use Rattle.model.specs.Build.{build}
 use Rattle.model.specs.Walk.{begun, timeFrom, timeBetween}
-use Rattle.model.specs.Calls.{betweenCall, between}
+use Rattle.model.specs.Calls.{betweenCall, between, said}
 use Rattle.laws.specs.Pairs.{Pair, IsInstant, shown}
 use Rattle.laws.specs.Edge.{at-shown, instant-at, Plain}
 use Rattle.laws.specs.Demand.{nothing, nothing-off}
-use Rattle.laws.specs.Demand3.{said, adding, takingOff, adding-is, taking-is}
+use Rattle.laws.specs.Demand3.{adding, takingOff, adding-is, taking-is}
 
 -- the same numbers with the other sign
 abbrev pub negative : Answer (List ℤ) → Answer (List ℤ)

@@ -16,7 +16,7 @@ use Rattle.model.specs.Basic.{isIn, joined}
 use Rattle.model.specs.Answer.{Answer, gives, refuses}
 use Rattle.model.specs.Blocks.{Block}
 use Rattle.model.specs.Build.{build}
-use Rattle.model.specs.Calls.{listCall, list}
+use Rattle.model.specs.Calls.{listCall, list, stretchCount, numbersAfter}
 use Rattle.model.specs.Instant.{second, firstInstant, lastInstant, isBelow0, secondFrom, instantOf}
 use Rattle.model.specs.Walk.{stretches}
 use Rattle.model.specs.Working.{Schedule}
@@ -31,7 +31,6 @@ use Rattle.build.specs.Read.{answerIs}
 use Rattle.build.specs.declared.Built.{Built}
 use Rattle.stretch.specs.Stretched.{placed, fields, stored}
 use Rattle.stretch.proofs.Placing.{numbers-long}
-use Rattle.listing.specs.Listings.{countOf, numbersOf}
 
 -- ---- instants
 
@@ -78,17 +77,17 @@ unfolding stored placed
 stored-all l e = let p : 0 + length (joined (map fields l)) ≡ 4 * length l = let q = numbers-long l in omega arith in ap (λ (k : ℕ). joined (map fields l) ++ drop k e) p
 
 module _ (s : Schedule) (a₁ a₂ b₁ b₂ : ℤ) (e : List ℤ) where
-  pub first-refused : instantOf a₁ a₂ ≡ refuses 8 0 → (refuses 8 0 ≡ countOf (listCall s a₁ a₂ b₁ b₂ e)) × (e ≡ numbersOf (listCall s a₁ a₂ b₁ b₂ e) e)
+  pub first-refused : instantOf a₁ a₂ ≡ refuses 8 0 → (refuses 8 0 ≡ stretchCount (listCall s a₁ a₂ b₁ b₂ e)) × (e ≡ numbersAfter (listCall s a₁ a₂ b₁ b₂ e) e)
   unfolding listCall
   first-refused p = rw p (refl, refl)
 
   module _ (lo hi : ℕ) (p : instantOf a₁ a₂ ≡ gives lo) where
-    pub second-refused : instantOf b₁ b₂ ≡ refuses 8 0 → (refuses 8 0 ≡ countOf (listCall s a₁ a₂ b₁ b₂ e)) × (e ≡ numbersOf (listCall s a₁ a₂ b₁ b₂ e) e)
+    pub second-refused : instantOf b₁ b₂ ≡ refuses 8 0 → (refuses 8 0 ≡ stretchCount (listCall s a₁ a₂ b₁ b₂ e)) × (e ≡ numbersAfter (listCall s a₁ a₂ b₁ b₂ e) e)
     unfolding listCall
     second-refused q = rw (p, q) (refl, refl)
 
     module _ (q : instantOf b₁ b₂ ≡ gives hi) {r : Bool} (c : r ≡ leb (4 * length (stretches s lo hi)) (length e)) (o : List ℤ) (k : o ≡ e) where
-      pub too-few : r ≡ false → (refuses 10 0 ≡ countOf (listCall s a₁ a₂ b₁ b₂ e)) × (o ≡ numbersOf (listCall s a₁ a₂ b₁ b₂ e) e)
+      pub too-few : r ≡ false → (refuses 10 0 ≡ stretchCount (listCall s a₁ a₂ b₁ b₂ e)) × (o ≡ numbersAfter (listCall s a₁ a₂ b₁ b₂ e) e)
       unfolding listCall
       too-few h = rw (p, q, sym c ∙ h) (refl, k)
 
@@ -96,7 +95,7 @@ module _ (s : Schedule) (a₁ a₂ b₁ b₂ : ℤ) (e : List ℤ) where
       enough h = rw k (leb-true (4 * length (stretches s lo hi)) (length e) (sym c ∙ h))
 
       pub written : r ≡ true → (m : ℕ) → m ≡ length (stretches s lo hi) → (o′ : List ℤ) → o′ ≡ stored true 0 (stretches s lo hi) o
-          → (gives m ≡ countOf (listCall s a₁ a₂ b₁ b₂ e)) × (o′ ≡ numbersOf (listCall s a₁ a₂ b₁ b₂ e) e)
+          → (gives m ≡ stretchCount (listCall s a₁ a₂ b₁ b₂ e)) × (o′ ≡ numbersAfter (listCall s a₁ a₂ b₁ b₂ e) e)
       unfolding listCall
       written h m d o′ v =
           rw (p, q, sym c ∙ h)
@@ -105,15 +104,15 @@ module _ (s : Schedule) (a₁ a₂ b₁ b₂ : ℤ) (e : List ℤ) where
 -- ---- from the bytes
 
 module _ (b p : List ℕ) (r : Built) (h : answerIs b p r ≡ build b p) (a₁ a₂ b₁ b₂ : ℤ) (e : List ℤ) where
-  pub build-refused : (r .number ≡ 0 → ⊥) → (refuses (r .number) (r .place) ≡ countOf (list b p a₁ a₂ b₁ b₂ e)) × (e ≡ numbersOf (list b p a₁ a₂ b₁ b₂ e) e)
+  pub build-refused : (r .number ≡ 0 → ⊥) → (refuses (r .number) (r .place) ≡ stretchCount (list b p a₁ a₂ b₁ b₂ e)) × (e ≡ numbersAfter (list b p a₁ a₂ b₁ b₂ e) e)
   build-refused n = let q : refuses (r .number) (r .place) ≡ build b p = rw (ne-eqb (r .number) 0 n) at h in rw (← q) (refl, refl)
 
   pub build-gives : r .number ≡ 0 → SFits w64 a₁ → SFits w64 a₂ → SFits w64 b₁ → SFits w64 b₂ → {x : Answer ℕ} {o : List ℤ}
-      → (x ≡ countOf (listCall (scheduleIs b p (r .schedule)) (toZ w64 (ofZ w64 a₁)) (toZ w64 (ofZ w64 a₂)) (toZ w64 (ofZ w64 b₁)) (toZ w64 (ofZ w64 b₂)) e))
-      × (o ≡ numbersOf (listCall (scheduleIs b p (r .schedule)) (toZ w64 (ofZ w64 a₁)) (toZ w64 (ofZ w64 a₂)) (toZ w64 (ofZ w64 b₁)) (toZ w64 (ofZ w64 b₂)) e) e)
-      → (x ≡ countOf (list b p a₁ a₂ b₁ b₂ e)) × (o ≡ numbersOf (list b p a₁ a₂ b₁ b₂ e) e)
+      → (x ≡ stretchCount (listCall (scheduleIs b p (r .schedule)) (toZ w64 (ofZ w64 a₁)) (toZ w64 (ofZ w64 a₂)) (toZ w64 (ofZ w64 b₁)) (toZ w64 (ofZ w64 b₂)) e))
+      × (o ≡ numbersAfter (listCall (scheduleIs b p (r .schedule)) (toZ w64 (ofZ w64 a₁)) (toZ w64 (ofZ w64 a₂)) (toZ w64 (ofZ w64 b₁)) (toZ w64 (ofZ w64 b₂)) e) e)
+      → (x ≡ stretchCount (list b p a₁ a₂ b₁ b₂ e)) × (o ≡ numbersAfter (list b p a₁ a₂ b₁ b₂ e) e)
   build-gives n f₁ f₂ g₁ g₂ {x} {o} y =
       let q : gives (scheduleIs b p (r .schedule)) ≡ build b p = rw (eq-eqb (r .number) 0 n) at h in
-      let z : (x ≡ countOf (listCall (scheduleIs b p (r .schedule)) a₁ a₂ b₁ b₂ e)) × (o ≡ numbersOf (listCall (scheduleIs b p (r .schedule)) a₁ a₂ b₁ b₂ e) e)
+      let z : (x ≡ stretchCount (listCall (scheduleIs b p (r .schedule)) a₁ a₂ b₁ b₂ e)) × (o ≡ numbersAfter (listCall (scheduleIs b p (r .schedule)) a₁ a₂ b₁ b₂ e) e)
       = rw (toZ-ofZ f₁, toZ-ofZ f₂, toZ-ofZ g₁, toZ-ofZ g₂) at y in
       rw (← q) z

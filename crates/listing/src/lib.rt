@@ -6,7 +6,7 @@ ghost use Prim.Native.Nat.{_+_, _*_, _-_, _≤_, min};
 ghost use lib.Dec.{leb};
 ghost use lib.ListN.{length};
 ghost use Rattle.instant.specs.Instant.{nanos};
-ghost use Rattle.model.specs.Calls.{listCall};
+ghost use Rattle.model.specs.Calls.{listCall, stretchCount, numbersAfter};
 ghost use Rattle.model.specs.Calls as model;
 ghost use Rattle.model.specs.Instant.{week};
 ghost use Rattle.model.specs.Walk.{begun, stretches};
@@ -14,7 +14,7 @@ ghost use Rattle.rules.specs.Rules.{scheduleIs, ScheduleFits};
 ghost use Rattle.dates.specs.Dates.{InRange};
 ghost use Rattle.stretch.specs.Stretched.{stored};
 ghost use Rattle.week.specs.Room.{room};
-ghost use Rattle.listing.specs.Listings.{listingIs, countOf, numbersOf};
+ghost use Rattle.listing.specs.Listings.{listingIs};
 use blocks::Block;
 use edge::InstantRead;
 use instant::Instant;
@@ -173,7 +173,7 @@ pub fn list_in(
     out: &mut [i64],
 ) -> Listing
     requires { ⌜ ScheduleFits (now book) (now pack) s ⌝ }
-    ensures { λ r. ⌜ (listingIs r ≡ countOf (listCall (scheduleIs (now (book .entry)) (now (pack .entry)) s) «a_sec» «a_ns» «b_sec» «b_ns» (now (out .entry)))) × (now (out .exit) ≡ numbersOf (listCall (scheduleIs (now (book .entry)) (now (pack .entry)) s) «a_sec» «a_ns» «b_sec» «b_ns» (now (out .entry))) (now (out .entry))) ⌝ }
+    ensures { λ r. ⌜ (listingIs r ≡ stretchCount (listCall (scheduleIs (now (book .entry)) (now (pack .entry)) s) «a_sec» «a_ns» «b_sec» «b_ns» (now (out .entry)))) × (now (out .exit) ≡ numbersAfter (listCall (scheduleIs (now (book .entry)) (now (pack .entry)) s) «a_sec» «a_ns» «b_sec» «b_ns» (now (out .entry))) (now (out .entry))) ⌝ }
 {
     let InstantRead::At(a) = edge::instant_of(a_sec, a_ns) else {
         return Listing::Refused(8, 0);
@@ -198,7 +198,7 @@ pub fn list(
     b_ns: i64,
     out: &mut [i64],
 ) -> Listing
-    ensures { λ r. ⌜ (listingIs r ≡ countOf (model.list (now (book .entry)) (now (pack .entry)) «a_sec» «a_ns» «b_sec» «b_ns» (now (out .entry)))) × (now (out .exit) ≡ numbersOf (model.list (now (book .entry)) (now (pack .entry)) «a_sec» «a_ns» «b_sec» «b_ns» (now (out .entry))) (now (out .entry))) ⌝ }
+    ensures { λ r. ⌜ (listingIs r ≡ stretchCount (model.list (now (book .entry)) (now (pack .entry)) «a_sec» «a_ns» «b_sec» «b_ns» (now (out .entry)))) × (now (out .exit) ≡ numbersAfter (model.list (now (book .entry)) (now (pack .entry)) «a_sec» «a_ns» «b_sec» «b_ns» (now (out .entry))) (now (out .entry))) ⌝ }
 {
     let built = build::build(book, pack);
     if built.number != 0 {

@@ -1,13 +1,14 @@
 -- The calls, over signed numbers. Document 01, "Schedule and its answers"; "Refusals": "8; 9; the operation's own 6, 7 or 10".
+use mathlib.Core.Path.{_≡_}
 use mathlib.Core.Option.{Option, none, some}
 use mathlib.Core.List.{List, _++_, map}
-use Prim.Native.Nat.{ℕ, _+_, _*_, _-_, min, max}
+use Prim.Native.Nat.{ℕ, _+_, _*_, _-_, _≤_, min, max}
 use lib.Dec.{leb, ltb}
 use lib.ListN.{length, drop}
 use lib.IntN.{ℤ}
 use Rattle.model.specs.Basic.{if_then_else_, given, joined}
 use Rattle.model.specs.Instant.{instantOf, instant, durationOf, duration, negated}
-use Rattle.model.specs.Answer.{Answer, gives, _>>=_, orRefuse}
+use Rattle.model.specs.Answer.{Answer, gives, refuses, _>>=_, orRefuse}
 use Rattle.model.specs.Blocks.{Block}
 use Rattle.model.specs.Working.{Schedule}
 use Rattle.model.specs.Build.{build}
@@ -88,6 +89,44 @@ previousPeriod book pack t₁ t₂ = build book pack >>= λ s. periodCall back s
 
 abbrev pub list : List ℕ → List ℕ → ℤ → ℤ → ℤ → ℤ → List ℤ → Answer Listing
 list book pack a₁ a₂ b₁ b₂ lent = build book pack >>= λ s. listCall s a₁ a₂ b₁ b₂ lent
+
+-- ---- what a call promises of its answer: its numbers, its count of windows, the lent numbers afterwards
+
+-- an answer's numbers, without the count of windows; or the refusal's number and place
+abbrev pub said : Answer Reply → Answer (List ℤ)
+said a = a >>= λ (r : Reply). gives (r .values)
+
+abbrev leastIn : Option (ℕ × ℕ) → ℕ
+leastIn none = 0
+leastIn (some b) = b .0
+
+abbrev mostIn : Option (ℕ × ℕ) → ℕ
+mostIn none = 0
+mostIn (some b) = b .1
+
+-- "at least one for each window that may not be skipped"
+abbrev pub leastOf : Answer Reply → ℕ
+leastOf (gives r) = leastIn (r .windows)
+leastOf (refuses n p) = 0
+
+-- "at most one for each begun seven days from start to answer"
+abbrev pub mostOf : Answer Reply → ℕ
+mostOf (gives r) = mostIn (r .windows)
+mostOf (refuses n p) = 0
+
+-- a count of windows keeps both bounds. Document 01 asks for the bounds alone; the code resolves just the windows that may not be skipped
+pub record Windows (count : ℕ) (a : Answer Reply) : Type 0 where
+  pub least : count ≡ leastOf a
+  pub most : count ≤ mostOf a
+
+-- "It returns how many stretches"
+abbrev pub stretchCount : Answer Listing → Answer ℕ
+stretchCount a = a >>= λ (l : Listing). gives (l .count)
+
+-- the lent numbers afterwards: those of the answer; where it refuses, "all lent memory is left alone"
+abbrev pub numbersAfter : Answer Listing → List ℤ → List ℤ
+numbersAfter (gives l) lent = l .numbers
+numbersAfter (refuses n p) lent = lent
 
 unfoldable pub calls : Unit {0}
 unfolding betweenCall moved moveCall periodCall listCall

@@ -8,6 +8,7 @@ pub mod Pack
 pub mod Footer
 pub mod Tzif
 pub mod Zone
+pub mod NextChange
 pub mod Book
 pub mod Blocks
 pub mod Working

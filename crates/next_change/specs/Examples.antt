@@ -11,7 +11,7 @@ use Rattle.model.specs.Footer.{Turn, month, empty, rules}
 use Rattle.model.specs.Tzif.{Zone, Change, zoneOf}
 use Rattle.model.specs.All.{everything}
 use Rattle.laws_zone.specs.Grammar.{FooterFits}
-use Rattle.next_change.specs.NextChange.{firstOf, nextChange}
+use Rattle.model.specs.NextChange.{firstOf, nextChange}
 use Rattle.next_change.specs.NextLaws.{steady-next, steady-never}
 
 abbrev change : ℕ → ℕ → Change

@@ -1,3 +1,3 @@
-pub mod NextChange
+pub mod NextIs
 pub mod NextLaws
 pub mod Examples

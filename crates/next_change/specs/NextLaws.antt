@@ -14,7 +14,7 @@ use Rattle.laws_base.specs.Test.{by-test, clash}
 use Rattle.laws_zone.specs.Changes.{steady-same}
 use Rattle.laws_zone.specs.Grammar.{FooterFits}
 use Rattle.laws_zone.specs.Runs.{Run}
-use Rattle.next_change.specs.NextChange.{lastSecond, firstOf, nextChange}
+use Rattle.model.specs.NextChange.{lastSecond, firstOf, nextChange}
 
 -- what an answer says of the offsets `off`
 pub data Says (off : ℕ → ℕ) (u : ℕ) : Option ℕ → Type 0 where

@@ -1,7 +1,8 @@
 // The next change of a zone's offset after a second. Seconds are counted from -10400-01-01T00:00:00Z.
 ghost use mathlib.Core.Path.{_≡_};
 ghost use Rattle.zone.specs.Zones.{meant, ZoneOk};
-ghost use Rattle.next_change.specs.NextChange.{nextChange, theNext};
+ghost use Rattle.model.specs.NextChange.{nextChange};
+ghost use Rattle.next_change.specs.NextIs.{theNext};
 use zone::Zone;
 
 // The second of the next change; none up to the range's end.

@@ -14,9 +14,8 @@ use Rattle.model.specs.Blocks.{total}
 use Rattle.model.specs.Working.{Schedule, working}
 use Rattle.model.specs.Walk.{Way, on, back, at, reach, begun, timeFrom, timeBetween, ahead, search}
 use Rattle.model.specs.Skip.{repeats, neededBetween, neededSearch, anyTime, someTime}
-use Rattle.model.specs.Calls.{Reply, betweenCall, moved, moveCall, turned}
+use Rattle.model.specs.Calls.{Reply, betweenCall, moved, moveCall, turned, said, Windows}
 use Rattle.model.specs.Build.{build}
-use Rattle.laws.specs.Demand3.{said}
 use Rattle.laws_blocks.specs.Count.{span, cnt, bit}
 use Rattle.laws_blocks.specs.Totals.{lists-total}
 use Rattle.laws_blocks.specs.Members.{covers}
@@ -34,7 +33,7 @@ use Rattle.walk.specs.declared.Reached.{Reached}
 use Rattle.walk.specs.declared.Reached.the-variants as R
 use Rattle.schedule.specs.declared.Moved.{Moved}
 use Rattle.schedule.specs.declared.Moved.the-variants as M
-use Rattle.schedule.specs.Answers.{Windows, movedIs, movedCount}
+use Rattle.schedule.specs.Answers.{movedIs, movedCount}
 
 -- ---- the working time between two instants is no more than the time between them
 

@@ -1,13 +1,10 @@
 -- What the answers of the calls say: document 01's numbers for each case, as the definitions' answers list them. The contracts are equations with
 -- `between`, `add` and `sub` of the definitions (Calls.antt of crate `model`). Those are the very calls of which theorem `demand-3` speaks
--- (Demand3.antt of crate `laws`), and `said` here is the one there: so demand 3 holds of what the code answers.
-use mathlib.Core.Path.{_≡_}
-use mathlib.Core.Option.{Option, none, some}
+-- (Demand3.antt of crate `laws`): so demand 3 holds of what the code answers.
 use mathlib.Core.List.{List, [], _∷_}
-use Prim.Native.Nat.{ℕ, _≤_}
+use Prim.Native.Nat.{ℕ}
 use lib.IntN.{ℤ}
 use Rattle.model.specs.Answer.{Answer, gives, refuses}
-use Rattle.model.specs.Calls.{Reply}
 use Rattle.schedule.specs.declared.TimeAnswer.{TimeAnswer}
 use Rattle.schedule.specs.declared.TimeAnswer.the-variants as T
 use Rattle.schedule.specs.declared.AddAnswer.{AddAnswer}
@@ -50,28 +47,3 @@ subIs (S.Refused n p) = refuses n p
 abbrev pub subCount : SubAnswer → ℕ
 subCount (S.At s n c) = c
 subCount (S.Refused n p) = 0
-
--- ---- the bounds on the count of windows
-
-abbrev leastIn : Option (ℕ × ℕ) → ℕ
-leastIn none = 0
-leastIn (some b) = b .0
-
-abbrev mostIn : Option (ℕ × ℕ) → ℕ
-mostIn none = 0
-mostIn (some b) = b .1
-
--- "at least one for each window that may not be skipped"
-abbrev pub leastOf : Answer Reply → ℕ
-leastOf (gives r) = leastIn (r .windows)
-leastOf (refuses n p) = 0
-
--- "at most one for each begun seven days from start to answer"
-abbrev pub mostOf : Answer Reply → ℕ
-mostOf (gives r) = mostIn (r .windows)
-mostOf (refuses n p) = 0
-
--- a count of windows keeps both bounds. Document 01 asks for the bounds alone; the code resolves just the windows that may not be skipped
-pub record Windows (count : ℕ) (a : Answer Reply) : Type 0 where
-  pub least : count ≡ leastOf a
-  pub most : count ≤ mostOf a

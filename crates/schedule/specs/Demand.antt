@@ -8,11 +8,11 @@ use lib.Signed.{_≤ℤ_, _<ℤ_}
 use Rattle.model.specs.Answer.{gives, refuses}
 use Rattle.model.specs.Working.{Schedule}
 use Rattle.model.specs.Build.{build}
-use Rattle.model.specs.Calls.{between, add, sub}
+use Rattle.model.specs.Calls.{between, add, sub, said}
 use Rattle.laws.specs.Pairs.{Pair, nanos, IsInstant, IsDuration, shown}
 use Rattle.laws.specs.Zones.{Each, zonesOf, WithinDay}
 use Rattle.laws.specs.Demand3 as laws
-use Rattle.laws.specs.Demand3.{Given, said, demand-3}
+use Rattle.laws.specs.Demand3.{Given, demand-3}
 use Rattle.schedule.specs.declared.TimeAnswer.{TimeAnswer}
 use Rattle.schedule.specs.declared.AddAnswer.{AddAnswer}
 use Rattle.schedule.specs.declared.SubAnswer.{SubAnswer}

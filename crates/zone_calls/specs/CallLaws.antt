@@ -30,7 +30,8 @@ use Rattle.zone.specs.Zones.{meant, zoneRead}
 use Rattle.zone.specs.declared.Zone.{Zone}
 use Rattle.zone.specs.declared.ZoneRead.{ZoneRead}
 use Rattle.zone.specs.declared.ZoneRead.the-variants as Z
-use Rattle.next_change.specs.NextChange.{nextChange, theNext}
+use Rattle.model.specs.NextChange.{nextChange}
+use Rattle.next_change.specs.NextIs.{theNext}
 use Rattle.next_change.specs.NextLaws.{next-in}
 use Rattle.next_change.specs.declared.Next.{Next}
 use Rattle.next_change.specs.declared.Next.the-variants as N

@@ -10,7 +10,7 @@ use Rattle.civil.specs.declared.DayRead.the-variants as D
 use Rattle.civil.specs.declared.TimeRead.{TimeRead}
 use Rattle.civil.specs.declared.TimeRead.the-variants as T
 use Rattle.edge.specs.Reads.{ofNanos, secondsFrom}
-use Rattle.next_change.specs.NextChange.{nextChange}
+use Rattle.model.specs.NextChange.{nextChange}
 use Rattle.zone_calls.specs.declared.ChangeRead.{ChangeRead}
 use Rattle.zone_calls.specs.declared.ChangeRead.the-variants as C
 use Rattle.zone_calls.specs.declared.OffsetRead.{OffsetRead}

@@ -11,7 +11,8 @@ use borrow.Author.Tests.{lt-ltb, le-ltb, le-leb, lt-leb}
 use Rattle.be.specs.Be.{be64}
 use Rattle.be.specs.Walk.{both, pickN, countOf}
 use Rattle.model.specs.Zone.{secondOf}
-use Rattle.next_change.specs.NextChange.{nextChange, theNext}
+use Rattle.model.specs.NextChange.{nextChange}
+use Rattle.next_change.specs.NextIs.{theNext}
 use Rattle.next_change.specs.declared.Next.{Next}
 use Rattle.next_change.specs.declared.Next.the-variants as N
 use Rattle.zone.specs.Zones.{meant}

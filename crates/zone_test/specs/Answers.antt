@@ -8,7 +8,7 @@ use Rattle.be.specs.Be.{be64}
 use Rattle.be.specs.Walk.{both}
 use Rattle.model.specs.Basic.{if_then_else_}
 use Rattle.model.specs.Zone.{secondOf}
-use Rattle.next_change.specs.NextChange.{nextChange}
+use Rattle.model.specs.NextChange.{nextChange}
 use Rattle.zone.specs.Zones.{meant}
 use Rattle.zone.specs.declared.Zone.{Zone}
 

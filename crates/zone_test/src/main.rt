@@ -6,7 +6,7 @@ ghost use mathlib.Core.Path.{_≡_};
 ghost use Prim.Native.Nat.{_≤_, _<_};
 ghost use Rattle.be.specs.Walk.{countOf};
 ghost use Rattle.zone.specs.Zones.{meant, ZoneOk};
-ghost use Rattle.next_change.specs.NextChange.{nextChange};
+ghost use Rattle.model.specs.NextChange.{nextChange};
 ghost use Rattle.zone_test.specs.Answers.{localAt, answerAt, isNext, agreesAt};
 use libc::STDOUT_FILENO;
 use next_change::Next;
