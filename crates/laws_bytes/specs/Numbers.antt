@@ -7,25 +7,23 @@ use mathlib.Core.List.{List, [], _∷_, _++_, map, append-nil}
 use Prim.Native.Nat.{ℕ, zero, suc, _+_, _-_, _/_, _%_, _^_, _≤_, _<_}
 use native.Mathlib.Nat.{not-suc-le-zero}
 use native.Mathlib.Omega.{arith}
-use lib.Dec.{leb, ltb, eqb}
+use lib.Dec.{ltb, eqb}
 use lib.ListN.{length, drop}
 use lib.IntN.{ℤ, pos, negsuc}
 use mir.Syntax.{w64}
 use mir.Val.{SFits}
-use borrow.Author.Tests.{leb-true, ltb-true, lt-ltb, le-leb, ne-eqb}
+use borrow.Author.Tests.{ltb-true, lt-ltb, le-leb, ne-eqb}
 use Rattle.model.specs.Basic.{if_then_else_, isIn, all, each, joined}
 use Rattle.model.specs.Lines.{fieldsOf, decimalFrom, magnitude, numberOf, digitsFrom, shown}
 use Rattle.model.specs.Instant.{signed}
-use Rattle.laws_base.specs.Test.{by-test, and-both, both-and, clash}
+use Rattle.laws_base.specs.Test.{by-test, clash, in-bounds, within, all-head}
 
 digit-passes : (n : ℕ) → n < 10 → isIn 48 57 (48 + n) ≡ true
-digit-passes n h = both-and (leb 48 (48 + n)) (leb (48 + n) 57) (le-leb 48 (48 + n) (omega arith)) (le-leb (48 + n) 57 (omega arith))
+digit-passes n h = within 48 57 (48 + n) (omega arith) (omega arith)
 
 -- a digit is no byte below 48
 digit-apart : (c m : ℕ) → isIn 48 57 c ≡ true → m < 48 → eqb c m ≡ false
-digit-apart c m e h =
-    let b : 48 ≤ c = leb-true 48 c (and-both (leb 48 c) (leb c 57) e .0) in
-    ne-eqb c m (λ p. omega (arith, p))
+digit-apart c m e h = ne-eqb c m (λ p. omega (arith, p, in-bounds 48 57 c e .0))
 
 -- the digits of n before l write n, and are digits
 digits-write : (k n : ℕ) (l : List ℕ) → n < 10 ^ k → decimalFrom 0 (digitsFrom k n l) ≡ decimalFrom n l
@@ -62,12 +60,9 @@ digits-more k n l =
 
 -- digits are no minus
 plain : (s : List ℕ) → all (isIn 48 57) s ≡ true → 0 < length s → numberOf s ≡ magnitude false s
-unfolding numberOf all
+unfolding numberOf
 plain [] h k = absurd (not-suc-le-zero k)
-plain (c ∷ s) h k =
-    by-test (isIn 48 57 c)
-    (λ e. rw (digit-apart c 45 e (omega arith)))
-    (λ e. clash false (rw e at h) refl)
+plain (c ∷ s) h k = rw (digit-apart c 45 (all-head (isIn 48 57) c s h .0) (omega arith))
 
 -- the digits of n as a field, with a minus or without
 read-digits : (minus : Bool) (n : ℕ) → n ≤ (if minus then 2 ^ 63 else 2 ^ 63 - 1) → magnitude minus (digitsFrom 20 n []) ≡ some (signed minus n)
@@ -109,10 +104,7 @@ front (c ∷ w) s x xs h e =
 no-spaces : (s : List ℕ) → all (isIn 48 57) s ≡ true → noSpace s ≡ true
 unfolding all
 no-spaces [] h = refl
-no-spaces (c ∷ s) h =
-    by-test (isIn 48 57 c)
-    (λ e. rw (digit-apart c 32 e (omega arith)) (no-spaces s (rw e at h)))
-    (λ e. clash false (rw e at h) refl)
+no-spaces (c ∷ s) h = let p = all-head (isIn 48 57) c s h in rw (digit-apart c 32 (p .0) (omega arith)) (no-spaces s (p .1))
 
 field-spaces : (z : ℤ) → noSpace (field z) ≡ true
 unfolding shown all
