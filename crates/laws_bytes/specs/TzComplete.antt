@@ -290,6 +290,7 @@ daylight-gives {std} a s b t x y n o m d g h =
     rw (e, name-gives a (s ++ z) n (offset-no-letter s z o), offset-gives s z o (name-free b (t ++ 44 ∷ (x ++ 44 ∷ y)) m), name-more b (t ++ 44 ∷ (x ++ 44 ∷ y)) m)
     (ahead-gives std b t x y m d g h)
 
+-- where the grammar derives a text with a value, `footerOf` gives it
 pub tz-complete : (s : List ℕ) (f : Footer) → TzString s f → footerOf s ≡ some f
 unfolding footerOf
 tz-complete s f TzString.nothing = refl

@@ -55,6 +55,7 @@ Behind k p w n = Decimal (p ++ w) n × (length w ≤ k)
 behind-none : (k v : ℕ) (p s : List ℕ) → Decimal p v → Reads (Behind k p) s (some (v, s))
 behind-none k v p s d = reads {a = v} [] s refl (rw append-nil d, omega arith)
 
+-- a digit more, and a digit alone
 one-more : (c v : ℕ) (p : List ℕ) → isDigit c ≡ true → Decimal p v → Decimal (p ++ c ∷ []) (v * 10 + (c - 48))
 one-more c v p e d =
     let b = in-bounds 48 57 c e in
@@ -319,6 +320,7 @@ value-of : (s : List ℕ) (f : Footer) (o : Option (Footer × List ℕ)) → Rea
 value-of s f none h e = absurd (Option·none-ne-some f e)
 value-of s f (some x) (reads w r p g) e = rw (Option·some-injective _ _ e) at g
 
+-- where `footerOf` gives a value, the grammar derives the text with it
 pub tz-sound : (s : List ℕ) (f : Footer) → footerOf s ≡ some f → TzString s f
 unfolding footerOf
 tz-sound [] f e = rw (← Option·some-injective _ _ e) TzString.nothing
