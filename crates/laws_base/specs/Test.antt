@@ -1,10 +1,13 @@
 -- Laws of tests: cases on a Bool, and what a passed test says.
 use mathlib.Core.Path.{_≡_, refl}
 use mathlib.Core.Bool.{Bool, true, false, not, _&&_, _||_}
+use mathlib.Core.List.{List, _∷_}
 use mathlib.Core.Logic.{_⊎_, inl, inr}
-use Prim.Native.Nat.{ℕ}
+use Prim.Native.Nat.{ℕ, _≤_}
 use native.Mathlib.Omega.{arith}
-use lib.Dec.{T}
+use lib.Dec.{T, leb}
+use borrow.Author.Tests.{leb-true, le-leb}
+use Rattle.model.specs.Basic.{isIn, all}
 
 -- a test passes or fails; `rw` then opens what it decides
 pub by-test : {P : Type 0} (b : Bool) → (b ≡ true → P) → (b ≡ false → P) → P
@@ -45,3 +48,15 @@ not-true false e = refl
 pub true-not : (b : Bool) → b ≡ false → not b ≡ true
 true-not true e = clash true refl e
 true-not false e = refl
+
+-- a number between two others
+pub in-bounds : (lo hi n : ℕ) → isIn lo hi n ≡ true → (lo ≤ n) × (n ≤ hi)
+in-bounds lo hi n e = let b = and-both (leb lo n) (leb n hi) e in (leb-true lo n (b .0), leb-true n hi (b .1))
+
+pub within : (lo hi n : ℕ) → lo ≤ n → n ≤ hi → isIn lo hi n ≡ true
+within lo hi n h k = both-and (leb lo n) (leb n hi) (le-leb lo n h) (le-leb n hi k)
+
+-- a list all of which passes: its first, and the rest
+pub all-head : {A : Type 0} (t : A → Bool) (a : A) (l : List A) → all t (a ∷ l) ≡ true → (t a ≡ true) × (all t l ≡ true)
+unfolding all
+all-head t a l h = by-test (t a) (λ e. (e, rw e at h)) (λ e. clash false (rw e at h) refl)

@@ -13,13 +13,13 @@ use Rattle.model.specs.Tzif.{Zone}
 use Rattle.model.specs.Zone.{steady}
 use Rattle.model.specs.Working.{Holidays, Schedule, holidayRule, localDay, firstDate, lastDate}
 use Rattle.model.specs.Skip.{ruleSteady, noneNear, repeats}
-use Rattle.laws_base.specs.Test.{by-test, and-both, both-and, clash, not-true, true-not}
+use Rattle.laws_base.specs.Test.{by-test, and-both, both-and, clash, not-true, true-not, all-head}
 use Rattle.laws_zone.specs.Changes.{any-none, none-any, same-steady}
 use Rattle.laws_zone.specs.Sound.{Sound}
 use Rattle.laws.specs.Zones.{Each}
 use Rattle.laws.specs.Windows.{RuleOk, OfRules}
 use Rattle.laws.specs.Local.{off-low, off-high, day-is, first-near, first-upto, last-near, last-from}
-use Rattle.laws_skip.specs.Steady.{all-head, each-apart, each-both}
+use Rattle.laws_skip.specs.Steady.{each-apart, each-both}
 
 -- the borders from t to u, whole weeks apart
 unfoldable pub repeatsTo : Schedule → ℕ → ℕ → Bool

@@ -18,7 +18,7 @@ use Rattle.model.specs.Book.{Hours}
 use Rattle.model.specs.Blocks.{Block, put, clipped, union, subtract}
 use Rattle.model.specs.Working.{Rule, Holidays, Schedule, shiftRule, holidayRule, firstDate, lastDate, localDates, startOf, endOf, blocksOf, blocksOfAll, working}
 use Rattle.model.specs.Skip.{ruleSteady, noneNear, repeats}
-use Rattle.laws_base.specs.Test.{by-test, and-both, clash, not-true}
+use Rattle.laws_base.specs.Test.{by-test, and-both, clash, not-true, all-head}
 use Rattle.laws_base.specs.Members.{any-in}
 use Rattle.laws_zone.specs.Changes.{any-none}
 use Rattle.laws_zone.specs.Sound.{Sound}
@@ -287,10 +287,6 @@ module _ (r : Rule) (ok : RuleOk r) (S E : ℕ) (low : firstInstant ≤ S) (up :
       shown-nothing (r .on) (pieceOn r lo hi) (y + 1 - x) x (λ k i j p. date-none k (omega arith) (omega arith) (far k p))
 
 -- ---- a schedule
-
-pub all-head : {A : Type 0} (t : A → Bool) (a : A) (l : List A) → all t (a ∷ l) ≡ true → (t a ≡ true) × (all t l ≡ true)
-unfolding all
-all-head t a l h = by-test (t a) (λ e. (e, rw e at h)) (λ e. clash false (rw e at h) refl)
 
 all-append : {A : Type 0} (t : A → Bool) (l k : List A) → all t (l ++ k) ≡ true → (all t l ≡ true) × (all t k ≡ true)
 unfolding all

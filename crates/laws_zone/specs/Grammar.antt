@@ -1,112 +1,45 @@
 -- What the grammar of footers gives: offsets from -93,599 s to 93,599 s (kept with 93,600 added), and turns that fit.
-use mathlib.Core.Path.{_≡_, refl}
-use mathlib.Core.Bool.{Bool, true, false, not}
-use mathlib.Core.Option.{Option, none, some}
-use mathlib.Core.List.{List, [], _∷_}
+use mathlib.Core.Path.{_≡_}
+use mathlib.Core.Option.{some}
+use mathlib.Core.List.{List}
 use Prim.Native.Nat.{ℕ, _≤_}
 use native.Mathlib.Omega.{arith}
-use lib.Dec.{leb, leb→le}
-use Rattle.model.specs.Basic.{if_then_else_, isIn}
-use Rattle.model.specs.Footer.{Footer, empty, fixed, rules, Parser, after, pure, only, has, byte, atEnd, isDigit, digits, number, sixty, clock, name, offset, monthText, dayText, turnText, daylightText, footerText, parsed, footerOf}
-use Rattle.laws_base.specs.Test.{by-test, and-both, test-of}
+use Rattle.model.specs.Footer.{Day, Turn, Footer, empty, fixed, rules, footerOf}
+use Rattle.laws_bytes.specs.TzGrammar.{Number, number, Sixty, sixty, Clock, hours, minutes, seconds, Offset, unsigned, west, east, Date, dateJ, dateN, dateM, Rule, untimed, timed, Ahead, hour, written, TzString, standard, daylight}
+use Rattle.laws_bytes.specs.TzSound.{tz-sound}
 use Rattle.laws_zone.specs.Turns.{DayFits, TurnFits}
-
--- what a parser gives, if anything, has P
-data Gives {A : Type 0} (P : A → Type 0) : Option (A × List ℕ) → Type 0 where
-  nothing : Gives P none
-  value : {a : A} {s : List ℕ} → P a → Gives P (some (a, s))
-
--- one parser behind another
-next : {A B : Type 0} {P : A → Type 0} {Q : B → Type 0} {f : A → Parser B} (o : Option (A × List ℕ)) → Gives P o → ((a : A) → P a → (s : List ℕ) → Gives Q (f a s)) → Gives Q (after o f)
-next none h k = nothing
-next (some r) (value h) k = k (r .0) h (r .1)
-
--- nothing is claimed of what is given
-abbrev Any : {A : Type 0} → A → Type 0
-Any a = Unit {0}
-
-anything : {A : Type 0} (o : Option (A × List ℕ)) → Gives Any o
-anything none = nothing
-anything (some r) = value tt
-
-tested : {A : Type 0} {P : A → Type 0} (c : Bool) (a : A) (s : List ℕ) → (c ≡ true → P a) → Gives P (only c a s)
-tested true a s h = value (h refl)
-tested false a s h = nothing
-
-choose : {A : Type 0} {P : A → Type 0} (c : Bool) (p q : Parser A) (s : List ℕ) → Gives P (p s) → Gives P (q s) → Gives P ((if c then p else q) s)
-choose true p q s h k = h
-choose false p q s h k = k
-
-in-bounds : (lo hi n : ℕ) → isIn lo hi n ≡ true → (lo ≤ n) × (n ≤ hi)
-in-bounds lo hi n e =
-    let b = and-both (leb lo n) (leb n hi) e in
-    (leb→le lo n (test-of (leb lo n) (b .0)), leb→le n hi (test-of (leb n hi) (b .1)))
 
 abbrev Bounds : ℕ → ℕ → ℕ → Type 0
 Bounds lo hi n = (lo ≤ n) × (n ≤ hi)
 
-number-in : (k lo hi : ℕ) (s : List ℕ) → Gives (Bounds lo hi) (number k lo hi s)
-unfolding number
-number-in k lo hi [] = nothing
-number-in k lo hi (c ∷ s) =
-    by-test (isDigit c)
-    (λ e. rw e (next (digits k 0 (c ∷ s)) (anything _) (λ n _ r. tested (isIn lo hi n) n r (in-bounds lo hi n))))
-    (λ e. rw e nothing)
+number-in : {k lo hi n : ℕ} {s : List ℕ} → Number k lo hi s n → Bounds lo hi n
+number-in (number d h l u) = (l, u)
 
-sixty-in : (s : List ℕ) → Gives (Bounds 0 59) (sixty s)
-unfolding sixty
-sixty-in s =
-    next (number 1 0 5 s) (number-in 1 0 5 s) (λ a p r.
-    next (number 1 0 9 r) (number-in 1 0 9 r) (λ b q t.
-    value (omega arith, omega arith)))
+sixty-in : {n : ℕ} {s : List ℕ} → Sixty s n → n ≤ 59
+sixty-in (sixty d h u) = u
 
-clock-in : (s : List ℕ) → Gives (Bounds 0 89999) (clock s)
-unfolding clock
-clock-in s =
-    next (number 2 0 24 s) (number-in 2 0 24 s) (λ h p r.
-    next (has 58 r) (anything (has 58 r)) (λ m _ r.
-    choose (not m) _ _ r (value (omega arith, omega arith))
-    (next (sixty r) (sixty-in r) (λ n q r.
-    next (has 58 r) (anything (has 58 r)) (λ x _ r.
-    choose (not x) _ _ r (value (omega arith, omega arith))
-    (next (sixty r) (sixty-in r) (λ v w r. value (omega arith, omega arith))))))))
+clock-in : {t : ℕ} {s : List ℕ} → Clock s t → t ≤ 89999
+clock-in (hours g) = omega (arith, number-in g)
+clock-in (minutes g h) = omega (arith, number-in g, sixty-in h)
+clock-in (seconds g h k) = omega (arith, number-in g, sixty-in h, sixty-in k)
 
 -- an offset before the hour that daylight time may add
-offset-in : (s : List ℕ) → Gives (Bounds 3601 183599) (offset s)
-unfolding offset
-offset-in s =
-    next (has 45 s) (anything (has 45 s)) (λ east _ r.
-    next _ (anything ((if east then pure false else has 43) r)) (λ plus _ r.
-    next (clock r) (clock-in r) (λ t p r.
-    value (by-test east (λ e. rw e (omega arith, omega arith)) (λ e. rw e (omega arith, omega arith))))))
+offset-in : {o : ℕ} {s : List ℕ} → Offset s o → Bounds 3601 183599 o
+offset-in (unsigned g) = let h = clock-in g in (omega arith, omega arith)
+offset-in (west g) = let h = clock-in g in (omega arith, omega arith)
+offset-in (east g) = let h = clock-in g in (omega arith, omega arith)
 
-month-fits : (s : List ℕ) → Gives DayFits (monthText s)
-unfolding monthText
-month-fits s =
-    next (number 2 1 12 s) (number-in 2 1 12 s) (λ m p r.
-    next (byte 46 r) (anything (byte 46 r)) (λ _ _ r.
-    next (number 1 1 5 r) (number-in 1 1 5 r) (λ w q r.
-    next (byte 46 r) (anything (byte 46 r)) (λ _ _ r.
-    next (number 1 0 6 r) (number-in 1 0 6 r) (λ d k r.
-    value (p .0, p .1, q .0, q .1, k .1))))))
+date-fits : {d : Day} {s : List ℕ} → Date s d → DayFits d
+date-fits (dateJ g) = number-in g
+date-fits (dateN g) = number-in g .1
+date-fits (dateM g h k) =
+    let m = number-in g in
+    let w = number-in h in
+    (m .0, m .1, w .0, w .1, number-in k .1)
 
-day-fits : (s : List ℕ) → Gives DayFits (dayText s)
-unfolding dayText
-day-fits s =
-    next (has 77 s) (anything (has 77 s)) (λ m _ r.
-    choose m _ _ r (month-fits r)
-    (next (has 74 r) (anything (has 74 r)) (λ j _ r.
-    choose j _ _ r
-    (next (number 3 1 365 r) (number-in 3 1 365 r) (λ n p r. value p))
-    (next (number 3 0 365 r) (number-in 3 0 365 r) (λ n p r. value (p .1))))))
-
-turn-fits : (s : List ℕ) → Gives TurnFits (turnText s)
-unfolding turnText
-turn-fits s =
-    next (dayText s) (day-fits s) (λ d p r.
-    next (has 47 r) (anything (has 47 r)) (λ timed _ r.
-    next {P = Bounds 0 89999} _ (choose timed _ _ r (clock-in r) (value (omega arith, omega arith))) (λ t q r.
-    value (record { day-fits = p; time-fits = q .1 }))))
+rule-fits : {r : Turn} {s : List ℕ} → Rule s r → TurnFits r
+rule-fits (untimed g) = record { day-fits = date-fits g; time-fits = omega arith }
+rule-fits (timed g h) = record { day-fits = date-fits g; time-fits = clock-in h }
 
 -- an offset that a zone may have
 abbrev pub OffsetFits : ℕ → Type 0
@@ -117,33 +50,18 @@ FooterFits empty = Unit {0}
 FooterFits (fixed o) = OffsetFits o
 FooterFits (rules std dst start end) = OffsetFits std × OffsetFits dst × TurnFits start × TurnFits end
 
-daylight-fits : (std : ℕ) → Bounds 3601 183599 std → (s : List ℕ) → Gives FooterFits (daylightText std s)
-unfolding daylightText
-daylight-fits std f s =
-    next (name s) (anything (name s)) (λ _ _ r.
-    next (has 44 r) (anything (has 44 r)) (λ short _ r.
-    next {P = OffsetFits} _ (choose short _ _ r (value (omega arith, omega arith))
-    (next (offset r) (offset-in r) (λ o p r. next (byte 44 r) (anything (byte 44 r)) (λ _ _ r. value (omega arith, omega arith))))) (λ dst g r.
-    next (turnText r) (turn-fits r) (λ start p r.
-    next (byte 44 r) (anything (byte 44 r)) (λ _ _ r.
-    next (turnText r) (turn-fits r) (λ end q r.
-    next (atEnd r) (anything (atEnd r)) (λ done _ r.
-    tested done (rules std dst start end) r (λ _. ((omega arith, omega arith), g, p, q)))))))))
+offset-fits : {o : ℕ} {s : List ℕ} → Offset s o → OffsetFits o
+offset-fits g = let b = offset-in g in (omega arith, omega arith)
 
-text-fits : (s : List ℕ) → Gives FooterFits (footerText s)
-unfolding footerText
-text-fits s =
-    next (name s) (anything (name s)) (λ _ _ r.
-    next (offset r) (offset-in r) (λ std p r.
-    next (atEnd r) (anything (atEnd r)) (λ done _ r.
-    choose done _ _ r (value (omega arith, omega arith)) (daylight-fits std p r))))
+ahead-fits : {std dst : ℕ} {s : List ℕ} → Bounds 3601 183599 std → Ahead std s dst → OffsetFits dst
+ahead-fits b hour = (omega arith, omega arith)
+ahead-fits b (written g) = offset-fits g
 
-given-by : (o : Option (Footer × List ℕ)) (f : Footer) → Gives FooterFits o → parsed o ≡ some f → FooterFits f
-given-by none f h e = absurd (let z : _≡_ {A = ℕ} 0 1 = cc in omega arith)
-given-by (some r) f (value h) e = let p : r .0 ≡ f = cc in rw (← p) h
+text-fits : {f : Footer} {s : List ℕ} → TzString s f → FooterFits f
+text-fits TzString.nothing = tt
+text-fits (standard n g) = offset-fits g
+text-fits (daylight n g m h x y) = (offset-fits g, ahead-fits (offset-in g) h, rule-fits x, rule-fits y)
 
 -- whatever text a footer is made of, it fits
 pub footer-fits : (s : List ℕ) (f : Footer) → footerOf s ≡ some f → FooterFits f
-unfolding footerOf
-footer-fits [] f e = let p : empty ≡ f = cc in rw (← p) tt
-footer-fits (c ∷ s) f e = given-by (footerText (c ∷ s)) f (text-fits (c ∷ s)) e
+footer-fits s f e = text-fits (tz-sound s f e)

@@ -13,7 +13,7 @@ use Rattle.model.specs.Bytes.{words, pieces, lifted}
 use Rattle.model.specs.Footer.{Footer, empty, fixed, rules, changeIn, footerOf}
 use Rattle.model.specs.Tzif.{Header, headerOf, sizeOf, offsetIn, typeOk, rising, countsOk, zeroOr, Zone, Change, changesOf, lineOf, blockOf, zoneOf}
 use Rattle.model.specs.Zone.{utc, latest, ruledAt, offsetFrom, offsetAt, secondOf}
-use Rattle.laws_base.specs.Test.{by-test, and-both, clash}
+use Rattle.laws_base.specs.Test.{by-test, and-both, in-bounds, all-head}
 use Rattle.laws_zone.specs.Sound.{Sound}
 use Rattle.laws_zone.specs.Grammar.{OffsetFits, FooterFits, footer-fits}
 use Rattle.laws_zone.specs.Changes.{steady-same}
@@ -93,17 +93,12 @@ Any a = Unit {0}
 anything : {A : Type 0} (o : Option A) → Made Any o
 anything o = made o (λ _ _. tt)
 
-all-head : {A : Type 0} (t : A → Bool) (a : A) (l : List A) → all t (a ∷ l) ≡ true → (t a ≡ true) × (all t l ≡ true)
-unfolding all
-all-head t a l h = by-test (t a) (λ e. (e, rw e at h)) (λ e. clash false (rw e at h) refl)
-
 type-fits : (chars : ℕ) (t : List ℕ) → typeOk chars t ≡ true → OffsetFits (offsetIn t)
 unfolding typeOk
 type-fits chars t h =
     let o = offsetIn t in
     let a = and-both (isIn 1 187199 o) (ltb (getD t 4 0) 2 && ltb (getD t 5 0) chars) h in
-    let b = and-both (leb 1 o) (leb o 187199) (a .0) in
-    (leb-true _ _ (b .0), leb-true _ _ (b .1))
+    in-bounds 1 187199 o (a .0)
 
 -- the offset of each type
 types-fit : (chars n k : ℕ) (b : List ℕ) → all (typeOk chars) (pieces 6 n b) ≡ true → k < n → OffsetFits (getD (map offsetIn (pieces 6 n b)) k 0)

@@ -50,7 +50,7 @@ pub change-after-start :
 unfolding everything
 change-after-start = refl
 
--- a holiday at the edge of the skip test's span
+-- a holiday at the edge of the skip test's span: outside it the border at 8 January may be skipped, one nanosecond earlier it lies inside
 abbrev holiday-near-book : List ℕ
 holiday-near-book =
     hex 32 0x000000020000001400000013000000270000000901001F00007E900000000000
@@ -65,8 +65,8 @@ holiday-near-zones =
 
 pub holiday-near :
     program bothBounds (some holiday-near-book) (some holiday-near-zones)
-    (text "between 1767225600 0 1767830400 0\nbetween 1767225599 999999999 1767830399 999999999\nbetween 1767261600 0 1767866400 0\n")
-    ≡ text "ok 144000 0 1 1\nok 144000 0 1 1\nok 144000 0 1 1\n"
+    (text "between 1767225600 0 1768435200 0\nbetween 1767225599 999999999 1768435199 999999999\nbetween 1767225600 0 1769644800 0\nbetween 1767225599 999999999 1769644799 999999999\nsub 1768435200 0 288000 1\nsub 1768435199 999999999 288000 1\n")
+    ≡ text "ok 288000 0 1 2\nok 288000 0 2 2\nok 576000 0 1 4\nok 576000 0 2 4\nok 1767200399 999999999 2 3\nok 1767200399 999999999 3 3\n"
 unfolding everything
 holiday-near = refl
 
@@ -129,7 +129,8 @@ pub jumped-then-read :
 unfolding everything
 jumped-then-read = refl
 
--- a footer with zero-based days
+-- a footer with day n = 365, AAA0BBB,J001,365: in 2023 daylight time goes on through 31 December into 1 January, in the leap year 2024 it
+-- ends on 31 December
 abbrev day-365-book : List ℕ
 day-365-book =
     hex 32 0x000000090000004C000000030000004F00000013000000620000001300000075
@@ -143,18 +144,32 @@ day-365-book =
 
 abbrev day-365-zones : List ℕ
 day-365-zones =
-    hex 32 0x000000010000000C00000086015A545A69663200000000000000000000000000
+    hex 32 0x000000010000000C00000080015A545A69663200000000000000000000000000
     ++ hex 32 0x0000000000000000000000000000000000000000000100000004000000000000
     ++ hex 32 0x55544300545A6966320000000000000000000000000000000000000000000000
-    ++ hex 32 0x00000000000000000000000100000004000000000000555443000A4553543545
-    ++ hex 18 0x44542C4D332E322E302C4D31312E312E300A
+    ++ hex 32 0x00000000000000000000000100000004000000000000555443000A4141413042
+    ++ hex 12 0x42422C4A3030312C3336350A
 
 pub day-365 :
     program bothBounds (some day-365-book) (some day-365-zones)
-    (text "next 1672574400 0\nnext 951739200 0\nnext -62135726400 0\n")
-    ≡ text "ok 1672581600 0 1672583400 0\nok 951746400 0 951748200 0\nok -62135719200 0 -62135717400 0\n"
+    (text "next 1704024000 0\nprevious 1704070801 0\nnext 1704070800 0\nnext 1735646400 0\n")
+    ≡ text "ok 1704031200 0 1704033000 0\nok 1704063600 0 1704065400 0\nok 1704074400 0 1704076200 0\nok 1735646400 0 1735648200 0\n"
 unfolding everything
 day-365 = refl
+
+-- the change itself, by a book with work from 02:00 to 02:30 and answers of compare/second.py: on 31 December 2023 02:00 is daylight time; on
+-- 1 January 2024 the clock goes back at 02:00 and on at the next 02:00, which is read by standard time
+abbrev day-365-night-book : List ℕ
+day-365-night-book =
+    hex 32 0x000000020000001400000003000000170000001300017A01007F00001C200000
+    ++ hex 10 0x00000000232800000000
+
+pub day-365-night :
+    program bothBounds (some day-365-night-book) (some day-365-zones)
+    (text "next 1703980800 0\nnext 1704067200 0\n")
+    ≡ text "ok 1703984400 0 1703986200 0\nok 1704074400 0 1704076200 0\n"
+unfolding everything
+day-365-night = refl
 
 -- a footer outside the grammar
 abbrev bad-footer-book : List ℕ

@@ -1,0 +1,5 @@
+pub mod Layout
+pub mod Numbers
+pub mod TzGrammar
+pub mod TzSound
+pub mod TzComplete

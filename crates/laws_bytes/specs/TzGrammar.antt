@@ -1,0 +1,99 @@
+-- The grammar of footers, production by production, each with its value. Document 01: "A footer is empty or a POSIX TZ string. A daylight name
+-- needs both its rules. Hours in offsets and rule times go from 0 to 24." The sentences in quotes below are those of POSIX.1 section 8.3 (TZ) and of
+-- docs/DECISIONS.md. `footerOf` accepts exactly these texts, with these values (`tz-sound` of TzSound.antt, `tz-complete` of TzComplete.antt).
+-- Offsets are seconds east of Greenwich plus 93,600.
+use mathlib.Core.Path.{_≡_}
+use mathlib.Core.List.{List, [], _∷_, _++_}
+use Prim.Native.Nat.{ℕ, _+_, _*_, _-_, _≤_}
+use Prim.Native.Char.{code}
+use lib.ListN.{length}
+use Rattle.model.specs.Footer.{Day, month, julian, plain, Turn, Footer, empty, fixed, rules}
+
+-- ---- numbers
+
+-- a digit; or a number and a digit behind it
+pub data Decimal : List ℕ → ℕ → Type 0 where
+  digit : (d : ℕ) → d ≤ 9 → Decimal ((code "0" + d) ∷ []) d
+  more : {s : List ℕ} {n : ℕ} → Decimal s n → (d : ℕ) → d ≤ 9 → Decimal (s ++ (code "0" + d) ∷ []) (n * 10 + d)
+
+-- a number of at most k digits, from lo to hi
+pub data Number (k lo hi : ℕ) : List ℕ → ℕ → Type 0 where
+  number : {s : List ℕ} {n : ℕ} → Decimal s n → length s ≤ k → lo ≤ n → n ≤ hi → Number k lo hi s n
+
+-- "minutes and seconds exactly two [digits], at most 59"
+pub data Sixty : List ℕ → ℕ → Type 0 where
+  sixty : {s : List ℕ} {n : ℕ} → Decimal s n → length s ≡ 2 → n ≤ 59 → Sixty s n
+
+-- "hh[:mm[:ss]]", in seconds. "The hour (hh) shall be required and may be a single digit." "Hours .. go from 0 to 24."
+pub data Clock : List ℕ → ℕ → Type 0 where
+  -- hh
+  hours : {s : List ℕ} {h : ℕ} → Number 2 0 24 s h → Clock s (h * 3600)
+  -- hh:mm
+  minutes : {s t : List ℕ} {h m : ℕ} → Number 2 0 24 s h → Sixty t m → Clock (s ++ code ":" ∷ t) (h * 3600 + m * 60)
+  -- hh:mm:ss
+  seconds : {s t u : List ℕ} {h m x : ℕ} → Number 2 0 24 s h → Sixty t m → Sixty u x →
+      Clock (s ++ code ":" ∷ t ++ code ":" ∷ u) (h * 3600 + m * 60 + x)
+
+-- ---- names
+
+pub data Letter : ℕ → Type 0 where
+  upper : {c : ℕ} → code "A" ≤ c → c ≤ code "Z" → Letter c
+  lower : {c : ℕ} → code "a" ≤ c → c ≤ code "z" → Letter c
+
+-- "between `<` and `>` .. letters, digits, `+` and `-`"
+pub data Quoted : ℕ → Type 0 where
+  letter : {c : ℕ} → Letter c → Quoted c
+  digit : {c : ℕ} → code "0" ≤ c → c ≤ code "9" → Quoted c
+  plus : Quoted (code "+")
+  minus : Quoted (code "-")
+
+-- "no less than three .. bytes"
+pub data Word (P : ℕ → Type 0) : List ℕ → Type 0 where
+  three : {a b c : ℕ} → P a → P b → P c → Word P (a ∷ b ∷ c ∷ [])
+  longer : {a : ℕ} {s : List ℕ} → P a → Word P s → Word P (a ∷ s)
+
+-- "At least three letters; or between `<` and `>` at least three of letters, digits, `+` and `-`." A name has no value
+pub data Name : List ℕ → Type 0 where
+  bare : {s : List ℕ} → Word Letter s → Name s
+  quoted : {s : List ℕ} → Word Quoted s → Name (code "<" ∷ s ++ code ">" ∷ [])
+
+-- ---- offsets, dates and times
+
+-- "the value added to the local time to arrive at Coordinated Universal Time". "If preceded by a '-', the timezone shall be east of the Prime
+-- Meridian; otherwise, it shall be west (which may be indicated by an optional preceding '+')."
+pub data Offset : List ℕ → ℕ → Type 0 where
+  unsigned : {s : List ℕ} {t : ℕ} → Clock s t → Offset s (93600 - t)
+  west : {s : List ℕ} {t : ℕ} → Clock s t → Offset (code "+" ∷ s) (93600 - t)
+  east : {s : List ℕ} {t : ℕ} → Clock s t → Offset (code "-" ∷ s) (93600 + t)
+
+pub data Date : List ℕ → Day → Type 0 where
+  -- "Jn The Julian day n (1 <= n <= 365). Leap days shall not be counted."
+  dateJ : {s : List ℕ} {n : ℕ} → Number 3 1 365 s n → Date (code "J" ∷ s) (julian n)
+  -- "n The zero-based Julian day (0 <= n <= 365). Leap days shall be counted"
+  dateN : {s : List ℕ} {n : ℕ} → Number 3 0 365 s n → Date s (plain n)
+  -- "Mm.w.d The d'th day (0 <= d <= 6) of week w of month m of the year (1 <= w <= 5, 1 <= m <= 12 ..)"
+  dateM : {s t u : List ℕ} {m w d : ℕ} → Number 2 1 12 s m → Number 1 1 5 t w → Number 1 0 6 u d →
+      Date (code "M" ∷ s ++ code "." ∷ t ++ code "." ∷ u) (month m w d)
+
+-- "date[/time]". "The time has the same format as offset except that no leading sign (..) is allowed. The default, if time is not given, shall be
+-- 02:00:00."
+pub data Rule : List ℕ → Turn → Type 0 where
+  untimed : {s : List ℕ} {d : Day} → Date s d → Rule s (record { day = d; time = 7200 })
+  timed : {s t : List ℕ} {d : Day} {n : ℕ} → Date s d → Clock t n → Rule (s ++ code "/" ∷ t) (record { day = d; time = n })
+
+-- ---- footers
+
+-- behind a daylight name: "If no offset follows dst, the alternative time is assumed to be one hour ahead of standard time."
+pub data Ahead (std : ℕ) : List ℕ → ℕ → Type 0 where
+  hour : Ahead std [] (std + 3600)
+  written : {s : List ℕ} {dst : ℕ} → Offset s dst → Ahead std s dst
+
+-- "stdoffset[dst[offset][,start[/time],end[/time]]]", and "A daylight name needs both its rules."
+pub data TzString : List ℕ → Footer → Type 0 where
+  -- "A footer is empty"
+  nothing : TzString [] empty
+  -- stdoffset
+  standard : {a s : List ℕ} {std : ℕ} → Name a → Offset s std → TzString (a ++ s) (fixed std)
+  -- stdoffsetdst[offset],start[/time],end[/time]
+  daylight : {a s b t x y : List ℕ} {std dst : ℕ} {start end : Turn} → Name a → Offset s std → Name b → Ahead std t dst → Rule x start → Rule y end →
+      TzString (a ++ s ++ b ++ t ++ code "," ∷ x ++ code "," ∷ y) (rules std dst start end)
