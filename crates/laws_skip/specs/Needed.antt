@@ -15,9 +15,11 @@ use Rattle.model.specs.Basic.{if_then_else_, filter, run}
 use Rattle.model.specs.Instant.{week}
 use Rattle.model.specs.Blocks.{Block, total}
 use Rattle.model.specs.Working.{Schedule}
-use Rattle.model.specs.Walk.{Way, on, at, reach, ahead, begun, timeFrom}
+use Rattle.model.specs.Walk.{Way, on, at, reach, ahead, begun, timeFrom, listed}
 use Rattle.model.specs.Skip.{repeats, neededFrom, anyTime, someTime, neededBetween, neededSearch}
 use Rattle.laws_base.specs.Test.{by-test}
+use Rattle.laws_blocks.specs.Totals.{total-append}
+use Rattle.laws_blocks.specs.Stretches.{listed-more, time-listed}
 
 -- of n windows, how many may not be skipped
 abbrev pub needed : (ℕ → Bool) → ℕ → ℕ
@@ -50,34 +52,15 @@ maySkipSearch w s t d k = whole (reach w t) k && (worthSkipping (ahead w s t) d 
 -- ---- the proof
 
 module _ (look : ℕ → ℕ → List Block) where
-  from-none : (lo b : ℕ) → timeFrom 0 look lo b ≡ 0
+  before-none : timeBefore look 0 ≡ 0
   unfolding timeFrom
-  from-none lo b = refl
+  before-none = refl
 
-  from-whole : (n lo b : ℕ) → lo + week ≤ b → timeFrom (suc n) look lo b ≡ total (look lo (lo + week)) + timeFrom n look (lo + week) b
-  unfolding timeFrom
-  from-whole n lo b h = let e : min (lo + week) b ≡ lo + week = omega arith in rw e
-
-  -- one window more
-  from-more : (n lo mid hi : ℕ) → mid ≡ lo + n * week → hi ≡ mid + week → timeFrom (suc n) look lo hi ≡ timeFrom n look lo mid + total (look mid hi)
-  from-more zero lo mid hi p q =
-      let e : mid ≡ lo = omega arith in
-      let f : hi ≡ lo + week = omega arith in
-      let a = from-whole 0 lo hi (omega arith) in
-      let b = from-none (lo + week) hi in
-      let c = from-none lo mid in
-      let g : total (look mid hi) ≡ total (look lo (lo + week)) = rw (e, f) in
-      omega arith
-  from-more (suc n) lo mid hi p q =
-      let a = from-whole (suc n) lo hi (omega arith) in
-      let b = from-whole n lo mid (omega arith) in
-      let c = from-more n (lo + week) mid hi (omega arith) q in
-      omega arith
-
-  before-more : (k : ℕ) → timeBefore look (k + 1) ≡ timeBefore look k + weekTime look k
+  before-more : (k : ℕ) → timeBefore look (suc k) ≡ timeBefore look k + weekTime look k
   before-more k =
-      let e : suc k ≡ k + 1 = omega arith in
-      rw e at (from-more k 0 (k * week) ((k + 1) * week) (omega arith) (omega arith))
+      let e : suc k * week ≡ (k + 1) * week = omega arith in
+      rw (time-listed look (suc k) 0 (suc k * week), time-listed look k 0 (k * week), e, listed-more look k 0 (k * week) ((k + 1) * week) (omega arith) (omega arith))
+      (total-append (listed k look 0 (k * week)) (look (k * week) ((k + 1) * week)))
 
 -- what a window adds to the count
 abbrev one : Bool → ℕ
@@ -121,7 +104,7 @@ module _ (may : ℕ → ℕ → Bool) (look : ℕ → ℕ → List Block) (rep :
   stands-on k x time left s = record {
     place = (let p = s .place in omega arith);
     last = λ _ h. (let e : suc k - 1 ≡ k = omega arith in rw e (now h));
-    rest = λ h. (let a = before-more look k in let b = now h in let r = s .rest (omega arith) in let e : suc k ≡ k + 1 = omega arith in rw e (omega arith));
+    rest = λ h. (let a = before-more look k in let b = now h in let r = s .rest (omega arith) in omega arith);
   }
     where
       now : suc k * week ≤ z → total (look x (min (x + week) z)) ≡ weekTime look k
@@ -139,7 +122,7 @@ module _ (may : ℕ → ℕ → Bool) (look : ℕ → ℕ → List Block) (rep :
       (sym (count-more skips k n))
 
   starts : Stands 0 0 0 d
-  starts = record { place = omega arith; last = λ h _. absurd (omega arith); rest = λ _. rw (from-none look 0 (0 * week)) (omega arith) }
+  starts = record { place = omega arith; last = λ h _. absurd (omega arith); rest = λ _. rw (before-none look) (omega arith) }
 
 -- ---- the least number of windows
 
