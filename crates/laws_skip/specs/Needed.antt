@@ -2,9 +2,9 @@
 -- the starting instant. One may be skipped if it and the window walked before it are whole, the span from 11 days before their border to 11 days
 -- after lies in the range, .."; "at least one for each window that may not be skipped".
 -- Window k begins at the distance k weeks from the starting instant; the first one, k = 0, has none before it.
-use mathlib.Core.Path.{_≡_, refl, sym}
+use mathlib.Core.Path.{_≡_, refl, sym, _∙_}
 use mathlib.Core.Bool.{Bool, true, false, not, _&&_}
-use mathlib.Core.List.{List}
+use mathlib.Core.List.{List, [], _∷_}
 use Prim.Native.Nat.{ℕ, zero, suc, _+_, _*_, _-_, _≤_, _<_, min}
 use native.Mathlib.Omega.{arith}
 use native.Mathlib.Decide.{decLe}
@@ -13,13 +13,15 @@ use lib.ListN.{length}
 use borrow.Author.Tests.{lt-ltb, le-ltb, le-leb, lt-leb, eq-eqb, ne-eqb}
 use Rattle.model.specs.Basic.{if_then_else_, filter, run}
 use Rattle.model.specs.Instant.{week}
-use Rattle.model.specs.Blocks.{Block, total}
-use Rattle.model.specs.Working.{Schedule}
-use Rattle.model.specs.Walk.{Way, on, at, reach, ahead, begun, timeFrom, listed}
+use Rattle.model.specs.Blocks.{Block, block, total}
+use Rattle.model.specs.Working.{Schedule, working}
+use Rattle.model.specs.Walk.{Way, on, back, at, reach, backward, ahead, begun, timeFrom, timeBetween, listed}
 use Rattle.model.specs.Skip.{repeats, neededFrom, anyTime, someTime, neededBetween, neededSearch}
 use Rattle.laws_base.specs.Test.{by-test}
 use Rattle.laws_blocks.specs.Totals.{total-append}
 use Rattle.laws_blocks.specs.Stretches.{listed-more, time-listed}
+use Rattle.laws_skip.specs.Edges.{Inside, onward-total, backward-none, backward-cons}
+use Rattle.laws_skip.specs.Schedules.{working-inside}
 
 -- of n windows, how many may not be skipped
 abbrev pub needed : (ℕ → Bool) → ℕ → ℕ
@@ -37,7 +39,7 @@ maySkipBetween s a b k = whole (b - a) k && repeats s (a + k * week)
 abbrev pub weekTime : (ℕ → ℕ → List Block) → ℕ → ℕ
 weekTime look k = total (look (k * week) ((k + 1) * week))
 
--- the working time of the k windows before it
+-- the working time of the k windows before it: what `between` gives from t to window k (`before-on`, `before-back`)
 abbrev pub timeBefore : (ℕ → ℕ → List Block) → ℕ → ℕ
 timeBefore look k = timeFrom k look 0 (k * week)
 
@@ -52,15 +54,18 @@ maySkipSearch w s t d k = whole (reach w t) k && (worthSkipping (ahead w s t) d 
 -- ---- the proof
 
 module _ (look : ℕ → ℕ → List Block) where
-  before-none : timeBefore look 0 ≡ 0
+  time-none : (lo b : ℕ) → timeFrom 0 look lo b ≡ 0
   unfolding timeFrom
-  before-none = refl
+  time-none lo b = refl
+
+  -- one window more
+  time-more : (n lo mid hi : ℕ) → mid ≡ lo + n * week → hi ≡ mid + week → timeFrom (suc n) look lo hi ≡ timeFrom n look lo mid + total (look mid hi)
+  time-more n lo mid hi p q = rw (time-listed look (suc n) lo hi, time-listed look n lo mid, listed-more look n lo mid hi p q) (total-append (listed n look lo mid) (look mid hi))
 
   before-more : (k : ℕ) → timeBefore look (suc k) ≡ timeBefore look k + weekTime look k
   before-more k =
       let e : suc k * week ≡ (k + 1) * week = omega arith in
-      rw (time-listed look (suc k) 0 (suc k * week), time-listed look k 0 (k * week), e, listed-more look k 0 (k * week) ((k + 1) * week) (omega arith) (omega arith))
-      (total-append (listed k look 0 (k * week)) (look (k * week) ((k + 1) * week)))
+      rw e (time-more k 0 (k * week) ((k + 1) * week) (omega arith) (omega arith))
 
 -- what a window adds to the count
 abbrev one : Bool → ℕ
@@ -122,7 +127,7 @@ module _ (may : ℕ → ℕ → Bool) (look : ℕ → ℕ → List Block) (rep :
       (sym (count-more skips k n))
 
   starts : Stands 0 0 0 d
-  starts = record { place = omega arith; last = λ h _. absurd (omega arith); rest = λ _. rw (before-none look) (omega arith) }
+  starts = record { place = omega arith; last = λ h _. absurd (omega arith); rest = λ _. rw (time-none look 0 (0 * week)) (omega arith) }
 
 -- ---- the least number of windows
 
@@ -137,3 +142,53 @@ needed-search w s t d x =
     let look = ahead w s t in
     let rep : ℕ → Bool = λ y. repeats s (at w t y) in
     needed-from someTime look rep (reach w t) d (begun x) 0 0 0 d (starts someTime look rep (reach w t) d)
+
+-- ---- what is left of d: the working time of the windows before is what `between` gives
+
+backward-total : (t lo hi : ℕ) (l : List Block) → hi ≤ t → Inside lo hi l → total (backward t l) ≡ total l
+unfolding total
+backward-total t lo hi [] h i = rw (backward-none t)
+backward-total t lo hi (b ∷ l) h i =
+    let r = backward-total t lo hi l h (i .3) in
+    rw (backward-cons t b l, total-append (backward t l) (block (t - b .end) (t - b .start) ∷ []), r) (omega arith)
+
+module _ (s : Schedule) (t : ℕ) where
+  on-week : (k : ℕ) → weekTime (ahead on s t) k ≡ total (working s (t + k * week) (t + (k + 1) * week))
+  unfolding ahead
+  on-week k = onward-total t (t + k * week) (t + (k + 1) * week) (working s (t + k * week) (t + (k + 1) * week)) (omega arith) (working-inside s (t + k * week) (t + (k + 1) * week) (omega arith))
+
+  back-week : (k : ℕ) → weekTime (ahead back s t) k ≡ total (working s (t - (k + 1) * week) (t - k * week))
+  unfolding ahead
+  back-week k = backward-total t (t - (k + 1) * week) (t - k * week) (working s (t - (k + 1) * week) (t - k * week)) (omega arith) (working-inside s (t - (k + 1) * week) (t - k * week) (omega arith))
+
+  on-before : (k : ℕ) → timeBefore (ahead on s t) k ≡ timeFrom k (working s) t (t + k * week)
+  on-before zero = time-none (ahead on s t) 0 (0 * week) ∙ sym (time-none (working s) t (t + 0 * week))
+  on-before (suc k) =
+      let a = on-before k in
+      let b = before-more (ahead on s t) k in
+      let c = on-week k in
+      let e : t + suc k * week ≡ t + (k + 1) * week = omega arith in
+      let d = time-more (working s) k t (t + k * week) (t + (k + 1) * week) (omega arith) (omega arith) in
+      rw e (omega arith)
+
+  back-more : (k : ℕ) → (k + 1) * week ≤ t → timeFrom (suc k) (working s) (t - suc k * week) t ≡ total (working s (t - (k + 1) * week) (t - k * week)) + timeFrom k (working s) (t - k * week) t
+  unfolding timeFrom
+  back-more k h =
+      let e : t - suc k * week ≡ t - (k + 1) * week = omega arith in
+      let f : min (t - (k + 1) * week + week) t ≡ t - k * week = omega arith in
+      rw (e, f)
+
+  back-before : (k : ℕ) → k * week ≤ t → timeBefore (ahead back s t) k ≡ timeFrom k (working s) (t - k * week) t
+  back-before zero h = time-none (ahead back s t) 0 (0 * week) ∙ sym (time-none (working s) (t - 0 * week) t)
+  back-before (suc k) h =
+      let a = back-before k (omega arith) in
+      let b = before-more (ahead back s t) k in
+      let c = back-week k in
+      let d = back-more k (omega arith) in
+      omega arith
+
+  pub before-on : (k : ℕ) → timeBefore (ahead on s t) k ≡ timeBetween s t (t + k * week)
+  before-on k = let e : begun (t + k * week - t) ≡ k = omega arith in rw e (on-before k)
+
+  pub before-back : (k : ℕ) → k * week ≤ t → timeBefore (ahead back s t) k ≡ timeBetween s (t - k * week) t
+  before-back k h = let e : begun (t - (t - k * week)) ≡ k = omega arith in rw e (back-before k h)
