@@ -22,7 +22,7 @@ use Rattle.model.specs.Book.{Hours, Body, default, work, pause, holidays, Entry
 use Rattle.model.specs.Working.{Rule, Schedule, holidayRule}
 use Rattle.model.specs.Build.{lookup, defaultZone, ruleZone, noRules, withRule, zoneUsed, rulesOf, worksIn2001, build}
 use Rattle.laws_base.specs.Test.{by-test, and-both}
-use Rattle.laws_zone.specs.Sound.{Sound, Near}
+use Rattle.laws_zone.specs.Sound.{Sound}
 use Rattle.laws_zone.specs.Zones.{zone-sound, utc-sound}
 use Rattle.laws.specs.Windows.{RuleOk, OfRules, NearRule}
 use Rattle.laws.specs.Zones.{Each, ifGiven, usedBy, usedIn, zonesOf, WithinDay}
@@ -281,4 +281,4 @@ rules-have P book pack s e h =
     (done-is (build book pack) s (build-done P book pack (λ l files z a b d. rw (zones-are book pack l files z a b d) at h)) e)
 
 pub near-rules : (book pack : List ℕ) (s : Schedule) → build book pack ≡ gives s → Each WithinDay (zonesOf book pack) → OfRules NearRule s
-near-rules book pack s e h = rules-have Near book pack s e (each-map WithinDay Near (λ z k u v a b. k u v a b) (zonesOf book pack) h)
+near-rules = rules-have WithinDay

@@ -19,8 +19,8 @@ use Rattle.laws_base.specs.Test.{by-test, clash, and-both}
 use Rattle.laws_blocks.specs.Lists.{Lists}
 use Rattle.laws_blocks.specs.Members.{In, covers, NonEmpty, in-covers, not-covers, append-in, append-nonempty, clipped-in, clipped-nonempty}
 use Rattle.laws_blocks.specs.Left.{left-lists}
-use Rattle.laws_zone.specs.Sound.{Sound, Near}
-use Rattle.laws.specs.Zones.{Each}
+use Rattle.laws_zone.specs.Sound.{Sound}
+use Rattle.laws.specs.Zones.{Each, WithinDay}
 use Rattle.laws.specs.Local.{raw, InRange, kept, early, late, raw-takes, in-range, first-from, last-upto}
 
 -- what every rule of a built book has
@@ -37,7 +37,7 @@ abbrev pub OfRules : (Rule → Type 0) → Schedule → Type 0
 OfRules P s = Each P (s .work) × Each P (offRules s)
 
 abbrev pub NearRule : Rule → Type 0
-NearRule r = Near (r .zone)
+NearRule r = WithinDay (r .zone)
 
 -- ---- local times
 

@@ -3,7 +3,7 @@
 use Prim.Native.Nat.{ℕ, zero, suc, _+_, _-_, _*_, _<_, _≤_, min}
 use mathlib.Core.Path.{_≡_, refl, sym, _∙_}
 use mathlib.Core.Bool.{Bool, true, false}
-use mathlib.Core.List.{List, [], _∷_}
+use mathlib.Core.List.{List, [], _∷_, _++_, append-nil, append-assoc}
 use mathlib.Core.Logic.{_↔_}
 use native.Mathlib.Omega.{arith}
 use Rattle.model.specs.Instant.{week}
@@ -112,6 +112,26 @@ stretches-unique W lo hi l k p q =
 -- enough windows are begun
 pub begun-enough : (x : ℕ) → x ≤ begun x * week
 begun-enough x = omega arith
+
+-- windows one behind the other
+module _ (work : ℕ → ℕ → List Block) where
+  pub listed-none : (lo b : ℕ) → listed 0 work lo b ≡ []
+  unfolding listed
+  listed-none lo b = refl
+
+  listed-whole : (n lo b : ℕ) → lo + week ≤ b → listed (suc n) work lo b ≡ work lo (lo + week) ++ listed n work (lo + week) b
+  unfolding listed
+  listed-whole n lo b h = let e : min (lo + week) b ≡ lo + week = omega arith in rw e
+
+  -- one window more
+  pub listed-more : (n lo mid hi : ℕ) → mid ≡ lo + n * week → hi ≡ mid + week → listed (suc n) work lo hi ≡ listed n work lo mid ++ work mid hi
+  listed-more zero lo mid hi p q =
+      let e : mid ≡ lo = omega arith in
+      let f : hi ≡ lo + week = omega arith in
+      rw (e, f, listed-whole 0 lo (lo + week) (omega arith), listed-none (lo + week) (lo + week), listed-none lo lo, append-nil)
+  listed-more (suc n) lo mid hi p q =
+      rw (listed-whole (suc n) lo hi (omega arith), listed-more n (lo + week) mid hi (omega arith) q, listed-whole n lo mid (omega arith))
+      (sym (append-assoc (work lo (lo + week)) (listed n work (lo + week) mid) (work mid hi)))
 
 -- `work` lists W on each window of at most a week in [first, last)
 module _ (W : ℕ → Bool) (work : ℕ → ℕ → List Block) (first last : ℕ) (works : (x y : ℕ) → first ≤ x → x ≤ y → y ≤ x + week → y ≤ last → Lists W x y (work x y)) where

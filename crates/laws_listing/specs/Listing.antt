@@ -17,7 +17,7 @@ use Rattle.laws_blocks.specs.Stretches.{Stretches, merged-stretches, merged-tot
 use Rattle.laws_skip.specs.Schedules.{working-lists}
 
 -- what a list says of a test, it says of one that agrees with it in the window
-lists-as : (W X : ℕ → Bool) (lo hi : ℕ) {l : List Block} → ((u : ℕ) → lo ≤ u → u < hi → X u ≡ W u) → Lists W lo hi l → Lists X lo hi l
+pub lists-as : (W X : ℕ → Bool) (lo hi : ℕ) {l : List Block} → ((u : ℕ) → lo ≤ u → u < hi → X u ≡ W u) → Lists W lo hi l → Lists X lo hi l
 lists-as W X lo hi f (none h e) = idle-lists X lo hi h (λ u a b. f u a b ∙ e u a b)
 lists-as W X lo hi f (next s e a b c i k r) =
     next-lists X lo hi s e a b c (λ u x y. f u x (omega arith) ∙ i u x y) (λ u x y. f u (omega arith) (omega arith) ∙ k u x y)
@@ -25,21 +25,21 @@ lists-as W X lo hi f (next s e a b c i k r) =
 
 -- two lists of adjacent windows: each instant is covered by the list of its window
 module _ (lo mid hi : ℕ) (l k : List Block) (p : Lists (covers l) lo mid l) (q : Lists (covers k) mid hi k) where
-  in-first : (u : ℕ) → u < mid → covers (l ++ k) u ≡ covers l u
+  pub in-first : (u : ℕ) → u < mid → covers (l ++ k) u ≡ covers l u
   in-first u h =
       same-test u (l ++ k) l (
         λ i. ⊎-elim (λ a. a) (λ a. absurd (let b = lists-in (covers k) mid hi q u .0 a in let c = b .0 .0 in omega arith)) (append-in u l k .0 i),
         λ i. append-in u l k .1 (inl i),
       )
 
-  in-second : (u : ℕ) → mid ≤ u → covers (l ++ k) u ≡ covers k u
+  pub in-second : (u : ℕ) → mid ≤ u → covers (l ++ k) u ≡ covers k u
   in-second u h =
       same-test u (l ++ k) k (
         λ i. ⊎-elim (λ a. absurd (let b = lists-in (covers l) lo mid p u .0 a in let c = b .0 .1 in omega arith)) (λ a. a) (append-in u l k .0 i),
         λ i. append-in u l k .1 (inr i),
       )
 
-  both-lists : Lists (covers (l ++ k)) lo hi (l ++ k)
+  pub both-lists : Lists (covers (l ++ k)) lo hi (l ++ k)
   both-lists =
       lists-append (covers (l ++ k)) lo mid hi (lists-as (covers l) (covers (l ++ k)) lo mid (λ u a b. in-first u b) p)
       (lists-as (covers k) (covers (l ++ k)) mid hi (λ u a b. in-second u a) q)

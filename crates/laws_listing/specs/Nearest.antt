@@ -321,7 +321,7 @@ merged-first W limit t last s e l h k r (b ∷ m) q =
     rw (p .0, p .1)
 
 -- the listing's first stretch is the nearest period of its windows' blocks
-first-nearest : (W : ℕ → Bool) (limit t last : ℕ) (l : List Block) → Lists W t last l → firstStretch limit t last (merged l) ≡ nearestOf limit (last - t) (onward t l)
+pub first-nearest : (W : ℕ → Bool) (limit t last : ℕ) (l : List Block) → Lists W t last l → firstStretch limit t last (merged l) ≡ nearestOf limit (last - t) (onward t l)
 unfolding firstStretch nearestOf merged onward
 first-nearest W limit t last [] r = refl
 first-nearest W limit t last (c ∷ l) (next s e a b k i f r) =

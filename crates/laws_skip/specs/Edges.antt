@@ -118,11 +118,11 @@ unfolding onward total
 onward-total t lo hi [] h i = refl
 onward-total t lo hi (b ∷ l) h i = rw (onward-total t lo hi l h (i .3)) (omega arith)
 
-backward-none : (t : ℕ) → backward t [] ≡ []
+pub backward-none : (t : ℕ) → backward t [] ≡ []
 unfolding backward
 backward-none t = refl
 
-backward-cons : (t : ℕ) (b : Block) (l : List Block) → backward t (b ∷ l) ≡ backward t l ++ (block (t - b .end) (t - b .start) ∷ [])
+pub backward-cons : (t : ℕ) (b : Block) (l : List Block) → backward t (b ∷ l) ≡ backward t l ++ (block (t - b .end) (t - b .start) ∷ [])
 unfolding backward
 backward-cons t b l = rw (reverse-cons, map-append)
 

@@ -6,4 +6,5 @@ pub mod Loops
 pub mod Runs
 pub mod Counts
 pub mod Records
+pub mod Needed
 pub mod Books

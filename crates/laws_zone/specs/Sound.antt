@@ -19,7 +19,3 @@ pub record Sound (z : Zone) : Type 0 where
   pub some : (l : ℕ) → dawn + 187200 ≤ l → (w : ℕ) × (dawn ≤ w) × (secondOf z l + offsetAt z w ≡ l)
   -- a span without change has one offset
   pub same : (a b : ℕ) → dawn ≤ a → steady z a b ≡ true → (u : ℕ) → a ≤ u → u ≤ b → offsetAt z u ≡ offsetAt z a
-
--- demand 3: no two of its offsets are over 24 hours apart. Asked of the instants from `dawn` on alone, so it asks no more than demand 3 does
-abbrev pub Near : Zone → Type 0
-Near z = (u v : ℕ) → dawn ≤ u → dawn ≤ v → offsetAt z u ≤ offsetAt z v + 86400

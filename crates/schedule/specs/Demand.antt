@@ -48,11 +48,11 @@ module _ (timeOf : Pair → Pair → TimeAnswer) (addOf : Pair → Pair → AddA
     pub further : (e f : Pair) → IsDuration e → pos 0 ≤ℤ nanos e → IsDuration f → nanos f ≡ nanos d +ℤ nanos e → addIs (addOf x e) ≡ addIs (addOf t f)
 
   pub record Demand3 : Type 0 where
-    -- "working time from a to c is that from a to b plus that from b to c, in any order."
+    -- "working time from a to c is that from a to b plus that from b to c, in whatever order they lie."
     pub additive : (a b c : Pair) → Given a → Given b → Given c → (x y : ℤ) × WorkingTime a b x × WorkingTime b c y × WorkingTime a c (x +ℤ y)
     -- "For every t and d > 0, if adding d to t gives x, then .."
     pub added : (t d x : Pair) → Given t → IsDuration d → pos 0 <ℤ nanos d → addIs (addOf t d) ≡ gives (shown x) → Added t d x
-    -- "If adding d to t is refused with 7, there is no instant at all to which working time from t is d."
+    -- "If adding d to t is refused as out of range, there is no instant at all to which working time from t is d." "Out of range is 7."
     pub beyond : (t d : Pair) (place : ℕ) → Given t → IsDuration d → pos 0 <ℤ nanos d → addIs (addOf t d) ≡ refuses 7 place
         → (y : Pair) → IsInstant y → WorkingTime t y (nanos d) → ⊥
 

@@ -1,0 +1,128 @@
+-- Three functions, made from the definitions, that answer as the contracts of `between`, `add` and `sub` promise, for every book and every pack.
+-- So demand 3 over the answers (`demand-3-answers` of Demand.antt), which speaks of any three such functions, speaks of something.
+use mathlib.Core.Path.{_≡_, refl}
+use mathlib.Core.Bool.{Bool, true, false}
+use mathlib.Core.List.{List, [], _∷_}
+use Prim.Native.Nat.{ℕ, _≤_, min, max, _-_}
+use native.Mathlib.Omega.{arith}
+use lib.ListN.{getD}
+use lib.IntN.{ℤ, pos}
+use Rattle.model.specs.Basic.{if_then_else_}
+use Rattle.model.specs.Instant.{instantOf, instant, durationOf, duration, negated}
+use Rattle.model.specs.Answer.{Answer, gives, refuses, _>>=_}
+use Rattle.model.specs.Working.{Schedule}
+use Rattle.model.specs.Build.{build}
+use Rattle.model.specs.Walk.{Way, on, back, reach, ahead, begun, search}
+use Rattle.model.specs.Skip.{anyTime, someTime}
+use Rattle.model.specs.Calls.{Reply, turned, betweenCall, moved, moveCall, between, add, sub, said, leastOf, mostOf, Windows}
+use Rattle.laws.specs.Pairs.{Pair}
+use Rattle.laws.specs.Zones.{Each, zonesOf, WithinDay}
+use Rattle.laws_skip.specs.Skips.{needed-most}
+use Rattle.schedule.specs.declared.TimeAnswer.{TimeAnswer}
+use Rattle.schedule.specs.declared.TimeAnswer.the-variants as T
+use Rattle.schedule.specs.declared.AddAnswer.{AddAnswer}
+use Rattle.schedule.specs.declared.AddAnswer.the-variants as A
+use Rattle.schedule.specs.declared.SubAnswer.{SubAnswer}
+use Rattle.schedule.specs.declared.SubAnswer.the-variants as S
+use Rattle.schedule.specs.Answers.{timeIs, timeCount, addIs, addCount, subIs, subCount}
+use Rattle.schedule.specs.Demand.{AsPromised, Demand3, demand-3-answers}
+
+-- ---- a reply of the definitions as an answer: its two numbers, and the least count of windows
+
+abbrev number : Reply → ℕ → ℤ
+number r i = getD (r .values) i (pos 0)
+
+abbrev pub timeBy : Answer Reply → TimeAnswer
+timeBy (gives r) = T.Is (number r 0) (number r 1) (leastOf (gives r))
+timeBy (refuses n p) = T.Refused n p
+
+abbrev pub addBy : Answer Reply → AddAnswer
+addBy (gives r) = A.At (number r 0) (number r 1) (leastOf (gives r))
+addBy (refuses n p) = A.Refused n p
+
+abbrev pub subBy : Answer Reply → SubAnswer
+subBy (gives r) = S.At (number r 0) (number r 1) (leastOf (gives r))
+subBy (refuses n p) = S.Refused n p
+
+-- ---- replies of two numbers whose least count is not above the most
+
+abbrev Told : Answer Reply → Type 0
+Told (gives r) = (x y : ℤ) × (r .values ≡ x ∷ y ∷ []) × (leastOf (gives r) ≤ mostOf (gives r))
+Told (refuses n p) = Unit {0}
+
+then-told : {A : Type 0} (a : Answer A) (f : A → Answer Reply) → ((x : A) → Told (f x)) → Told (a >>= f)
+then-told (gives x) f h = h x
+then-told (refuses n p) f h = tt
+
+between-told : (s : Schedule) (a₁ a₂ b₁ b₂ : ℤ) → Told (betweenCall s a₁ a₂ b₁ b₂)
+unfolding betweenCall duration
+between-told s a₁ a₂ b₁ b₂ =
+    then-told (instantOf a₁ a₂) _ (λ a. then-told (instantOf b₁ b₂) _
+    (λ b. (_, _, refl, needed-most (begun (max a b - min a b)) anyTime (ahead on s (min a b)) _ (max a b - min a b) 0 0 0)))
+
+moved-told : (w : Way) (s : Schedule) (t d : ℕ) → Told (moved w s t d)
+unfolding moved instant
+moved-told w s t d = then-told (search w s t d) _ (λ x. (_, _, refl, needed-most (begun x) someTime (ahead w s t) _ (reach w t) 0 0 d))
+
+choice-told : (c : Bool) (a b : Answer Reply) → Told a → Told b → Told (if c then a else b)
+choice-told true a b p q = p
+choice-told false a b p q = q
+
+move-told : (w : Way) (s : Schedule) (t₁ t₂ d₁ d₂ : ℤ) → Told (moveCall w s t₁ t₂ d₁ d₂)
+unfolding moveCall
+move-told w s t₁ t₂ d₁ d₂ =
+    then-told (instantOf t₁ t₂) _ (λ t. then-told (durationOf d₁ d₂) _
+    (λ d. choice-told (d .minus) _ _ (then-told (negated d) _ (λ e. moved-told (turned w) s t (e .size))) (moved-told w s t (d .size))))
+
+-- ---- such a reply's numbers are those of the answer, and its count keeps both bounds
+
+time-by : (a : Answer Reply) → Told a → (timeIs (timeBy a) ≡ said a) × Windows (timeCount (timeBy a)) a
+time-by (gives r) (x, y, e, m) = (rw e, record { least = refl; most = m })
+time-by (refuses n p) h = (refl, record { least = refl; most = omega arith })
+
+add-by : (a : Answer Reply) → Told a → (addIs (addBy a) ≡ said a) × Windows (addCount (addBy a)) a
+add-by (gives r) (x, y, e, m) = (rw e, record { least = refl; most = m })
+add-by (refuses n p) h = (refl, record { least = refl; most = omega arith })
+
+sub-by : (a : Answer Reply) → Told a → (subIs (subBy a) ≡ said a) × Windows (subCount (subBy a)) a
+sub-by (gives r) (x, y, e, m) = (rw e, record { least = refl; most = m })
+sub-by (refuses n p) h = (refl, record { least = refl; most = omega arith })
+
+module _ (book pack : List ℕ) where
+  -- what the definitions reply
+  abbrev timeReply : Pair → Pair → Answer Reply
+  timeReply a b = between book pack (a .sec) (a .ns) (b .sec) (b .ns)
+
+  abbrev addReply : Pair → Pair → Answer Reply
+  addReply t d = add book pack (t .sec) (t .ns) (d .sec) (d .ns)
+
+  abbrev subReply : Pair → Pair → Answer Reply
+  subReply t d = sub book pack (t .sec) (t .ns) (d .sec) (d .ns)
+
+  -- the three functions
+  abbrev pub timeOf : Pair → Pair → TimeAnswer
+  timeOf a b = timeBy (timeReply a b)
+
+  abbrev pub addOf : Pair → Pair → AddAnswer
+  addOf t d = addBy (addReply t d)
+
+  abbrev pub subOf : Pair → Pair → SubAnswer
+  subOf t d = subBy (subReply t d)
+
+  -- each is what its contract promises, numbers and count, for all pairs of numbers
+  pub time-promised : (a b : Pair) → (timeIs (timeOf a b) ≡ said (timeReply a b)) × Windows (timeCount (timeOf a b)) (timeReply a b)
+  time-promised a b = time-by (timeReply a b) (then-told (build book pack) _ (λ s. between-told s (a .sec) (a .ns) (b .sec) (b .ns)))
+
+  pub add-promised : (t d : Pair) → (addIs (addOf t d) ≡ said (addReply t d)) × Windows (addCount (addOf t d)) (addReply t d)
+  add-promised t d = add-by (addReply t d) (then-told (build book pack) _ (λ s. move-told on s (t .sec) (t .ns) (d .sec) (d .ns)))
+
+  pub sub-promised : (t d : Pair) → (subIs (subOf t d) ≡ said (subReply t d)) × Windows (subCount (subOf t d)) (subReply t d)
+  sub-promised t d = sub-by (subReply t d) (then-told (build book pack) _ (λ s. move-told back s (t .sec) (t .ns) (d .sec) (d .ns)))
+
+  -- so they answer as demand 3 asks,
+  pub as-promised : AsPromised timeOf addOf subOf book pack
+  as-promised = record { times = λ a b _ _. time-promised a b .0; adds = λ t d _ _. add-promised t d .0; subs = λ t d _ _. sub-promised t d .0 }
+
+  -- and it holds of them
+  pub demand-3-witness : (s : Schedule) → build book pack ≡ gives s → Each WithinDay (zonesOf book pack) → Demand3 timeOf addOf subOf
+  demand-3-witness = demand-3-answers timeOf addOf subOf book pack as-promised
