@@ -1,0 +1,4 @@
+pub mod Images
+pub mod United
+pub mod Parts
+pub mod Told
