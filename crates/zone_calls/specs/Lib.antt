@@ -1,2 +1,5 @@
-pub mod Calls
+pub mod ZoneCalls
+pub mod Answers
+pub mod Given
 pub mod CallLaws
+pub mod Examples
