@@ -56,6 +56,7 @@ module _ (f : List ℕ) {r : ZoneRead} (e : zoneRead f r ≡ zoneOf f) where
 
 -- ---- what the instant is
 
+-- what was read is the instant that the definitions give
 read-is : (a : Answer ℕ) (t : Instant) → instantRead a ≡ I.At t → a ≡ gives (nanos t)
 unfolding instantRead
 read-is (gives n) t e =
@@ -71,6 +72,7 @@ isSecond s = isIn (firstInstant / second) (lastInstant / second) (secondFrom s)
 abbrev isRest : ℤ → Bool
 isRest n = not (isBelow0 n) && ltb (natAbs n) second
 
+-- an instant is refused with 8 only
 read-not : (s n : ℤ) → instantRead (instantOf s n) ≡ I.OutOfRange → instantOf s n ≡ refuses 8 0
 unfolding instantRead instantOf
 read-not s n e =
@@ -78,6 +80,7 @@ read-not s n e =
     (λ t. let q : I.At (ofNanos (secondFrom s * second + natAbs n)) ≡ I.OutOfRange = simp t at e in never (cc))
     (λ t. simp t)
 
+-- an instant that is read lies in the range
 pub read-in : (s n : ℤ) {i : InstantRead} {t : Instant} → i ≡ instantRead (instantOf s n) → i ≡ I.At t → (t .sec < 656384601600) × (t .ns < second)
 unfolding instantRead instantOf
 read-in s n {i} {t} p q =
@@ -96,6 +99,7 @@ read-in s n {i} {t} p q =
 
 -- ---- an instant written
 
+-- its seconds, counted from 1970, and its nanoseconds
 written : (i : Instant) (n : ℕ) {a b : ℤ} → i .ns < second → nanos i ≡ n → a ≡ secondsFrom (i .sec) → b ≡ pos (i .ns) → a ∷ b ∷ [] ≡ instant n
 unfolding instant secondsFrom
 written i n h e p q =
