@@ -16,6 +16,7 @@ pub mod Build
 pub mod Walk
 pub mod Skip
 pub mod Calls
+pub mod ZoneCalls
 pub mod Lines
 pub mod All
 pub mod Label

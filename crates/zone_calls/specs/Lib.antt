@@ -1,2 +1,4 @@
-pub mod Calls
+pub mod Answers
+pub mod Given
 pub mod CallLaws
+pub mod Examples

@@ -1,88 +1,146 @@
 // A zone file's calls for one who has its bytes and nothing else: the offset at an instant, the next change of the offset after an instant, and the
-// instant of a local time. Each call opens the file, checks what it is given and answers for all of it.
+// instant of a local time. Instants are pairs of signed numbers, seconds from 1970 and nanoseconds. Each call opens the file, checks what it is given and
+// answers for all of it: 5 is a file that is not usable, 8 an instant, a date or a time of day that there is not. There is no book: the place is 0.
 ghost use mathlib.Core.Path.{_≡_};
-ghost use Rattle.model.specs.Tzif.{zoneOf};
-ghost use Rattle.model.specs.Instant.{instantOf};
-ghost use Rattle.civil.specs.Dates.{dayRead, timeRead};
-ghost use Rattle.zone_calls.specs.Calls.{offsetRead, changeRead, resolveRead};
+ghost use Prim.Native.Nat.{min};
+ghost use Rattle.model.specs.ZoneCalls as definition;
+ghost use Rattle.zone_calls.specs.Answers.{offsetIs, changeIs, resolveIs};
+ghost use Rattle.zone_calls.specs.Given.{capped, dayIs};
 use book::Time;
 use civil::Date;
 use civil::DayRead;
 use civil::TimeRead;
 use edge::InstantRead;
-use instant::Instant;
 use next_change::Next;
 use zone::ZoneRead;
 
-// Seconds east of Greenwich with 93,600 added; a file that is not usable; an instant or its nanoseconds out of range.
-pub enum OffsetRead {
-    Is(u32),
-    Unusable,
-    OutOfRange,
+// 2^63, which `lift` adds and `lower` takes off.
+const HALF: u64 = 9223372036854775808;
+
+// ---- the offset at an instant
+
+// What `offset_in` answers: seconds east of Greenwich, or a refusal's number and place.
+pub enum OffsetAnswer {
+    Is(i64),
+    Refused(u32, usize),
 }
 
-// The offset at an instant, seconds from 1970 and nanoseconds.
-pub fn offset_in(file: &[u8], sec: i64, ns: i64) -> OffsetRead
-    ensures { λ r. ⌜ r ≡ offsetRead (zoneOf (now (file .entry))) (instantOf sec ns) ⌝ }
+// Seconds east of Greenwich, of an offset that is kept with 93,600 added.
+fn east(offset: u32) -> i64
+    ensures { λ r. ⌜ r ≡ definition.east offset ⌝ }
+{
+    edge::lower(HALF + offset as u64 - 93600)
+}
+
+// The offset at an instant.
+pub fn offset_in(file: &[u8], sec: i64, ns: i64) -> OffsetAnswer
+    ensures { λ r. ⌜ offsetIs r ≡ definition.offsetCall (now (file .entry)) sec ns ⌝ }
 {
     let ZoneRead::Opened(z) = zone::open(file) else {
-        return OffsetRead::Unusable;
+        return OffsetAnswer::Refused(5, 0);
     };
     let InstantRead::At(t) = edge::instant_of(sec, ns) else {
-        return OffsetRead::OutOfRange;
+        return OffsetAnswer::Refused(8, 0);
     };
     let r = zone::run_at(file, z, t.sec);
-    OffsetRead::Is(r.offset)
+    OffsetAnswer::Is(east(r.offset))
 }
 
-// The seconds from 1970 of a change; none up to the range's end; a file that is not usable; an instant or its nanoseconds out of range.
-pub enum ChangeRead {
-    At(i64),
+// ---- the next change of the offset
+
+// What `next_change_in` answers: the change's seconds and nanoseconds, that there is none up to the range's end, or a refusal's number and place.
+pub enum ChangeAnswer {
+    At(i64, i64),
     Never,
-    Unusable,
-    OutOfRange,
+    Refused(u32, usize),
 }
 
-// The next change of the offset after an instant, seconds from 1970 and nanoseconds.
-pub fn next_change_in(file: &[u8], sec: i64, ns: i64) -> ChangeRead
-    ensures { λ r. ⌜ r ≡ changeRead (zoneOf (now (file .entry))) (instantOf sec ns) ⌝ }
+// The next change of the offset after an instant.
+pub fn next_change_in(file: &[u8], sec: i64, ns: i64) -> ChangeAnswer
+    ensures { λ r. ⌜ changeIs r ≡ definition.changeCall (now (file .entry)) sec ns ⌝ }
 {
     let ZoneRead::Opened(z) = zone::open(file) else {
-        return ChangeRead::Unusable;
+        return ChangeAnswer::Refused(5, 0);
     };
     let InstantRead::At(t) = edge::instant_of(sec, ns) else {
-        return ChangeRead::OutOfRange;
+        return ChangeAnswer::Refused(8, 0);
     };
     let Next::At(v) = next_change::next_change(file, z, t.sec) else {
-        return ChangeRead::Never;
+        return ChangeAnswer::Never;
     };
-    ChangeRead::At(edge::seconds_of(v))
+    ChangeAnswer::At(edge::seconds_of(v), 0)
 }
 
-// An instant; a file that is not usable; what is no date of the years -9999 to 9999; what is no time of day.
-pub enum ResolveRead {
-    At(Instant),
-    Unusable,
-    NoDate,
-    NoTime,
+// ---- the instant of a local time
+
+// What `resolve_in` answers: an instant's seconds and nanoseconds, or a refusal's number and place.
+pub enum ResolveAnswer {
+    At(i64, i64),
+    Refused(u32, usize),
 }
 
-// The instant of a time of day, seconds and nanoseconds, on a date.
-pub fn resolve_in(file: &[u8], date: Date, sec: u32, ns: u32) -> ResolveRead
-    ensures { λ r. ⌜ r ≡ resolveRead (zoneOf (now (file .entry))) (dayRead date) (timeRead sec ns) ⌝ }
+// x, and the cap where x is below 0 or beyond the cap.
+fn capped(x: i64, cap: u32) -> u32
+    ensures { λ r. ⌜ r ≡ capped x cap ⌝ }
+{
+    let k = edge::lift(x);
+    if k < HALF {
+        return cap;
+    }
+    if (cap as u64) < k - HALF {
+        return cap;
+    }
+    (k - HALF) as u32
+}
+
+// A year counted from -10400; 0 for all before, and 20,800 for all from 10400 on.
+fn year_from(year: i64) -> u32
+    ensures { λ r. ⌜ r ≡ min (definition.yearFrom year) 20800 ⌝ }
+{
+    let k = edge::lift(year);
+    if k < HALF - 10400 {
+        return 0;
+    }
+    if HALF + 10400 < k {
+        return 20800;
+    }
+    (k - (HALF - 10400)) as u32
+}
+
+// The number of a date's day. There is no month 13 and no day 32.
+fn day_given(year: i64, month: i64, day: i64) -> DayRead
+    ensures { λ r. ⌜ dayIs r ≡ definition.dayGiven year month day ⌝ }
+{
+    civil::day_of(Date {
+        year: year_from(year),
+        month: capped(month, 13),
+        day: capped(day, 32),
+    })
+}
+
+// The instant of a local time: a date, and a second and nanoseconds of its day.
+pub fn resolve_in(
+    file: &[u8],
+    year: i64,
+    month: i64,
+    day: i64,
+    second: i64,
+    ns: i64,
+) -> ResolveAnswer
+    ensures { λ r. ⌜ resolveIs r ≡ definition.resolveCall (now (file .entry)) year month day second ns ⌝ }
 {
     let ZoneRead::Opened(z) = zone::open(file) else {
-        return ResolveRead::Unusable;
+        return ResolveAnswer::Refused(5, 0);
     };
-    let DayRead::Day(day) = civil::day_of(date) else {
-        return ResolveRead::NoDate;
+    let DayRead::Day(d) = day_given(year, month, day) else {
+        return ResolveAnswer::Refused(8, 0);
     };
-    let TimeRead::Nanoseconds(_) = civil::time_of(sec, ns) else {
-        return ResolveRead::NoTime;
+    let seconds = capped(second, 86400);
+    let nanos = capped(ns, 1000000000);
+    let TimeRead::Nanoseconds(_) = civil::time_of(seconds, nanos) else {
+        return ResolveAnswer::Refused(8, 0);
     };
-    let time = Time {
-        seconds: sec,
-        nanos: ns,
-    };
-    ResolveRead::At(dates::resolve(file, z, day, time))
+    let time = Time { seconds, nanos };
+    let t = dates::resolve(file, z, d, time);
+    ResolveAnswer::At(edge::seconds_of(t.sec), t.ns as i64)
 }

@@ -1,7 +1,9 @@
--- `zone_calls::offset_in` meets its contract.
+use mathlib.Core.Path.{_∙_}
 use mir.Facts.{toZ-ofZ}
-use Rattle.zone_calls.specs.CallLaws.{offset-unusable, offset-out, offset-is, read-in}
+use mir.Syntax.{w64}
 use Rattle.zone.specs.Zones.{zone-inside}
+use Rattle.zone_calls.specs.CallLaws.{offset-unusable, offset-out, offset-is, read-in}
+-- `zone_calls::offset_in` meets its contract.
 use borrow.Author.Needs.{needs}
 use Rattle.zone_calls.proofs.offset_in.Statement.{statement}
 use Rattle.zone_calls.proofs.offset_in.Tie as tie
@@ -16,7 +18,7 @@ enum-told : tie.Need-enum-told
 enum-told c = search needs
 
 returns : tie.Need-returns
-returns c = offset-unusable _ ((c .before .before .«open» .ensures) .0) _ (c .enum-told .given .1)
+returns c = offset-unusable _ ((c .before .before .«open» .ensures .0)) _ _ (c .enum-told .given .1)
 
 instant-of-requires : tie.Need-instant-of-requires
 instant-of-requires c κs = search needs
@@ -28,13 +30,16 @@ enum-told-2 : tie.Need-enum-told-2
 enum-told-2 c = search needs
 
 returns-2 : tie.Need-returns-2
-returns-2 c = let f = toZ-ofZ (c .before .before .before .before .before .before .before .before .fits .sec) in let g = toZ-ofZ (c .before .before .before .before .before .before .before .before .fits .ns) in let e = rw (f, g) at (c .before .before .instant-of .ensures) in offset-out _ ((c .before .before .before .before .before .before .«open» .ensures) .0) _ (c .before .before .before .before .z .given .1) e (c .enum-told2 .given .1)
+returns-2 c = let f = toZ-ofZ (c .before .before .before .before .before .before .before .before .fits .sec) in let g = toZ-ofZ (c .before .before .before .before .before .before .before .before .fits .ns) in let e = rw (f, g) at (c .before .before .instant-of .ensures) in offset-out _ ((c .before .before .before .before .before .before .«open» .ensures .0)) _ _ (c .before .before .before .before .z .given .1) e (c .enum-told2 .given .1)
 
 run-at-requires : tie.Need-run-at-requires
-run-at-requires c κs = (zone-inside ((c .before .before .before .before .before .before .before .«open» .ensures) .1) (c .before .before .before .before .before .z .given .1), read-in _ _ (c .before .before .before .instant-of .ensures) (c .before .t .given .1))
+run-at-requires c κs = (zone-inside (c .before .before .before .before .before .before .before .«open» .ensures .1) (c .before .before .before .before .before .z .given .1), read-in _ _ (c .before .before .before .instant-of .ensures) (c .before .t .given .1) .0)
+
+east-requires : tie.Need-east-requires
+east-requires c κs = search needs
 
 returns-3 : tie.Need-returns-3
-returns-3 c = let f = toZ-ofZ (c .before .before .before .before .before .before .before .before .before .before .fits .sec) in let g = toZ-ofZ (c .before .before .before .before .before .before .before .before .before .before .fits .ns) in let e = rw (f, g) at (c .before .before .before .before .instant-of .ensures) in offset-is _ ((c .before .before .before .before .before .before .before .before .«open» .ensures) .0) _ (c .before .before .before .before .before .before .z .given .1) e (c .before .before .t .given .1) ((c .run-at .ensures) .0)
+returns-3 c = let f = toZ-ofZ (c .before .before .before .before .before .before .before .before .before .before .before .fits .sec) in let g = toZ-ofZ (c .before .before .before .before .before .before .before .before .before .before .before .fits .ns) in let e = rw (f, g) at (c .before .before .before .before .before .instant-of .ensures) in offset-is _ ((c .before .before .before .before .before .before .before .before .before .«open» .ensures .0)) _ _ (c .before .before .before .before .before .before .before .z .given .1) e (c .before .before .before .t .given .1) (c .before .run-at .ensures .0) (toZ-ofZ {w = w64} (record { sfits = (c .east .ok) }) ∙ (c .east .ensures))
 
 pub offset-in-spec : {M : Type 1} → statement M
 offset-in-spec =
@@ -49,4 +54,5 @@ offset-in-spec =
     enum-told-2
     returns-2
     run-at-requires
+    east-requires
     returns-3)
