@@ -8,6 +8,7 @@ use Rattle.model.specs.Pack.{packs}
 use Rattle.model.specs.Footer.{footers}
 use Rattle.model.specs.Tzif.{tzif}
 use Rattle.model.specs.Zone.{zones}
+use Rattle.model.specs.NextChange.{nextChanges}
 use Rattle.model.specs.Book.{books}
 use Rattle.model.specs.Blocks.{blocks}
 use Rattle.model.specs.Working.{workings}
@@ -15,8 +16,9 @@ use Rattle.model.specs.Build.{builds}
 use Rattle.model.specs.Walk.{walks}
 use Rattle.model.specs.Skip.{skips}
 use Rattle.model.specs.Calls.{calls}
+use Rattle.model.specs.ZoneCalls.{zoneCalls}
 use Rattle.model.specs.Lines.{lines}
 
 unfoldable pub everything : Unit {0}
-unfolding basics bytes calendar instants directory packs footers tzif zones books blocks workings builds walks skips calls lines
+unfolding basics bytes calendar instants directory packs footers tzif zones nextChanges books blocks workings builds walks skips calls zoneCalls lines
 everything = tt

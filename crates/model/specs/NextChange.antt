@@ -20,3 +20,7 @@ firstOf t v (suc n) = let r = firstOf t (suc v) n in if t v then some v else r
 -- Computing it goes from second to second; crate next_change, NextLaws, has what it means (`next-means`) and a shorter way to compute it (`steady-next`)
 unfoldable pub nextChange : Zone → ℕ → Option ℕ
 nextChange z u = firstOf (isChange z) (suc u) (lastSecond - u)
+
+unfoldable pub nextChanges : Unit {0}
+unfolding firstOf nextChange
+nextChanges = tt
