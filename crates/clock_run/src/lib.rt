@@ -99,12 +99,15 @@ fn read_file(file: i32, path: &[u8], buf: &mut [u8]) -> usize
 }
 
 // Reads a file to the start of buf and answers how many bytes it has, 0 where it is missing or has more than 65,536 bytes. buf has room for one
-// byte more, to tell.
+// byte more, to tell. Where the file is there and cannot be opened, standard error has a line that says why.
 fn load(path: &[u8], buf: &mut [u8]) -> usize
     ensures { λ r. ⌜ Counts r (now (buf .exit)) ⌝ }
 {
     let file = os::open_read(path);
     if file < 0 {
+        if os::errno() != libc::ENOENT {
+            os::fail(path);
+        }
         return 0;
     }
     let n = read_file(file, path, buf);
