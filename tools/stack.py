@@ -115,14 +115,21 @@ def newer(made):
     return not made.exists() or any(f.stat().st_mtime > made.stat().st_mtime for f in (ROOT / "crates").glob("*/src/*.rt"))
 
 
+def quiet(command):
+    """Runs a command in the repository, and shows what it wrote only where it fails."""
+    done = subprocess.run(command, cwd=ROOT, stdout=subprocess.PIPE, stderr=subprocess.STDOUT, text=True)
+    if done.returncode != 0:
+        raise SystemExit(done.stdout[-2000:])
+
+
 def build(folder):
     """The program in C over the archive, with our functions' names in it."""
     archive = ROOT / "target" / "staticlib" / "libbench_stack.a"
     if newer(archive):
-        subprocess.run(["rt", "staticlib", "bench_stack"], cwd=ROOT, check=True, stdout=subprocess.DEVNULL)
+        quiet(["rt", "staticlib", "bench_stack"])
     program = ROOT / "target" / "bin" / "clock"
     if newer(program):
-        subprocess.run(["rt", "check", "clock"], cwd=ROOT, check=True, stdout=subprocess.DEVNULL)
+        quiet(["rt", "check", "clock"])
     source, driver = folder / "driver.c", folder / "driver"
     source.write_text(DRIVER)
     subprocess.run(["cc", "-O2", "-Wl,-z,now", "-o", driver, source, archive], check=True)
