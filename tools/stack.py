@@ -21,6 +21,7 @@ from pathlib import Path
 
 ROOT = Path(__file__).resolve().parent.parent
 PAGE = 4096
+RUNS = 40  # of the program under one limit
 POINTER = "through a pointer"
 DIGITS = 20  # how often a function that calls itself is in its own frames
 CALLS = [
@@ -207,9 +208,12 @@ def need(found, name, above=()):
 
 
 def least_limit(program, folder):
-    """The least limit on the stack, in kB, under which the program answers."""
+    """The least limit on the stack, in kB, under which the program answers in all of some runs: where the stack begins is random."""
 
     def answers(size):
+        return all(one_run(size) for _ in range(RUNS))
+
+    def one_run(size):
         done = subprocess.run([program], cwd=folder, input=QUERIES, stdout=subprocess.PIPE, preexec_fn=lambda: resource.setrlimit(resource.RLIMIT_STACK, (size * 1024, size * 1024)))
         return done.returncode == 0 and done.stdout.count(b"\n") == QUERIES.count(b"\n")
 
