@@ -1,6 +1,6 @@
 -- Reading on in a piece of the input, byte by byte.
 use mathlib.Core.Path.{_≡_, refl, sym, ap, _∙_}
-use mathlib.Core.List.{List, [], _∷_, _++_}
+use mathlib.Core.List.{List, [], _∷_, _++_, append-assoc}
 use Prim.Native.Nat.{ℕ, zero, suc, _+_, _-_, _≤_, _<_}
 use native.Mathlib.Omega.{arith}
 use native.Mathlib.Numerals.{add-one}
@@ -11,8 +11,11 @@ use lib.Seq.{drop-cons}
 use Rattle.model.specs.Answer.{Answer}
 use Rattle.model.specs.Working.{Schedule}
 use Rattle.lines.specs.Reading.{Bytes}
-use Rattle.stream.specs.Streaming.{allOut, Turned, Fed}
+use Rattle.reply.specs.Placed.{Placed}
+use Rattle.reply.proofs.Placing.{placed-more}
+use Rattle.stream.specs.Streaming.{toCome, Turned, Fed}
 use Rattle.stream.specs.declared.Progress.{Progress}
+use Rattle.stream.proofs.Lines.{placed-none}
 
 -- ---- bytes
 
@@ -33,7 +36,9 @@ bytes-join (c ∷ s) t h g = (h .0, bytes-join s t (h .1) g)
 
 -- p has become r, which is about to read byte i
 pub record Going (a : Answer Schedule) (input old new : List ℕ) (p r : Progress) (i : ℕ) : Type 0 where
-  pub same : (t : List ℕ) → Bytes t → allOut a new r (drop i input ++ t) ≡ allOut a old p (drop (p .next) input ++ t)
+  pub text : List ℕ
+  pub placed : Placed old new (p .used) (r .used) text
+  pub same : (t : List ℕ) → Bytes t → text ++ toCome a r (drop i input ++ t) ≡ toCome a p (drop (p .next) input ++ t)
   pub here : r .next ≡ i
   pub used : r .used ≤ length old
   pub kept : length new ≡ length old
@@ -44,17 +49,30 @@ pub record Going (a : Answer Schedule) (input old new : List ℕ) (p r : Progres
 module _ (a : Answer Schedule) (input old : List ℕ) (p : Progress) where
   pub going-first : p .used ≤ length old → p .next ≤ length input → Going a input old old p p (p .next)
   going-first h k =
-      record { same = λ t g. refl; here = refl; used = h; kept = refl; next = k; since = omega arith; first = λ e. refl }
-
-  pub going-on : (new last : List ℕ) (r q : Progress) (i : ℕ) → Bytes input → i < length input → r .used + 128 ≤ length old →
-      Going a input old new p r i → Turned a new last r (getD input i 0) q → length last ≡ length new → Going a input old last p q (i + 1)
-  going-on new last r q i b h room g u l =
       record {
+        text = [];
+        placed = placed-none old (p .used);
+        same = λ t g. refl;
+        here = refl;
+        used = h;
+        kept = refl;
+        next = k;
+        since = omega arith;
+        first = λ e. refl;
+      }
+
+  pub going-on : (new last : List ℕ) (r q : Progress) (i : ℕ) → p .used ≤ length old → Bytes input → i < length input → r .used + 128 ≤ length old →
+      Going a input old new p r i → Turned a new last r (getD input i 0) q → length last ≡ length new → Going a input old last p q (i + 1)
+  going-on new last r q i from b h room g u l =
+      record {
+        text = g .text ++ u .text;
+        placed = placed-more old new last (p .used) (r .used) (q .used) (g .text) (u .text) from (g .placed) (u .placed);
         same =
             λ t k.
             let d : getD input i 0 ∷ (drop (i + 1) input ++ t) ≡ drop i input ++ t =
             ap (λ n. getD input i 0 ∷ (drop n input ++ t)) (add-one i) ∙ ap (λ s. s ++ t) (sym (drop-cons input i 0 h)) in
-            u .same (drop (i + 1) input ++ t) (bytes-join (drop (i + 1) input) t (bytes-drop (i + 1) input b) k) ∙ ap (allOut a new r) d ∙ g .same t k;
+            append-assoc (g .text) (u .text) (toCome a q (drop (i + 1) input ++ t))
+            ∙ ap (λ s. g .text ++ s) (u .same (drop (i + 1) input ++ t) (bytes-join (drop (i + 1) input) t (bytes-drop (i + 1) input b) k) ∙ ap (toCome a r) d) ∙ g .same t k;
         here = omega (arith, u .next, g .here);
         used = omega (arith, u .used, room);
         kept = l ∙ g .kept;
@@ -63,24 +81,23 @@ module _ (a : Answer Schedule) (input old : List ℕ) (p : Progress) where
         first = λ e. absurd (omega (arith, g .since));
       }
 
-  pub going-full : (new : List ℕ) (r : Progress) (i : ℕ) → length new - r .used < 128 → Going a input old new p r i → Fed a input old new p r
-  going-full new r i h g =
+  fed : (new : List ℕ) (r : Progress) (i : ℕ) → (p .used + 128 ≤ length old → p .next < length input → p .next < r .next) → Going a input old new p r i → Fed a input old new p r
+  fed new r i h g =
       record {
-        same = λ t k. ap (λ n. allOut a new r (drop n input ++ t)) (g .here) ∙ g .same t k;
+        text = g .text;
+        placed = g .placed;
+        same = λ t k. ap (λ n. g .text ++ toCome a r (drop n input ++ t)) (g .here) ∙ g .same t k;
         used = g .used;
         next = omega (arith, g .here, g .next);
-        onward = λ j k. later j (decLe i (p .next));
+        onward = h;
       }
+
+  pub going-full : (new : List ℕ) (r : Progress) (i : ℕ) → length new - r .used < 128 → Going a input old new p r i → Fed a input old new p r
+  going-full new r i h g = fed new r i (λ j k. later j (decLe i (p .next))) g
     where
       later : p .used + 128 ≤ length old → Dec (i ≤ p .next) → p .next < r .next
       later j (yes e) = let f : r .used ≡ p .used = g .first (le-antisymm e (g .since)) in absurd (omega (arith, g .kept, g .used))
       later j (no e) = omega (arith, g .here)
 
   pub going-done : (new : List ℕ) (r : Progress) (i : ℕ) → length input ≤ i → Going a input old new p r i → Fed a input old new p r
-  going-done new r i h g =
-      record {
-        same = λ t k. ap (λ n. allOut a new r (drop n input ++ t)) (g .here) ∙ g .same t k;
-        used = g .used;
-        next = omega (arith, g .here, g .next);
-        onward = λ j k. omega (arith, g .here);
-      }
+  going-done new r i h g = fed new r i (λ j k. omega (arith, g .here)) g

@@ -2,12 +2,11 @@
 use mathlib.Core.Path.{_≡_, refl, sym, ap, _∙_}
 use mathlib.Core.Bool.{Bool, true, false}
 use mathlib.Core.Option.{Option}
-use mathlib.Core.List.{List, [], _∷_, _++_, map, append-assoc, append-nil}
-use Prim.Native.Nat.{ℕ, _+_, _≤_, _<_}
+use mathlib.Core.List.{List, [], _∷_, _++_, map, append-nil}
+use Prim.Native.Nat.{ℕ, _<_}
 use native.Mathlib.Omega.{arith}
 use lib.Dec.{eqb}
-use lib.ListN.{length, take, drop, length-append}
-use lib.Seq.{take-at, length-take-le}
+use lib.ListN.{take-append-drop}
 use borrow.Author.Tests.{ne-eqb}
 use Rattle.model.specs.Basic.{joined}
 use Rattle.model.specs.Answer.{Answer}
@@ -46,6 +45,10 @@ at-other c s h = rw (ne-eqb c 10 h)
 abbrev pub Fresh : Line → Type 0
 Fresh l = (s : List ℕ) → Bytes s → yet l s ≡ queryOf s
 
+-- nothing is written
+pub placed-none : (out : List ℕ) (at : ℕ) → Placed out out at at []
+placed-none out at = record { behind = omega arith; bytes = rw (append-nil, take-append-drop) }
+
 module _ (a : Answer Schedule) where
   -- the lines that follow, in full
   all-lines : List (List ℕ) → List ℕ
@@ -74,25 +77,18 @@ module _ (a : Answer Schedule) where
   more l m true c h (k ∷ ls) = rw (h k)
   more l m false c h (k ∷ ls) = rw (h k)
 
-  -- the bytes up to the end of what was placed
-  placed-front : (old new : List ℕ) (at e : ℕ) (s : List ℕ) → at ≤ length old → Placed old new at e s → take e new ≡ take at old ++ s
-  placed-front old new at e s h p =
-      ap (take e) (p .bytes) ∙ take-at (take at old ++ s) (drop e old) e (length-append (take at old) s ∙ rw (length-take-le at old h) (sym (p .behind)))
+  pub newline : (l m : Line) (begun : Bool) (c : ℕ) (q : Option Query) → c ≡ 10 → Fresh m → q ≡ yet l [] → (t : List ℕ) → Bytes t →
+      replyIn leastOnly a q ++ outYet a m false (linesOf t) ≡ outYet a l begun (linesOf (c ∷ t))
+  newline l m begun c q n h f t g = rw (n, at-newline t, f, from-fresh m h (linesOf t) (firsts t g), ended l begun (linesOf t))
 
-  module _ (old new : List ℕ) (at e : ℕ) (room : at ≤ length old) where
-    pub newline : (l m : Line) (begun : Bool) (c : ℕ) (q : Option Query) → c ≡ 10 → Fresh m → q ≡ yet l [] → Placed old new at e (replyIn leastOnly a q) → (t : List ℕ) → Bytes t →
-        take e new ++ outYet a m false (linesOf t) ≡ take at old ++ outYet a l begun (linesOf (c ∷ t))
-    newline l m begun c q n h f p t g =
-        rw (n, at-newline t, placed-front old new at e (replyIn leastOnly a q) room p, f, from-fresh m h (linesOf t) (firsts t g), ended l begun (linesOf t), append-assoc)
+  pub goes-on : (l m : Line) (begun : Bool) (c : ℕ) → (c ≡ 10 → ⊥) → ((s : List ℕ) → yet m s ≡ yet l (c ∷ s)) → (t : List ℕ) →
+      outYet a m true (linesOf t) ≡ outYet a l begun (linesOf (c ∷ t))
+  goes-on l m begun c n h t = more l m begun c h (linesOf t) ∙ rw (at-other c t n)
 
-  pub goes-on : (l m : Line) (begun : Bool) (c : ℕ) (out : List ℕ) → (c ≡ 10 → ⊥) → ((s : List ℕ) → yet m s ≡ yet l (c ∷ s)) → (t : List ℕ) →
-      out ++ outYet a m true (linesOf t) ≡ out ++ outYet a l begun (linesOf (c ∷ t))
-  goes-on l m begun c out n h t = ap (λ s. out ++ s) (more l m begun c h (linesOf t) ∙ rw (at-other c t n))
-
-  pub last-line : (l : Line) (begun : Bool) (old new : List ℕ) (e : ℕ) (q : Option Query) → begun ≡ true → q ≡ yet l [] → Placed old new 0 e (replyIn leastOnly a q) → take e new ≡ outYet a l begun []
+  pub last-line : (l : Line) (begun : Bool) (old new : List ℕ) (e : ℕ) (q : Option Query) → begun ≡ true → q ≡ yet l [] → Placed old new 0 e (replyIn leastOnly a q) → Placed old new 0 e (outYet a l begun [])
   unfolding outYet
-  last-line l begun old new e q h f p = rw (h, ← f) (placed-front old new 0 e (replyIn leastOnly a q) (omega arith) p)
+  last-line l begun old new e q h f p = rw (h, ← f) p
 
-  pub no-line : (l : Line) (begun : Bool) → begun ≡ false → [] ≡ outYet a l begun []
+  pub no-line : (l : Line) (begun : Bool) (out : List ℕ) → begun ≡ false → Placed out out 0 0 (outYet a l begun [])
   unfolding outYet
-  no-line l begun h = rw h
+  no-line l begun out h = rw h (placed-none out 0)

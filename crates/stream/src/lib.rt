@@ -4,12 +4,13 @@
 ghost use mathlib.Core.Path.{_≡_};
 ghost use mathlib.Core.List.{List, []};
 ghost use Prim.Native.Nat.{ℕ, _+_, _≤_, _<_};
-ghost use lib.ListN.{length, take};
+ghost use lib.ListN.{length};
 ghost use Rattle.model.specs.Answer.{Answer};
 ghost use Rattle.model.specs.Working.{Schedule};
 ghost use Rattle.model.specs.Build as definition;
 ghost use Rattle.model.specs.Lines.{linesOf, answered, leastOnly};
 ghost use Rattle.lines.specs.Reading.{Bytes};
+ghost use Rattle.reply.specs.Placed.{Placed};
 ghost use Rattle.answers.specs.Answering.{Stands};
 ghost use Rattle.stream.specs.Streaming.{outYet, Turned, Fed};
 use build::Built;
@@ -59,7 +60,7 @@ fn turn(book: &[u8], pack: &[u8], b: Built, p: Progress, byte: u8, out: &mut [u8
     }
 }
 
-// Reads on in the piece `input`, to its end or until `out` has no room for one more line.
+// Reads on in the piece `input`, to its end or until `out` has no room for one more line. Writes the answers from p's place on; no other byte changes.
 pub fn feed(
     book: &[u8],
     pack: &[u8],
@@ -83,10 +84,10 @@ pub fn feed(
     r
 }
 
-// The input ends: a last line without a newline counts. Writes its answer at the start of `out`.
+// The input ends: a last line without a newline counts. Writes its answer at the start of `out`; no other byte changes.
 pub fn end(book: &[u8], pack: &[u8], b: Built, p: Progress, out: &mut [u8]) -> usize
     requires { ⌜ Stands (now book) (now pack) b × (128 ≤ length (now out)) ⌝ }
-    ensures { λ r. ⌜ (take r (now (out .exit)) ≡ outYet (definition.build (now (book .entry)) (now (pack .entry))) (p .line) (p .begun) []) × (r ≤ 128) ⌝ }
+    ensures { λ r. ⌜ Placed (now (out .entry)) (now (out .exit)) 0 r (outYet (definition.build (now (book .entry)) (now (pack .entry))) (p .line) (p .begun) []) × (r ≤ 128) ⌝ }
 {
     if p.begun {
         let line = p.line;

@@ -18,7 +18,7 @@ returns : tie.Need-returns
 returns c = (last-line _ _ _ _ _ _ _ (c .before .before .before .before .before .if1 .taken) (c .before .before .before .before .finish .ensures) (c .before .before .answer .ensures .0), (c .before .before .answer .ensures .1))
 
 returns-2 : tie.Need-returns-2
-returns-2 c = (no-line _ _ _ (c .if1 .left), omega arith)
+returns-2 c = (no-line _ _ _ _ (c .if1 .left), omega arith)
 
 pub end-spec : {M : Type 1} → statement M
 end-spec = tie.close (tie.spec finish-requires answer-requires same-length returns returns-2)

@@ -38,7 +38,7 @@ loop-less : tie.Need-loop-less Inv-loop μ-loop
 loop-less c = omega arith
 
 loop-again : tie.Need-loop-again Inv-loop μ-loop
-loop-again c = going-on _ _ _ _ _ _ _ _ _ (bytes-at (c .before .before .before .before .before .before .before .before .before .before .before .before .before .args .input .now) (λ k. (c .before .before .before .before .before .before .before .before .before .before .shared-slice-known3 .given) k .fits)) (omega arith) (omega (arith, (c .before .before .before .before .before .if1 .left), (c .before .before .before .before .before .before .before .before .loop .inv .used), (c .before .before .before .before .before .before .before .before .loop .inv .kept))) (c .before .before .before .before .before .before .before .before .loop .inv) (c .before .before .turn .ensures) (c .before .before .turn .kept .1 .1 .1 .1 .1 .0)
+loop-again c = going-on _ _ _ _ _ _ _ _ _ (c .before .before .before .before .before .before .before .before .before .before .before .before .before .pre .1 .0) (bytes-at (c .before .before .before .before .before .before .before .before .before .before .before .before .before .args .input .now) (λ k. (c .before .before .before .before .before .before .before .before .before .before .shared-slice-known3 .given) k .fits)) (omega arith) (omega (arith, (c .before .before .before .before .before .if1 .left), (c .before .before .before .before .before .before .before .before .loop .inv .used), (c .before .before .before .before .before .before .before .before .loop .inv .kept))) (c .before .before .before .before .before .before .before .before .loop .inv) (c .before .before .turn .ensures) (c .before .before .turn .kept .1 .1 .1 .1 .1 .0)
 
 same-length-2 : tie.Need-same-length-2 Inv-loop μ-loop
 same-length-2 c = (c .before .loop .inv .kept)

@@ -1,0 +1,110 @@
+// The public calls for a program that measures how much stack each needs (tools/stack.py). Each answers one number, so that the call is not left out.
+use civil::Date;
+use listing::Listing;
+use period_calls::NextPeriod;
+use period_calls::PreviousPeriod;
+use schedule::AddAnswer;
+use schedule::SubAnswer;
+use schedule::TimeAnswer;
+use zone_calls::ChangeRead;
+use zone_calls::OffsetRead;
+use zone_calls::ResolveRead;
+
+#[no_mangle]
+pub extern "C" fn stack_build(book: &[u8], pack: &[u8]) -> i64 {
+    let b = build::build(book, pack);
+    b.number as i64
+}
+
+#[no_mangle]
+pub extern "C" fn stack_between(book: &[u8], pack: &[u8], a: i64, b: i64, c: i64, d: i64) -> i64 {
+    match schedule::between(book, pack, a, b, c, d) {
+        TimeAnswer::Is(sec, _, _) => sec,
+        TimeAnswer::Refused(number, _) => number as i64,
+    }
+}
+
+#[no_mangle]
+pub extern "C" fn stack_add(book: &[u8], pack: &[u8], a: i64, b: i64, c: i64, d: i64) -> i64 {
+    match schedule::add(book, pack, a, b, c, d) {
+        AddAnswer::At(sec, _, _) => sec,
+        AddAnswer::Refused(number, _) => number as i64,
+    }
+}
+
+#[no_mangle]
+pub extern "C" fn stack_sub(book: &[u8], pack: &[u8], a: i64, b: i64, c: i64, d: i64) -> i64 {
+    match schedule::sub(book, pack, a, b, c, d) {
+        SubAnswer::At(sec, _, _) => sec,
+        SubAnswer::Refused(number, _) => number as i64,
+    }
+}
+
+#[no_mangle]
+pub extern "C" fn stack_next_period(book: &[u8], pack: &[u8], a: i64, b: i64) -> i64 {
+    match period_calls::next_period(book, pack, a, b) {
+        NextPeriod::Is(sec, _, _, _) => sec,
+        NextPeriod::Refused(number, _) => number as i64,
+    }
+}
+
+#[no_mangle]
+pub extern "C" fn stack_previous_period(book: &[u8], pack: &[u8], a: i64, b: i64) -> i64 {
+    match period_calls::previous_period(book, pack, a, b) {
+        PreviousPeriod::Is(sec, _, _, _) => sec,
+        PreviousPeriod::Refused(number, _) => number as i64,
+    }
+}
+
+#[no_mangle]
+pub extern "C" fn stack_list(
+    book: &[u8],
+    pack: &[u8],
+    a: i64,
+    b: i64,
+    c: i64,
+    d: i64,
+    out: &mut [i64],
+) -> usize {
+    match listing::list(book, pack, a, b, c, d, out) {
+        Listing::Count(n) => n,
+        Listing::Refused(_, place) => place,
+    }
+}
+
+#[no_mangle]
+pub extern "C" fn stack_offset_in(file: &[u8], a: i64, b: i64) -> u32 {
+    match zone_calls::offset_in(file, a, b) {
+        OffsetRead::Is(offset) => offset,
+        OffsetRead::Unusable => 1,
+        OffsetRead::OutOfRange => 2,
+    }
+}
+
+#[no_mangle]
+pub extern "C" fn stack_next_change_in(file: &[u8], a: i64, b: i64) -> i64 {
+    match zone_calls::next_change_in(file, a, b) {
+        ChangeRead::At(sec) => sec,
+        ChangeRead::Never => 0,
+        ChangeRead::Unusable => 1,
+        ChangeRead::OutOfRange => 2,
+    }
+}
+
+#[no_mangle]
+pub extern "C" fn stack_resolve_in(
+    file: &[u8],
+    year: u32,
+    month: u32,
+    day: u32,
+    sec: u32,
+    ns: u32,
+) -> u64 {
+    let date = Date { year, month, day };
+    match zone_calls::resolve_in(file, date, sec, ns) {
+        ResolveRead::At(t) => t.sec,
+        ResolveRead::Unusable => 1,
+        ResolveRead::NoDate => 2,
+        ResolveRead::NoTime => 3,
+    }
+}
