@@ -18,13 +18,13 @@ begin-requires : tie.Need-begin-requires Inv-loop μ-loop
 begin-requires c κs = tt
 
 step-requires : tie.Need-step-requires Inv-loop μ-loop
-step-requires c κs = (record { means = c .before .before .before .build .ensures .0; fits = c .before .before .before .build .ensures .1 }, c .before .before .before .before .before .before .before .before .pre)
+step-requires c κs = (c .before .before .before .build .ensures, c .before .before .before .before .before .before .before .before .pre)
 
 loop-holds : tie.Need-loop-holds Inv-loop μ-loop
 loop-holds c = (refl, refl)
 
 step-requires-2 : tie.Need-step-requires-2 Inv-loop μ-loop
-step-requires-2 c κs = (record { means = c .before .before .before .before .before .before .before .before .before .before .before .before .before .build .ensures .0; fits = c .before .before .before .before .before .before .before .before .before .before .before .before .before .build .ensures .1 }, omega (arith, c .before .before .before .before .loop .inv .1, c .before .before .before .before .before .before .before .before .before .step .kept .1 .1 .1 .1 .1 .0, c .before .before .before .before .before .before .before .before .before .before .before .before .before .before .before .before .before .before .pre))
+step-requires-2 c κs = (c .before .before .before .before .before .before .before .before .before .before .before .before .before .build .ensures, omega (arith, c .before .before .before .before .loop .inv .1, c .before .before .before .before .before .before .before .before .before .step .kept .1 .1 .1 .1 .1 .0, c .before .before .before .before .before .before .before .before .before .before .before .before .before .before .before .before .before .before .pre))
 
 sub-turns : tie.Need-sub-turns Inv-loop μ-loop
 sub-turns c = omega arith
