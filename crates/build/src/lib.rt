@@ -34,7 +34,7 @@ pub enum Sought {
     Refused(u32, usize),
 }
 
-// The last zone that was found by a record's name: where the name stands in the book, how many letters it has, and the zone. None was found yet at first.
+// The zone that was found last by a record's name: where the name stands in the book, how many letters it has, and the zone; or none was found yet.
 pub enum Known {
     Last(usize, usize, Opened),
     Nothing,
@@ -284,7 +284,7 @@ fn read_rules(book: &[u8], pack: &[u8], d: Opened) -> Built
 }
 
 // The schedule of a book and a pack, whether or not there is work in it: refusals 1 to 5, in this order.
-pub fn rules_of(book: &[u8], pack: &[u8]) -> Built
+fn rules_of(book: &[u8], pack: &[u8]) -> Built
     ensures { λ r. ⌜ Answers (now (book .entry)) (now (pack .entry)) r (rulesRead (now (book .entry)) (now (pack .entry))) ⌝ }
 {
     if !book::book_ok(book) {
