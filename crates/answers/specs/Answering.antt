@@ -1,5 +1,4 @@
 -- The lines of the code's answers.
-use mathlib.Core.Path.{_≡_}
 use mathlib.Core.Bool.{Bool, true, false}
 use mathlib.Core.Option.{Option, some}
 use mathlib.Core.List.{List, [], _∷_}
@@ -8,8 +7,7 @@ use Rattle.model.specs.Answer.{gives, refuses}
 use Rattle.model.specs.Build.{build}
 use Rattle.model.specs.Lines as model
 use Rattle.model.specs.Lines.{printed, replyIn, leastOnly}
-use Rattle.rules.specs.Rules.{ScheduleFits}
-use Rattle.build.specs.Read.{answerIs}
+use Rattle.build.specs.Read.{Answers}
 use Rattle.build.specs.declared.Built.{Built}
 use Rattle.lines.specs.declared.Query.{Query}
 use Rattle.lines.specs.declared.Query.the-variants as Q
@@ -51,6 +49,5 @@ abbrev pub refusedText : ℕ → ℕ → Option model.Query → List ℕ
 refusedText n p q = replyIn leastOnly (refuses n p) q
 
 -- b is what `build` answers
-pub record Stands (book pack : List ℕ) (b : Built) : Type 0 where
-  pub means : answerIs book pack b ≡ build book pack
-  pub fits : b .number ≡ 0 → ScheduleFits book pack (b .schedule)
+abbrev pub Stands : List ℕ → List ℕ → Built → Type 0
+Stands book pack b = Answers book pack b (build book pack)

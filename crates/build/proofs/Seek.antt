@@ -10,9 +10,8 @@ use native.Mathlib.Omega.{arith}
 use lib.Dec.{eqb}
 use lib.ListN.{length, take, drop, getD, getElem?, length-drop}
 use lib.Seq.{length-take-le, drop-cons}
-use borrow.Author.Tests.{eq-eqb, ne-eqb, eqb-true, eqb-false}
+use borrow.Author.Tests.{eq-eqb, ne-eqb}
 use Rattle.laws_base.specs.Test.{by-test, clash}
-use Rattle.model.specs.Basic as basic
 use Rattle.model.specs.Answer.{Answer, gives, refuses, _>>=_, orRefuse}
 use Rattle.model.specs.Pack.{Named, packOf, find}
 use Rattle.model.specs.Tzif as model
@@ -20,9 +19,7 @@ use Rattle.model.specs.Book.{lastDefault}
 use Rattle.model.specs.Book as books
 use Rattle.model.specs.Build.{lookup, defaultZone, ruleZone, zoneUsed}
 use Rattle.be.specs.Maybe.{isSome, orEmpty}
-use Rattle.pack.specs.declared.Place.{Place}
-use Rattle.pack.specs.declared.Place.the-variants.{At, Absent}
-use Rattle.pack.specs.Pack.{zoneFile, bytesOf}
+use Rattle.pack.specs.Pack.{zoneFile, Finds}
 use Rattle.book.specs.declared.Entry.{Entry}
 use Rattle.book.specs.Meaning.{recordsOf, bodyIn, meaning, noEntry, IsEntry}
 use Rattle.zone.specs.declared.Zone.{Zone}
@@ -30,38 +27,44 @@ use Rattle.zone.specs.declared.ZoneRead.{ZoneRead}
 use Rattle.zone.specs.declared.ZoneRead.the-variants as R
 use Rattle.zone.specs.Zones.{meant, zoneRead, Fine, zone-inside}
 use Rattle.build.specs.declared.Opened.{Opened}
-use Rattle.build.specs.declared.Sought.{Sought}
 use Rattle.build.specs.declared.Sought.the-variants.{Found, Refused}
 use Rattle.build.specs.declared.Known.{Known}
-use Rattle.build.specs.Read.{SameBytes, SameName, Knows, knownAfter, filesOf, zoneMeant, OpenedWell, IsUtc, soughtIs, SoughtWell, found, refused}
+use Rattle.build.specs.declared.Known.the-variants.{Last}
+use Rattle.build.specs.Read.{SameBytes, SameName, Names, Knows, last, knownAfter, filesOf, zoneMeant, OpenedWell, IsUtc, SoughtWell, found, refused}
+
+pub is-none : {A : Type 0} (o : Option A) → isSome o ≡ false → o ≡ none
+is-none none e = refl
+is-none (some a) e = clash true refl e
+
+pub is-some : {A : Type 0} (o : Option (List A)) → isSome o ≡ true → o ≡ some (orEmpty o)
+is-some none e = clash false e refl
+is-some (some l) e = refl
 
 -- ---- a name in the pack
 
-module _ (b p : List ℕ) (e : Entry) (ok : isSome (packOf p) ≡ true) {nm : List ℕ} (en : nm ≡ take (e .letters) (drop (e .name) b)) (r : Place) (er : bytesOf p r ≡ zoneFile p nm) where
-  find-is : find (take (e .letters) (drop (e .name) b)) (filesOf p) ≡ bytesOf p r
+module _ (b p : List ℕ) (e : Entry) (ok : isSome (packOf p) ≡ true) {nm : List ℕ} (en : nm ≡ take (e .letters) (drop (e .name) b)) {yes : Bool} {at : ℕ} {x : List ℕ} (is : Finds p nm yes at x) where
+  find-is : find (take (e .letters) (drop (e .name) b)) (filesOf p) ≡ zoneFile p nm
   unfolding zoneFile
-  find-is = rw (← en) (sym (er ∙ there (packOf p) ok))
-    where
-      there : (o : Option (List Named)) → isSome o ≡ true → basic._>>=_ o (λ l. find nm l) ≡ find nm (orEmpty o)
-      there none h = clash false h refl
-      there (some l) h = refl
+  find-is = rw (← en) (sym (rw (is-some (packOf p) ok)))
 
-  pub no-zone : r ≡ Absent → (refuses 4 (e .place) ≡ lookup (filesOf p) (meaning b e)) × SoughtWell p (Refused 4 (e .place))
+  pub no-zone : yes ≡ false → (refuses 4 (e .place) ≡ lookup (filesOf p) (meaning b e)) × SoughtWell p (Refused 4 (e .place))
   unfolding lookup meaning
-  no-zone q = (rw (find-is, q), refused {n = 4} (omega arith))
+  no-zone q = (rw (find-is, is-none (zoneFile p nm) (sym (is .found) ∙ q)), refused {n = 4} (omega arith))
 
-  module _ {at to len : ℕ} (q : r ≡ At at to) (el : len ≡ to - at) {x : List ℕ} (ex : x ≡ take len (drop at p)) (zr : ZoneRead) (ez : zoneRead x zr ≡ model.zoneOf x) where
+  module _ (q : yes ≡ true) (zr : ZoneRead) (ez : zoneRead x zr ≡ model.zoneOf x) where
     file-is : find (take (e .letters) (drop (e .name) b)) (filesOf p) ≡ some x
-    file-is = rw (find-is, q, ← el) (ap some (sym ex))
+    file-is = find-is ∙ is-some (zoneFile p nm) (sym (is .found) ∙ q) ∙ ap some (sym (is .file))
 
     pub no-use : zr ≡ R.Unusable → (refuses 5 (e .place) ≡ lookup (filesOf p) (meaning b e)) × SoughtWell p (Refused 5 (e .place))
     unfolding lookup meaning
     no-use u = (rw (file-is, ← ez, u), refused {n = 5} (omega arith))
 
-    pub is-found : {z : Zone} → zr ≡ R.Opened z → Fine x zr →
-        (gives (zoneMeant p (record { at = at; len = len; zone = z })) ≡ lookup (filesOf p) (meaning b e)) × SoughtWell p (Found (record { at = at; len = len; zone = z }))
+    pub is-found : {z : Zone} {n : ℕ} → zr ≡ R.Opened z → n ≡ length x → Fine x zr →
+        (gives (zoneMeant p (record { at = at; len = n; zone = z })) ≡ lookup (filesOf p) (meaning b e)) × SoughtWell p (Found (record { at = at; len = n; zone = z }))
     unfolding lookup meaning
-    is-found {z} u f = (rw (file-is, ← ez, u, ex), found {o = record { at = at; len = len; zone = z }} (rw (← ex) (zone-inside f u)))
+    is-found {z} {n} u l f =
+        let part : take n (drop at p) ≡ x = rw l (sym (is .part)) in
+        (rw (file-is, ← ez, u) (ap (λ (y : List ℕ). gives (meant y z)) part), found {o = record { at = at; len = n; zone = z }} (rw part (zone-inside f u)))
 
 -- ---- the default zone
 
@@ -142,9 +145,6 @@ same-start b i j x h = absurd (omega arith)
 pub same-more : (b : List ℕ) (i j n : ℕ) → SameBytes b i j n → getD b (i + n) 0 ≡ getD b (j + n) 0 → SameBytes b i j (n + 1)
 same-more b i j n f e x h = let u : x ≤ n = omega arith in ⊎-elim (λ q. rw q e) (λ q. f x q) (eq-or-lt-of-le u)
 
-pub none-knows : (b p : List ℕ) (k : Known) (d : Opened) → k .name ≡ 0 → k .letters ≡ 0 → k .zone ≡ d → OpenedWell p d → Knows b p k
-none-knows b p k d n l z o = record { inside = omega arith; means = λ h. absurd (omega arith); opened = rw z o }
-
 lookup-name : (l : List Named) (e g : books.Entry) (z : model.Zone) → lookup l e ≡ gives z → g .name ≡ e .name → lookup l g ≡ gives z
 unfolding lookup
 lookup-name l e g z q n = rw n (found-file (find (e .name) l) q)
@@ -158,12 +158,22 @@ lookup-name l e g z q n = rw n (found-file (find (e .name) l) q)
     found-file (some f) h = found-zone (model.zoneOf f) h
 
 module _ (b p : List ℕ) (e : Entry) (k : Known) (w : Knows b p k) where
-  pub known-named : e .name + e .letters ≤ length b → (e .letters ≡ 0 → ⊥) → SameName b e k → gives (zoneMeant p (k .zone)) ≡ lookup (filesOf p) (meaning b e)
-  unfolding meaning
-  known-named h n s =
-      let q = s .letters in
-      sym (w .means (omega arith) (meaning b e)
-      (bytes-same (e .letters) (e .name) (k .name) b h (omega (arith, w .inside)) (s .bytes) ∙ ap (λ (m : ℕ). take m (drop (k .name) b)) q))
+  -- what is known, where it is a name
+  module _ {name letters : ℕ} {o : Opened} (is : k ≡ Last name letters o) where
+    pub last-is : Names b p name letters o
+    last-is = go (rw is at w)
+      where
+        go : Knows b p (Last name letters o) → Names b p name letters o
+        go (last n) = n
+
+    pub known-named : e .name + e .letters ≤ length b → SameName b e name letters → (gives (zoneMeant p o) ≡ lookup (filesOf p) (meaning b e)) × SoughtWell p (Found o)
+    unfolding meaning
+    known-named h s =
+        let q = s .letters in (
+          sym (last-is .means (meaning b e)
+              (bytes-same (e .letters) (e .name) name b h (omega (arith, last-is .inside)) (s .bytes) ∙ ap (λ (m : ℕ). take m (drop name b)) q)),
+          found (last-is .opened),
+        )
 
   pub knows-after : (z : model.Zone) (o : Opened) → e .name + e .letters ≤ length b → gives (zoneMeant p o) ≡ zoneUsed (filesOf p) z (meaning b e) (bodyIn b e) → OpenedWell p o → Knows b p (knownAfter e o k)
   knows-after z o h q f =
@@ -174,11 +184,11 @@ module _ (b p : List ℕ) (e : Entry) (k : Known) (w : Knows b p k) where
       (λ u.
       let n : (e .kind ≡ 0 → ⊥) = λ x. clash false (sym t ∙ eq-eqb (e .kind) 0 x) refl in
       let m : (e .letters ≡ 0 → ⊥) = λ x. clash false (sym u ∙ eq-eqb (e .letters) 0 x) refl in
-      rw (t, u) (record {
+      rw (t, u) (last (record {
         inside = h;
-        means = λ _ g s. lookup-name (filesOf p) (meaning b e) g (zoneMeant p o) (sym (q ∙ used-look b p e z h n m)) (s ∙ name-is b e);
+        means = λ g s. lookup-name (filesOf p) (meaning b e) g (zoneMeant p o) (sym (q ∙ used-look b p e z h n m)) (s ∙ name-is b e);
         opened = f;
-      })))
+      }))))
 
 module _ (e : Entry) (o : Opened) (k : Known) where
   pub after-default : e .kind ≡ 0 → k ≡ knownAfter e o k
@@ -188,5 +198,5 @@ module _ (e : Entry) (o : Opened) (k : Known) where
     pub after-own : e .letters ≡ 0 → k ≡ knownAfter e o k
     after-own q = rw (ne-eqb (e .kind) 0 n, eq-eqb (e .letters) 0 q)
 
-    pub after-named : (e .letters ≡ 0 → ⊥) → _≡_ {A = Known} (record { name = e .name; letters = e .letters; zone = o }) (knownAfter e o k)
+    pub after-named : (e .letters ≡ 0 → ⊥) → Last (e .name) (e .letters) o ≡ knownAfter e o k
     after-named m = rw (ne-eqb (e .kind) 0 n, ne-eqb (e .letters) 0 m)

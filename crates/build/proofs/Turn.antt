@@ -1,17 +1,17 @@
 -- The book's records from front to back: one turn of the loop, and its ends.
-use mathlib.Core.Path.{_≡_, refl, sym, ap, subst, _∙_}
-use mathlib.Core.Bool.{true, false, _&&_}
-use mathlib.Core.List.{List, [], _∷_, _++_, map, append-nil, append-assoc}
-use Prim.Native.Nat.{ℕ, suc, _+_, _*_, _-_, _≤_, _<_}
+use mathlib.Core.Path.{_≡_, refl, sym, ap, _∙_}
+use mathlib.Core.Bool.{true, _&&_}
+use mathlib.Core.List.{List, [], _∷_, _++_, append-nil, append-assoc}
+use Prim.Native.Nat.{ℕ, _+_, _*_, _-_, _≤_, _<_}
 use native.Mathlib.Omega.{arith}
 use native.Mathlib.Numerals.{add-one}
-use lib.Dec.{leb, eqb}
-use lib.ListN.{length, take, drop, getD, drop-of-length-le}
+use lib.Dec.{leb}
+use lib.ListN.{length, drop, getD, drop-of-length-le}
 use lib.Seq.{drop-cons}
 use borrow.Author.Tests.{leb-true, ne-eqb}
 use Rattle.laws_base.specs.Test.{and-both}
 use Rattle.model.specs.Basic.{distinct, sum}
-use Rattle.model.specs.Instant.{second, day}
+use Rattle.model.specs.Instant.{day}
 use Rattle.model.specs.Answer.{Answer, gives, refuses, _>>=_}
 use Rattle.model.specs.Pack.{Named}
 use Rattle.model.specs.Tzif.{Zone}
@@ -29,7 +29,7 @@ use Rattle.build.specs.declared.Sought.the-variants.{Found, Refused}
 use Rattle.build.specs.declared.Built.{Built}
 use Rattle.build.specs.declared.Known.{Known}
 use Rattle.build.proofs.Seek.{knows-after}
-use Rattle.build.specs.Read.{Knows, knownAfter, filesOf, zoneMeant, OpenedWell, soughtIs, SoughtWell, found, refused, Sized, added, Kept, Room, Grown, Reads}
+use Rattle.build.specs.Read.{Knows, knownAfter, filesOf, zoneMeant, OpenedWell, soughtIs, SoughtWell, found, refused, Sized, added, Kept, Room, Grown, Refuses, Reads, Answers}
 
 -- ---- records that were read, and those that are left
 
@@ -121,11 +121,26 @@ tally-more : (f : Body → ℕ) (l : List Entry) (i : ℕ) → i < length l → 
 unfolding sum
 tally-more f l i h = rw (add-one i, drop-cons l i noEntry h)
 
+-- a schedule of that size has no rules
+pub no-rules : (b p : List ℕ) {s : Schedule} → Sized s 0 0 0 31622400 → scheduleIs b p s ≡ noRules
+no-rules b p h = rw (h .works, h .pauses, h .closings, h .limit)
+
+-- a refusal of the definitions, answered as such
+pub refused-is : (b p : List ℕ) (t : Built) {n k : ℕ} {a : Answer model.Schedule} → 0 < n → Refuses t n k → refuses n k ≡ a → Answers b p t a
+refused-is b p t h v e =
+    let x : (t .number ≡ 0 → ⊥) = λ y. omega (arith, v .number) in
+    record {
+      means = rw (ne-eqb (t .number) 0 x, v .number, v .place) e;
+      fits = λ y. absurd (x y);
+      place = λ y. absurd (x y);
+      empty = λ _. no-rules b p (v .empty);
+    }
+
 module _ (b p : List ℕ) (z : Zone) where
   pub reading-start : withinLimits (recordsOf b) ≡ true → {s : Schedule} → Sized s 0 0 0 31622400 → Reading b p z 0 s
   reading-start w {s} h =
       let m = limits-of (recordsOf b) w in
-      let n : scheduleIs b p s ≡ noRules = rw (h .works, h .pauses, h .closings, h .limit) in
+      let n : scheduleIs b p s ≡ noRules = no-rules b p h in
       record {
         rest = rw n (rest-start (filesOf p) z (recordsOf b));
         kept = record { work = rw (h .works) tt; breaks = rw (h .pauses) tt; closed = rw (h .closings) tt };
@@ -144,6 +159,8 @@ module _ (b p : List ℕ) (z : Zone) where
     pauses = λ _. omega (arith, r .pauses);
     closings = λ _. omega (arith, r .closings);
     limit = λ _. omega (arith, r .limit);
+    place = λ _. refl;
+    empty = λ n. absurd (n refl);
   }
 
   module _ (i : ℕ) (s : Schedule) (r : Reading b p z i s) (h : i < length (recordsOf b)) (e : code.Entry) (is : IsEntry b i e) where
@@ -196,17 +213,19 @@ module _ (b p : List ℕ) (z : Zone) where
           open-is : SoughtWell p (Found o) → OpenedWell p o
           open-is (found j) = j
 
-      pub turn-refused : {n k : ℕ} {t : Built} → q ≡ Refused n k → t .number ≡ n → t .place ≡ k → Reads b p t (rulesOf (filesOf p) z (recordsOf b))
-      turn-refused {n} {k} {t} f en ek =
+      pub turn-refused : {n k : ℕ} {t : Built} → q ≡ Refused n k → Refuses t n k → Reads b p t (rulesOf (filesOf p) z (recordsOf b))
+      turn-refused {n} {k} {t} f v =
           let a : zoneUsed (filesOf p) z (meaning b e) (meaning b e .body) ≡ refuses n k = sought-is ∙ rw f in
-          let x : (t .number ≡ 0 → ⊥) = λ y. omega (arith, some-number (rw f at w)) in
+          let x : (t .number ≡ 0 → ⊥) = λ y. omega (arith, some-number (rw f at w), v .number) in
           record {
-            means = rw (ne-eqb (t .number) 0 x, en, ek) (sym (rest-refused (filesOf p) z (scheduleIs b p s) (meaning b e) (drop (i + 1) (recordsOf b)) a) ∙ rest-next);
+            means = rw (ne-eqb (t .number) 0 x, v .number, v .place) (sym (rest-refused (filesOf p) z (scheduleIs b p s) (meaning b e) (drop (i + 1) (recordsOf b)) a) ∙ rest-next);
             kept = λ y. absurd (x y);
             works = λ y. absurd (x y);
             pauses = λ y. absurd (x y);
             closings = λ y. absurd (x y);
             limit = λ y. absurd (x y);
+            place = λ y. absurd (x y);
+            empty = λ _. no-rules b p (v .empty);
           }
         where
           some-number : SoughtWell p (Refused n k) → 0 < n

@@ -1,80 +1,68 @@
 -- What each end of `rules_of` answers.
-use mathlib.Core.Path.{_≡_, refl, sym, ap, subst, _∙_}
+use mathlib.Core.Path.{_≡_, sym, _∙_}
 use mathlib.Core.Bool.{Bool, true, false}
-use mathlib.Core.Option.{Option, none, some}
+use mathlib.Core.Option.{none, some}
 use mathlib.Core.List.{List}
-use Prim.Native.Nat.{ℕ, _≤_, _<_}
+use Prim.Native.Nat.{ℕ, _<_}
 use native.Mathlib.Omega.{arith}
-use lib.Dec.{eqb}
-use borrow.Author.Tests.{ne-eqb}
-use Rattle.laws_base.specs.Test.{clash}
 use Rattle.laws_skip.specs.Books.{rules-well}
-use Rattle.model.specs.Answer.{Answer, gives, refuses, _>>=_}
-use Rattle.model.specs.Pack.{Named, packOf}
-use Rattle.model.specs.Book.{Entry, entriesOf, withinLimits, lastDefault}
-use Rattle.model.specs.Working as model
+use Rattle.model.specs.Answer.{gives, refuses, _>>=_}
+use Rattle.model.specs.Pack.{packOf}
+use Rattle.model.specs.Book.{entriesOf, withinLimits, lastDefault}
 use Rattle.model.specs.Build.{defaultZone, rulesOf}
-use Rattle.be.specs.Maybe.{isSome, orEmpty}
+use Rattle.be.specs.Maybe.{isSome}
 use Rattle.book.specs.Meaning.{recordsOf}
 use Rattle.book.specs.Accepts.{isBook}
-use Rattle.rules.specs.Rules.{scheduleIs, ScheduleFits}
+use Rattle.rules.specs.Rules.{scheduleIs}
 use Rattle.build.specs.declared.Opened.{Opened}
 use Rattle.build.specs.declared.Sought.{Sought}
 use Rattle.build.specs.declared.Sought.the-variants.{Found, Refused}
 use Rattle.build.specs.declared.Built.{Built}
-use Rattle.build.specs.Read.{filesOf, zoneMeant, OpenedWell, soughtIs, SoughtWell, found, refused, answerIs, Reads, rulesRead}
-
-is-none : {A : Type 0} (o : Option A) → isSome o ≡ false → o ≡ none
-is-none none e = refl
-is-none (some a) e = clash true refl e
-
-is-some : {A : Type 0} (o : Option (List A)) → isSome o ≡ true → o ≡ some (orEmpty o)
-is-some none e = clash false e refl
-is-some (some l) e = refl
+use Rattle.build.specs.Read.{filesOf, zoneMeant, OpenedWell, soughtIs, SoughtWell, found, refused, Refuses, Reads, Answers, rulesRead}
+use Rattle.build.proofs.Seek.{is-none, is-some}
+use Rattle.build.proofs.Turn.{refused-is}
 
 -- what the contract says of an answer
 abbrev Whole : List ℕ → List ℕ → Built → Type 0
-Whole b p r = (answerIs b p r ≡ rulesRead b p) × (r .number ≡ 0 → ScheduleFits b p (r .schedule))
+Whole b p r = Answers b p r (rulesRead b p)
 
 module _ (b p : List ℕ) where
-  no-answer : (t : Built) {n k : ℕ} → 0 < n → rulesRead b p ≡ refuses n k → t .number ≡ n → t .place ≡ k → Whole b p t
-  no-answer t {n} {k} h e en ek =
-      let x : (t .number ≡ 0 → ⊥) = λ y. omega arith in
-      (rw (ne-eqb (t .number) 0 x, en, ek) (sym e), λ y. absurd (x y))
+  no-answer : (t : Built) {n k : ℕ} → 0 < n → rulesRead b p ≡ refuses n k → Refuses t n k → Whole b p t
+  no-answer t h e v = refused-is b p t h v (sym e)
 
-  pub no-book : (t : Built) {r : Bool} → r ≡ isBook b → r ≡ false → t .number ≡ 1 → t .place ≡ 0 → Whole b p t
+  pub no-book : (t : Built) {r : Bool} → r ≡ isBook b → r ≡ false → Refuses t 1 0 → Whole b p t
   unfolding rulesRead isBook
-  no-book t e f en ek =
+  no-book t e f v =
       let o : entriesOf b ≡ none = is-none (entriesOf b) (sym e ∙ f) in
-      no-answer t (omega arith) (rw o) en ek
+      no-answer t (omega arith) (rw o) v
 
   module _ (eb : isBook b ≡ true) where
     book-is : entriesOf b ≡ some (recordsOf b)
     unfolding isBook
     book-is = is-some (entriesOf b) eb
 
-    pub no-limits : (t : Built) {r : Bool} → r ≡ withinLimits (recordsOf b) → r ≡ false → t .number ≡ 2 → t .place ≡ 0 → Whole b p t
+    pub no-limits : (t : Built) {r : Bool} → r ≡ withinLimits (recordsOf b) → r ≡ false → Refuses t 2 0 → Whole b p t
     unfolding rulesRead
-    no-limits t e f en ek =
+    no-limits t e f v =
         let l : withinLimits (recordsOf b) ≡ false = sym e ∙ f in
-        no-answer t (omega arith) (rw (book-is, l)) en ek
+        no-answer t (omega arith) (rw (book-is, l)) v
 
     module _ (el : withinLimits (recordsOf b) ≡ true) where
-      pub no-pack : (t : Built) {r : Bool} → r ≡ isSome (packOf p) → r ≡ false → t .number ≡ 3 → t .place ≡ 0 → Whole b p t
+      pub no-pack : (t : Built) {r : Bool} → r ≡ isSome (packOf p) → r ≡ false → Refuses t 3 0 → Whole b p t
       unfolding rulesRead
-      no-pack t e f en ek =
+      no-pack t e f v =
           let o : packOf p ≡ none = is-none (packOf p) (sym e ∙ f) in
-          no-answer t (omega arith) (rw (book-is, el, o)) en ek
+          no-answer t (omega arith) (rw (book-is, el, o)) v
 
       module _ (ep : isSome (packOf p) ≡ true) (q : Sought) (eq : soughtIs p q ≡ defaultZone (filesOf p) (lastDefault none (recordsOf b))) where
         read-is : rulesRead b p ≡ (defaultZone (filesOf p) (lastDefault none (recordsOf b)) >>= λ z. rulesOf (filesOf p) z (recordsOf b))
         unfolding rulesRead
         read-is = let o : packOf p ≡ some (filesOf p) = is-some (packOf p) ep in rw (book-is, el, o)
 
-        pub no-default : (t : Built) {n k : ℕ} → q ≡ Refused n k → SoughtWell p q → t .number ≡ n → t .place ≡ k → Whole b p t
-        no-default t {n} {k} f w en ek =
+        pub no-default : (t : Built) {n k : ℕ} → q ≡ Refused n k → SoughtWell p q → Refuses t n k → Whole b p t
+        no-default t {n} {k} f w v =
             let d : defaultZone (filesOf p) (lastDefault none (recordsOf b)) ≡ refuses n k = sym eq ∙ rw f in
-            no-answer t (some-number (rw f at w)) (read-is ∙ rw d) en ek
+            no-answer t (some-number (rw f at w)) (read-is ∙ rw d) v
           where
             some-number : SoughtWell p (Refused n k) → 0 < n
             some-number (refused j) = j
@@ -87,9 +75,11 @@ module _ (b p : List ℕ) where
 
         pub reads-all : (t : Built) (d : Opened) → q ≡ Found d → Reads b p t (rulesOf (filesOf p) (zoneMeant p d) (recordsOf b)) → Whole b p t
         reads-all t d f r =
-            let z : defaultZone (filesOf p) (lastDefault none (recordsOf b)) ≡ gives (zoneMeant p d) = sym eq ∙ rw f in (
-              r .means ∙ sym (read-is ∙ rw z),
-              λ n.
+            let z : defaultZone (filesOf p) (lastDefault none (recordsOf b)) ≡ gives (zoneMeant p d) = sym eq ∙ rw f in
+            record {
+              means = r .means ∙ sym (read-is ∙ rw z);
+              fits =
+                  λ n.
                   let g : rulesOf (filesOf p) (zoneMeant p d) (recordsOf b) ≡ gives (scheduleIs b p (t .schedule)) = sym (r .means) ∙ rw n in
                   record {
                     works = r .works n;
@@ -100,5 +90,7 @@ module _ (b p : List ℕ) where
                     closed-fits = r .kept n .closed;
                     well = rules-well b (recordsOf b) book-is el (filesOf p) (zoneMeant p d) z (scheduleIs b p (t .schedule)) g;
                     limit = r .limit n;
-                  },
-            )
+                  };
+              place = r .place;
+              empty = r .empty;
+            }

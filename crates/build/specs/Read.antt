@@ -16,7 +16,7 @@ use Rattle.model.specs.Zone as zones
 use Rattle.model.specs.Book as books
 use Rattle.model.specs.Book.{Body, default, work, pause, holidays, entriesOf, withinLimits, lastDefault}
 use Rattle.model.specs.Working as model
-use Rattle.model.specs.Build.{lookup, defaultZone, rulesOf, worksIn2001, build}
+use Rattle.model.specs.Build.{lookup, defaultZone, noRules, rulesOf, worksIn2001, build}
 use Rattle.be.specs.Maybe.{orEmpty}
 use Rattle.book.specs.declared.Entry.{Entry}
 use Rattle.book.specs.Meaning.{bodyIn, IsTimed}
@@ -24,11 +24,12 @@ use Rattle.zone.specs.Zones.{meant, ZoneOk}
 use Rattle.rules.specs.declared.Rule.{Rule}
 use Rattle.rules.specs.declared.Closed.{Closed}
 use Rattle.rules.specs.declared.Schedule.{Schedule}
-use Rattle.rules.specs.Rules.{fileAt, scheduleIs, All, RuleFits, ClosedFits}
+use Rattle.rules.specs.Rules.{fileAt, scheduleIs, All, RuleFits, ClosedFits, ScheduleFits}
 use Rattle.build.specs.declared.Opened.{Opened}
 use Rattle.build.specs.declared.Sought.{Sought}
 use Rattle.build.specs.declared.Sought.the-variants.{Found, Refused}
 use Rattle.build.specs.declared.Known.{Known}
+use Rattle.build.specs.declared.Known.the-variants.{Last, Nothing}
 use Rattle.build.specs.declared.Built.{Built}
 
 -- ---- the definitions' `build` without its last step, the search for work
@@ -72,20 +73,24 @@ pub data SoughtWell (p : List ℕ) : Sought → Type 0 where
 abbrev pub SameBytes : List ℕ → ℕ → ℕ → ℕ → Type 0
 SameBytes b i j n = (x : ℕ) → x < n → getD b (i + x) 0 ≡ getD b (j + x) 0
 
--- the record's name is that of the zone
-pub record SameName (b : List ℕ) (e : Entry) (k : Known) : Type 0 where
-  pub letters : e .letters ≡ k .letters
-  pub bytes : SameBytes b (e .name) (k .name) (e .letters)
+-- the record's name is that of n letters at i
+pub record SameName (b : List ℕ) (e : Entry) (i n : ℕ) : Type 0 where
+  pub letters : e .letters ≡ n
+  pub bytes : SameBytes b (e .name) i (e .letters)
 
 -- every record with the name gets the zone
-pub record Knows (b p : List ℕ) (k : Known) : Type 0 where
-  pub inside : k .name + k .letters ≤ length b
-  pub means : 0 < k .letters → (e : books.Entry) → e .name ≡ take (k .letters) (drop (k .name) b) → lookup (filesOf p) e ≡ gives (zoneMeant p (k .zone))
-  pub opened : OpenedWell p (k .zone)
+pub record Names (b p : List ℕ) (name letters : ℕ) (o : Opened) : Type 0 where
+  pub inside : name + letters ≤ length b
+  pub means : (e : books.Entry) → e .name ≡ take letters (drop name b) → lookup (filesOf p) e ≡ gives (zoneMeant p o)
+  pub opened : OpenedWell p o
+
+pub data Knows (b p : List ℕ) : Known → Type 0 where
+  last : {name letters : ℕ} {o : Opened} → Names b p name letters o → Knows b p (Last name letters o)
+  nothing : Knows b p Nothing
 
 -- behind a record that uses o
 abbrev pub knownAfter : Entry → Opened → Known → Known
-knownAfter e o k = if eqb (e .kind) 0 then k else if eqb (e .letters) 0 then k else record { name = e .name; letters = e .letters; zone = o }
+knownAfter e o k = if eqb (e .kind) 0 then k else if eqb (e .letters) 0 then k else Last (e .name) (e .letters) o
 
 -- ---- rules
 
@@ -181,6 +186,12 @@ pub record Grown (b p : List ℕ) (s : Schedule) (e : Entry) (o : Opened) (r : S
 abbrev pub answerIs : List ℕ → List ℕ → Built → Answer model.Schedule
 answerIs b p r = if eqb (r .number) 0 then gives (scheduleIs b p (r .schedule)) else refuses (r .number) (r .place)
 
+-- the refusal of number n and place k; its schedule has no rules
+pub record Refuses (r : Built) (n k : ℕ) : Type 0 where
+  pub number : r .number ≡ n
+  pub place : r .place ≡ k
+  pub empty : Sized (r .schedule) 0 0 0 31622400
+
 -- r stands for the answer a, and its rules fit
 pub record Reads (b p : List ℕ) (r : Built) (a : Answer model.Schedule) : Type 0 where
   pub means : answerIs b p r ≡ a
@@ -189,6 +200,16 @@ pub record Reads (b p : List ℕ) (r : Built) (a : Answer model.Schedule) : Type
   pub pauses : r .number ≡ 0 → r .schedule .pauses ≤ 16
   pub closings : r .number ≡ 0 → r .schedule .closings ≤ 8
   pub limit : r .number ≡ 0 → r .schedule .limit ≤ 341280000
+  pub place : r .number ≡ 0 → r .place ≡ 0
+  pub empty : (r .number ≡ 0 → ⊥) → scheduleIs b p (r .schedule) ≡ noRules
+
+-- what an answer r is where the definitions answer a. With number 0 it is a schedule, which fits, and the place is 0; any other number is a refusal, and
+-- the schedule that comes with it has no rules.
+pub record Answers (b p : List ℕ) (r : Built) (a : Answer model.Schedule) : Type 0 where
+  pub means : answerIs b p r ≡ a
+  pub fits : r .number ≡ 0 → ScheduleFits b p (r .schedule)
+  pub place : r .number ≡ 0 → r .place ≡ 0
+  pub empty : (r .number ≡ 0 → ⊥) → scheduleIs b p (r .schedule) ≡ noRules
 
 -- ---- the definitions' `build`
 

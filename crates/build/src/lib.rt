@@ -12,11 +12,9 @@ ghost use Rattle.model.specs.Build.{lookup, defaultZone, zoneUsed, rulesOf};
 ghost use Rattle.be.specs.Maybe.{isSome};
 ghost use Rattle.book.specs.Meaning.{recordsOf, bodyIn, meaning};
 ghost use Rattle.book.specs.Accepts.{isBook};
-ghost use Rattle.rules.specs.Rules.{ScheduleFits};
-ghost use Rattle.build.specs.Read.{filesOf, zoneMeant, soughtIs, SoughtWell, OpenedWell, IsUtc, SameBytes, SameName, Knows, knownAfter, ruleFrom, closedFrom, Sized, Long, answerIs, Reads, rulesRead};
+ghost use Rattle.build.specs.Read.{filesOf, zoneMeant, soughtIs, SoughtWell, OpenedWell, IsUtc, SameBytes, SameName, Knows, knownAfter, ruleFrom, closedFrom, Sized, Long, Refuses, Reads, Answers, rulesRead};
 use book::Entry;
 use book::Time;
-use pack::Place;
 use rules::Closed;
 use rules::Rule;
 use rules::Schedule;
@@ -36,14 +34,13 @@ pub enum Sought {
     Refused(u32, usize),
 }
 
-// A zone that was found by a record's name: where the name stands in the book, and how many letters it has. 0 letters: none was found yet.
-pub struct Known {
-    pub name: usize,
-    pub letters: usize,
-    pub zone: Opened,
+// The zone that was found last by a record's name: where the name stands in the book, how many letters it has, and the zone; or none was found yet.
+pub enum Known {
+    Last(usize, usize, Opened),
+    Nothing,
 }
 
-// What building answers: number 0 and the schedule, or a refusal's number and place.
+// What building answers: number 0, place 0 and the schedule, or a refusal's number and place with a schedule that has no rules.
 pub struct Built {
     pub number: u32,
     pub place: usize,
@@ -52,26 +49,19 @@ pub struct Built {
 
 // ---- the zone of a record
 
-// a - b, 0 where b is greater.
-fn minus(a: usize, b: usize) -> usize
-    ensures { λ r. ⌜ r ≡ a - b ⌝ }
-{
-    if a < b {
-        return 0;
-    }
-    a - b
-}
-
 // The zone of a record's name: 4 where the pack has not got it, 5 where its file is not usable.
 fn look_up(book: &[u8], pack: &[u8], e: Entry) -> Sought
     requires { ⌜ isSome (packOf (now pack)) ≡ true ⌝ }
     ensures { λ r. ⌜ (soughtIs (now (pack .entry)) r ≡ lookup (filesOf (now (pack .entry))) (meaning (now (book .entry)) e)) × SoughtWell (now (pack .entry)) r ⌝ }
 {
-    let Place::At(at, to) = pack::find_place(pack, be::part(book, e.name, e.letters)) else {
+    let mut found = false;
+    let mut at: usize = 0;
+    let file = pack::look_in(pack, be::part(book, e.name, e.letters), &mut found, &mut at);
+    if !found {
         return Sought::Refused(4, e.place);
-    };
-    let len = minus(to, at);
-    let ZoneRead::Opened(zone) = zone::open(be::part(pack, at, len)) else {
+    }
+    let len = file.len();
+    let ZoneRead::Opened(zone) = zone::open(file) else {
         return Sought::Refused(5, e.place);
     };
     Sought::Found(Opened { at, len, zone })
@@ -116,29 +106,32 @@ fn same_bytes(b: &[u8], p: usize, q: usize, n: usize) -> bool
     true
 }
 
-// No name is known; d stands in for the zone.
-fn none_known(d: Opened) -> Known
-    ensures { λ r. ⌜ (r .name ≡ 0) × (r .letters ≡ 0) × (r .zone ≡ d) ⌝ }
+// Is the record's name that of `letters` letters which stands at `name`?
+fn is_named(book: &[u8], e: Entry, name: usize, letters: usize) -> bool
+    requires { ⌜ (e .name + e .letters ≤ length (now book)) × (name + letters ≤ length (now book)) ⌝ }
+    ensures { λ r. ⌜ (r ≡ true → SameName (now (book .entry)) e name letters) ⌝ }
 {
-    Known {
-        name: 0,
-        letters: 0,
-        zone: d,
-    }
-}
-
-// Does the record name the zone that is known?
-fn is_known(book: &[u8], e: Entry, k: Known) -> bool
-    requires { ⌜ (e .name + e .letters ≤ length (now book)) × (k .name + k .letters ≤ length (now book)) ⌝ }
-    ensures { λ r. ⌜ (r ≡ true → SameName (now (book .entry)) e k) ⌝ }
-{
-    if e.letters != k.letters {
+    if e.letters != letters {
         return false;
     }
-    same_bytes(book, e.name, k.name, e.letters)
+    same_bytes(book, e.name, name, e.letters)
 }
 
-// The zone that a record uses where d is the default zone. A name's zone is opened once, where records that name it follow one another.
+// The zone of a record's name where k is known. A name's zone is opened once, where records that name it follow one another.
+fn zone_named(book: &[u8], pack: &[u8], e: Entry, k: Known) -> Sought
+    requires { ⌜ (isSome (packOf (now pack)) ≡ true) × (e .name + e .letters ≤ length (now book)) × Knows (now book) (now pack) k ⌝ }
+    ensures { λ r. ⌜ (soughtIs (now (pack .entry)) r ≡ lookup (filesOf (now (pack .entry))) (meaning (now (book .entry)) e)) × SoughtWell (now (pack .entry)) r ⌝ }
+{
+    let Known::Last(name, letters, zone) = k else {
+        return look_up(book, pack, e);
+    };
+    if is_named(book, e, name, letters) {
+        return Sought::Found(zone);
+    }
+    look_up(book, pack, e)
+}
+
+// The zone that a record uses where d is the default zone and k is known.
 fn zone_used(book: &[u8], pack: &[u8], e: Entry, d: Opened, k: Known) -> Sought
     requires { ⌜ (isSome (packOf (now pack)) ≡ true) × (e .name + e .letters ≤ length (now book)) × OpenedWell (now pack) d × Knows (now book) (now pack) k ⌝ }
     ensures { λ r. ⌜ (soughtIs (now (pack .entry)) r ≡ zoneUsed (filesOf (now (pack .entry))) (zoneMeant (now (pack .entry)) d) (meaning (now (book .entry)) e) (bodyIn (now (book .entry)) e)) × SoughtWell (now (pack .entry)) r ⌝ }
@@ -149,14 +142,10 @@ fn zone_used(book: &[u8], pack: &[u8], e: Entry, d: Opened, k: Known) -> Sought
     if e.letters == 0 {
         return Sought::Found(d);
     }
-    if is_known(book, e, k) {
-        let z = k.zone;
-        return Sought::Found(z);
-    }
-    look_up(book, pack, e)
+    zone_named(book, pack, e, k)
 }
 
-// The zone that is known behind a record that uses o.
+// What is known behind a record that uses o.
 fn known_after(e: Entry, o: Opened, k: Known) -> Known
     ensures { λ r. ⌜ r ≡ knownAfter e o k ⌝ }
 {
@@ -166,11 +155,7 @@ fn known_after(e: Entry, o: Opened, k: Known) -> Known
     if e.letters < 1 {
         return k;
     }
-    Known {
-        name: e.name,
-        letters: e.letters,
-        zone: o,
-    }
+    Known::Last(e.name, e.letters, o)
 }
 
 // ---- the rules of the records
@@ -243,9 +228,9 @@ fn no_rules() -> Schedule
 
 // ---- the whole
 
-// A refusal.
+// A refusal: no rules come with it.
 fn refused(number: u32, place: usize) -> Built
-    ensures { λ r. ⌜ (r .number ≡ number) × (r .place ≡ place) ⌝ }
+    ensures { λ r. ⌜ Refuses r number place ⌝ }
 {
     let schedule = no_rules();
     Built {
@@ -262,7 +247,7 @@ fn read_rules(book: &[u8], pack: &[u8], d: Opened) -> Built
 {
     let n = book::count(book);
     let mut s = no_rules();
-    let mut k = none_known(d);
+    let mut k = Known::Nothing;
     let mut i: usize = 0;
     while i < n {
         let e = book::entry_at(book, i);
@@ -299,8 +284,8 @@ fn read_rules(book: &[u8], pack: &[u8], d: Opened) -> Built
 }
 
 // The schedule of a book and a pack, whether or not there is work in it: refusals 1 to 5, in this order.
-pub fn rules_of(book: &[u8], pack: &[u8]) -> Built
-    ensures { λ r. ⌜ (answerIs (now (book .entry)) (now (pack .entry)) r ≡ rulesRead (now (book .entry)) (now (pack .entry))) × (r .number ≡ 0 → ScheduleFits (now (book .entry)) (now (pack .entry)) (r .schedule)) ⌝ }
+fn rules_of(book: &[u8], pack: &[u8]) -> Built
+    ensures { λ r. ⌜ Answers (now (book .entry)) (now (pack .entry)) r (rulesRead (now (book .entry)) (now (pack .entry))) ⌝ }
 {
     if !book::book_ok(book) {
         return refused(1, 0);
@@ -323,7 +308,7 @@ pub fn rules_of(book: &[u8], pack: &[u8]) -> Built
 
 // The schedule of a book and a pack, or its first refusal.
 pub fn build(book: &[u8], pack: &[u8]) -> Built
-    ensures { λ r. ⌜ (answerIs (now (book .entry)) (now (pack .entry)) r ≡ definition.build (now (book .entry)) (now (pack .entry))) × (r .number ≡ 0 → ScheduleFits (now (book .entry)) (now (pack .entry)) (r .schedule)) ⌝ }
+    ensures { λ r. ⌜ Answers (now (book .entry)) (now (pack .entry)) r (definition.build (now (book .entry)) (now (pack .entry))) ⌝ }
 {
     let r = rules_of(book, pack);
     if r.number != 0 {

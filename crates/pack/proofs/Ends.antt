@@ -1,21 +1,20 @@
 -- What each end of a function of src/lib.rt answers, in terms of the crate `model`.
 use mathlib.Core.Path.{_≡_, refl, sym, ap, _∙_}
 use mathlib.Core.List.{List, [], _∷_, map}
-use mathlib.Core.Bool.{Bool, true, false, _&&_}
+use mathlib.Core.Bool.{Bool, true, false}
 use mathlib.Core.Option.{Option, none, some}
 use Prim.Native.Nat.{ℕ, zero, suc, _+_, _*_, _-_, _≤_, _<_}
 use native.Mathlib.Omega.{arith}
 use borrow.Author.Tests.{le-leb, lt-leb}
-use lib.Dec.{leb}
 use lib.ListN.{length, getD, take, drop}
-use Rattle.model.specs.Basic.{_>>=_, given, run}
+use Rattle.model.specs.Basic.{_>>=_, run}
 use Rattle.model.specs.Directory.{partsOf}
 use Rattle.model.specs.Pack.{sameName, packOf, find}
-use Rattle.laws_base.specs.Test.{by-test, clash}
-use Rattle.be.specs.Maybe.{isSome, orEmpty}
+use Rattle.laws_base.specs.Test.{clash}
+use Rattle.be.specs.Maybe.{isSome}
 use Rattle.be.specs.Walk.{allFrom}
 use Rattle.pack.specs.Directory.{countAt, startAt, lenAt, entriesOk, dirOk}
-use Rattle.pack.specs.Pack.{namedFrom, namedAt, nameAtOk, packOk, zoneFile, bytesOf}
+use Rattle.pack.specs.Pack.{namedFrom, namedAt, nameAtOk, packOk, zoneFile, bytesOf, Finds}
 use Rattle.pack.specs.declared.Place.{Place}
 use Rattle.pack.specs.declared.Place.the-variants.{At, Absent}
 use Rattle.pack.proofs.Parts.{as-dir}
@@ -63,31 +62,43 @@ module _ (s : List ℕ) (i : ℕ) {o n : ℕ} (eo : o ≡ startAt s i) (en : n �
   unfolding namedAt namedFrom
   name-is nm ex er = rw (← eo, ← en, ← ex) er
 
-  pub file-is : {l : ℕ} → l ≡ lenAt s i → bytesOf s (At (o + 1 + n) (o + l)) ≡ some (namedAt s i .file)
-  unfolding namedAt namedFrom
-  file-is el = rw (← eo, ← en, ← el)
+  module _ {l : ℕ} (el : l ≡ lenAt s i) where
+    pub file-is : bytesOf s (At (o + 1 + n) (o + l - (o + 1 + n))) ≡ some (namedAt s i .file)
+    unfolding namedAt namedFrom
+    file-is = rw (← eo, ← en, ← el)
+
+    pub file-none : o + l < o + 1 + n → bytesOf s (At (o + 1 + n) 0) ≡ some (namedAt s i .file)
+    file-none h = let z : o + l - (o + 1 + n) ≡ 0 = omega arith in sym (ap (λ (k : ℕ). bytesOf s (At (o + 1 + n) k)) z) ∙ file-is
 
 -- ---- the finder
 
+take-all : {A : Type 0} (n : ℕ) (l : List A) → take (length (take n l)) l ≡ take n l
+take-all zero l = refl
+take-all (suc n) [] = refl
+take-all (suc n) (x ∷ l) = rw (take-all n l)
+
 module _ (p nm : List ℕ) where
-  pub look-broken : {r : Bool} → r ≡ isSome (packOf p) → r ≡ false → ([] ≡ orEmpty (zoneFile p nm)) × (false ≡ isSome (zoneFile p nm))
+  -- no such name, where `at` stands for no part
+  nothing : (at : ℕ) → zoneFile p nm ≡ none → Finds p nm false at []
+  nothing at e = record { file = rw e; found = rw e; part = refl }
+
+  pub look-broken : (at : ℕ) {r : Bool} → r ≡ isSome (packOf p) → r ≡ false → Finds p nm false at []
   unfolding zoneFile
-  look-broken e q = none-there (find nm) (packOf p) (sym e ∙ q)
+  look-broken at e q = nothing at (none-there (find nm) (packOf p) (sym e ∙ q))
     where
-      none-there : {A : Type 0} (f : A → Option (List ℕ)) (o : Option A) → isSome o ≡ false → ([] ≡ orEmpty (o >>= f)) × (false ≡ isSome (o >>= f))
-      none-there f none e = (refl, refl)
+      none-there : {A : Type 0} (f : A → Option (List ℕ)) (o : Option A) → isSome o ≡ false → (o >>= f) ≡ none
+      none-there f none e = refl
       none-there f (some a) e = clash true refl e
 
-  module _ (r : Place) where
-    pub place-is : {n : ℕ} → isSome (packOf p) ≡ true → n ≡ countAt p → bytesOf p r ≡ find nm (map (namedAt p) (run 0 n)) → bytesOf p r ≡ zoneFile p nm
+  module _ (r : Place) {n : ℕ} (ok : isSome (packOf p) ≡ true) (en : n ≡ countAt p) (er : bytesOf p r ≡ find nm (map (namedAt p) (run 0 n))) where
+    place-is : zoneFile p nm ≡ bytesOf p r
     unfolding zoneFile
-    place-is ok en er =
-        let t : packOk p ≡ true = as-pack p refl ∙ ok in
-        rw (pack-index p, t, ← en) er
+    place-is = let t : packOk p ≡ true = as-pack p refl ∙ ok in sym (rw (pack-index p, t, ← en) er)
 
-    module _ (is : bytesOf p r ≡ zoneFile p nm) where
-      pub look-found : {a e : ℕ} {x : List ℕ} → r ≡ At a e → x ≡ take (e - a) (drop a p) → (x ≡ orEmpty (zoneFile p nm)) × (true ≡ isSome (zoneFile p nm))
-      look-found q ex = rw (← is, q, ex) (refl, refl)
+    pub look-found : {a m : ℕ} {x : List ℕ} → r ≡ At a m → x ≡ take m (drop a p) → Finds p nm true a x
+    look-found {a} {m} {x} q ex =
+        let e : zoneFile p nm ≡ some x = place-is ∙ rw (q, ex) in
+        record { file = rw e; found = rw e; part = rw ex (sym (take-all m (drop a p))) }
 
-      pub look-absent : r ≡ Absent → ([] ≡ orEmpty (zoneFile p nm)) × (false ≡ isSome (zoneFile p nm))
-      look-absent q = rw (← is, q) (refl, refl)
+    pub look-absent : (at : ℕ) → r ≡ Absent → Finds p nm false at []
+    look-absent at q = nothing at (place-is ∙ rw q)

@@ -1,22 +1,19 @@
 -- One turn of each loop of src/lib.rt, and its end.
-use mathlib.Core.Path.{_≡_, refl, sym, ap, _∙_}
+use mathlib.Core.Path.{_≡_, refl, ap}
 use mathlib.Core.List.{List, [], _∷_, map}
 use mathlib.Core.Bool.{Bool, true, false, _&&_}
 use mathlib.Core.Option.{Option, none, some}
-use Prim.Native.Nat.{ℕ, zero, suc, _+_, _*_, _-_, _≤_, _<_}
+use Prim.Native.Nat.{ℕ, suc, _+_, _-_, _≤_, _<_}
 use native.Mathlib.Numerals.{add-one}
 use native.Mathlib.Omega.{arith}
 use borrow.Author.Tests.{eq-eqb, ne-eqb}
 use lib.Dec.{eqb}
-use lib.ListN.{length, getD, take, drop, drop-of-length-le}
+use lib.ListN.{length, getD, drop, drop-of-length-le}
 use lib.Seq.{drop-cons}
 use Rattle.model.specs.Basic.{if_then_else_, run, sameList}
-use Rattle.model.specs.Pack.{Named, lower, sameName, find}
-use Rattle.laws_base.specs.Test.{by-test}
+use Rattle.model.specs.Pack.{lower, sameName, find}
 use Rattle.pack.specs.Directory.{startAt, lenAt, recordOk, entriesOk}
-use Rattle.pack.specs.Pack.{namedAt, bytesOf}
-use Rattle.pack.specs.declared.Place.{Place}
-use Rattle.pack.specs.declared.Place.the-variants.{At, Absent}
+use Rattle.pack.specs.Pack.{namedAt}
 
 -- ---- the directory's entries
 
@@ -96,10 +93,3 @@ module _ (p nm : List ℕ) {i n : ℕ} {r : Bool} {d : Option (List ℕ)} (h : i
 
   pub find-miss : r ≡ false → findFrom p nm (i + 1) (n - (i + 1)) ≡ d
   find-miss q = cc (find-more p nm i n h)
-
--- ---- parts
-
-pub part-none : (s : List ℕ) (a e : ℕ) → e < a → [] ≡ take (e - a) (drop a s)
-part-none s a e h =
-    let z : e - a ≡ 0 = omega arith in
-    rw z

@@ -1,12 +1,14 @@
 -- The zone pack by index, as the code reads it. proofs/Names.antt has it that these are the records of the crate `model`.
-use mathlib.Core.Bool.{Bool, true, false, _&&_}
-use mathlib.Core.List.{List, [], _∷_}
+use mathlib.Core.Path.{_≡_}
+use mathlib.Core.Bool.{Bool, _&&_}
+use mathlib.Core.List.{List}
 use mathlib.Core.Option.{Option, none, some}
-use Prim.Native.Nat.{ℕ, zero, suc, _+_, _*_, _-_}
+use Prim.Native.Nat.{ℕ, _+_, _-_}
 use lib.Dec.{leb, ltb}
 use lib.ListN.{length, getD, take, drop}
 use Rattle.model.specs.Basic.{_>>=_, isIn}
 use Rattle.model.specs.Pack.{Named, packOf, find}
+use Rattle.be.specs.Maybe.{isSome, orEmpty}
 use Rattle.be.specs.Walk.{allFrom}
 use Rattle.pack.specs.Directory.{countAt, startAt, lenAt, dirOk}
 use Rattle.pack.specs.declared.Place.{Place}
@@ -38,5 +40,12 @@ zoneFile p name = packOf p >>= λ l. find name l
 
 -- the bytes of a place that the code found
 abbrev pub bytesOf : List ℕ → Place → Option (List ℕ)
-bytesOf p (At a e) = some (take (e - a) (drop a p))
+bytesOf p (At at n) = some (take n (drop at p))
 bytesOf p Absent = none
+
+-- what the finder answers: r is the zone file of the name, a part of the pack that begins at `at`. Document 01: "a yes or no beside it tells an absent
+-- name from an empty file".
+pub record Finds (p name : List ℕ) (yes : Bool) (at : ℕ) (r : List ℕ) : Type 0 where
+  pub file : r ≡ orEmpty (zoneFile p name)
+  pub found : yes ≡ isSome (zoneFile p name)
+  pub part : r ≡ take (length r) (drop at p)

@@ -5,15 +5,14 @@ ghost use mathlib.Core.Path.{_≡_};
 ghost use mathlib.Core.Bool.{true};
 ghost use mathlib.Core.List.{map};
 ghost use mathlib.Core.Option.{some};
-ghost use lib.ListN.{take, drop};
 ghost use Prim.Native.Nat.{_+_, _*_, _-_, _<_};
 ghost use Rattle.model.specs.Basic.{run};
 ghost use Rattle.model.specs.Directory.{partsOf};
 ghost use Rattle.model.specs.Pack.{packOf, lower, sameName, find};
-ghost use Rattle.be.specs.Maybe.{isSome, orEmpty};
+ghost use Rattle.be.specs.Maybe.{isSome};
 ghost use Rattle.be.specs.Walk.{allFrom};
 ghost use Rattle.pack.specs.Directory.{countAt, startAt, lenAt, recordOk, entriesOk};
-ghost use Rattle.pack.specs.Pack.{namedFrom, namedAt, nameOk, nameAtOk, zoneFile, bytesOf};
+ghost use Rattle.pack.specs.Pack.{namedAt, nameOk, nameAtOk, bytesOf, Finds};
 
 // ---- the directory
 
@@ -176,8 +175,8 @@ fn is_named(p: &[u8], i: usize, name: &[u8]) -> bool
     same_name(be::part(p, start + 1, be::small_at(p, start)), name)
 }
 
-// Where a zone file lies in a pack: from where to where.
-pub enum Place {
+// Where a zone file lies in a pack: where it begins, and how many bytes it has.
+enum Place {
     At(usize, usize),
     Absent,
 }
@@ -188,7 +187,12 @@ fn place_at(p: &[u8], i: usize) -> Place
     ensures { λ r. ⌜ bytesOf (now (p .entry)) r ≡ some (namedAt (now (p .entry)) i .file) ⌝ }
 {
     let start = start_at(p, i);
-    Place::At(start + 1 + be::small_at(p, start), start + len_at(p, i))
+    let at = start + 1 + be::small_at(p, start);
+    let end = start + len_at(p, i);
+    if end < at {
+        return Place::At(at, 0);
+    }
+    Place::At(at, end - at)
 }
 
 // Where the file of the first of n records with that name lies.
@@ -206,48 +210,34 @@ fn find_in(p: &[u8], name: &[u8], n: usize) -> Place
     Place::Absent
 }
 
-// The bytes from a to e.
-fn between(p: &[u8], a: usize, e: usize) -> &[u8]
-    ensures { λ r. ⌜ now r ≡ take (e - a) (drop a (now (p .entry))) ⌝ }
-{
-    if a > e {
-        return &p[..0];
-    }
-    be::part(p, a, e - a)
-}
-
-// Where the zone file of a name lies in a pack that keeps its layout.
-pub fn find_place(p: &[u8], name: &[u8]) -> Place
+// The finder: the zone file of a name in a pack that keeps its layout, as the part of the lent pack itself. Beside it stand whether the pack has
+// the name, so that an absent name is told from an empty file, and where the part begins.
+pub fn look_in<'a>(p: &'a [u8], name: &[u8], found: &mut bool, at: &mut usize) -> &'a [u8]
     requires { ⌜ isSome (packOf (now p)) ≡ true ⌝ }
-    ensures { λ r. ⌜ bytesOf (now (p .entry)) r ≡ zoneFile (now (p .entry)) (now (name .entry)) ⌝ }
+    ensures { λ r. ⌜ Finds (now (p .entry)) (now (name .entry)) (now (found .exit)) (now (at .exit)) (now r) ⌝ }
 {
-    find_in(p, name, count_of(p))
-}
-
-// The zone file of a name in a pack that keeps its layout, and beside it whether there is one: so an absent name is told from an empty file.
-pub fn look_in<'a>(p: &'a [u8], name: &[u8], found: &mut bool) -> &'a [u8]
-    requires { ⌜ isSome (packOf (now p)) ≡ true ⌝ }
-    ensures { λ r. ⌜ (now r ≡ orEmpty (zoneFile (now (p .entry)) (now (name .entry)))) × (now (found .exit) ≡ isSome (zoneFile (now (p .entry)) (now (name .entry)))) ⌝ }
-{
-    match find_place(p, name) {
-        Place::At(a, e) => {
+    match find_in(p, name, count_of(p)) {
+        Place::At(a, n) => {
             *found = true;
-            between(p, a, e)
+            *at = a;
+            be::part(p, a, n)
         }
         Place::Absent => {
             *found = false;
+            *at = 0;
             &p[..0]
         }
     }
 }
 
 // The same of any pack: one that breaks its layout has no zone.
-pub fn look_up<'a>(p: &'a [u8], name: &[u8], found: &mut bool) -> &'a [u8]
-    ensures { λ r. ⌜ (now r ≡ orEmpty (zoneFile (now (p .entry)) (now (name .entry)))) × (now (found .exit) ≡ isSome (zoneFile (now (p .entry)) (now (name .entry)))) ⌝ }
+pub fn look_up<'a>(p: &'a [u8], name: &[u8], found: &mut bool, at: &mut usize) -> &'a [u8]
+    ensures { λ r. ⌜ Finds (now (p .entry)) (now (name .entry)) (now (found .exit)) (now (at .exit)) (now r) ⌝ }
 {
     if pack_ok(p) {
-        return look_in(p, name, found);
+        return look_in(p, name, found, at);
     }
     *found = false;
+    *at = 0;
     &p[..0]
 }

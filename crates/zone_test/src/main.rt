@@ -145,7 +145,8 @@ fn line(p: &[u8], i: usize)
     let name = be::part(p, start + 1, be::small_at(p, start));
     text(name);
     let mut found = false;
-    let f = pack::look_up(p, name, &mut found);
+    let mut at: usize = 0;
+    let f = pack::look_up(p, name, &mut found, &mut at);
     if !found {
         text(b": not found\n");
         return;

@@ -9,16 +9,16 @@ build-requires : tie.Need-build-requires
 build-requires c κs = search needs
 
 returns : tie.Need-returns
-returns c = none-listed _ _ (c .before .before .build .result) (c .before .before .build .ensures .0) _ _ _ _ _ _ (c .if1 .taken)
+returns c = none-listed _ _ (c .before .before .build .result) (c .before .before .build .ensures .means) _ _ _ _ _ _ (c .if1 .taken)
 
 lists-requires : tie.Need-lists-requires
-lists-requires c κs = (c .before .before .before .before .build .ensures .1) (c .before .before .if1 .left)
+lists-requires c κs = (c .before .before .before .before .build .ensures .fits) (c .before .before .if1 .left)
 
 same-length : tie.Need-same-length
 same-length c = search needs
 
 returns-2 : tie.Need-returns-2
-returns-2 c = all-listed _ _ (c .before .before .before .before .before .before .build .result) (c .before .before .before .before .before .before .build .ensures .0) _ _ _ _ _ _ (c .before .before .before .before .if1 .left) (rw (toZ-ofZ (c .before .before .before .before .before .before .before .before .before .fits .a), toZ-ofZ (c .before .before .before .before .before .before .before .before .before .fits .b), toZ-ofZ (c .before .before .before .before .before .before .before .before .before .fits .c), toZ-ofZ (c .before .before .before .before .before .before .before .before .before .fits .d)) at (c .before .lists .ensures))
+returns-2 c = all-listed _ _ (c .before .before .before .before .before .before .build .result) (c .before .before .before .before .before .before .build .ensures .means) _ _ _ _ _ _ (c .before .before .before .before .if1 .left) (rw (toZ-ofZ (c .before .before .before .before .before .before .before .before .before .fits .a), toZ-ofZ (c .before .before .before .before .before .before .before .before .before .fits .b), toZ-ofZ (c .before .before .before .before .before .before .before .before .before .fits .c), toZ-ofZ (c .before .before .before .before .before .before .before .before .before .fits .d)) at (c .before .lists .ensures))
 
 pub bench-clock-lists-spec : {M : Type 1} → statement M
 bench-clock-lists-spec =

@@ -14,10 +14,10 @@ cast-result : tie.Need-cast-result
 cast-result c = search needs
 
 returns : tie.Need-returns
-returns c = limit-refused _ _ _ _ (c .before .before .before .build .result) (c .before .before .before .before .part .ensures) (c .before .before .before .build .ensures .0) (c .before .if1 .taken)
+returns c = limit-refused _ _ _ _ (c .before .before .before .build .result) (c .before .before .before .before .part .ensures) (c .before .before .before .build .ensures .means) (c .before .if1 .taken)
 
 returns-2 : tie.Need-returns-2
-returns-2 c = limit-is _ _ _ _ (c .before .before .before .build .result) (c .before .before .before .before .part .ensures) (c .before .before .before .build .ensures .0) (c .before .if1 .left)
+returns-2 c = limit-is _ _ _ _ (c .before .before .before .build .result) (c .before .before .before .before .part .ensures) (c .before .before .before .build .ensures .means) (c .before .if1 .left)
 
 pub limit-spec : {M : Type 1} → statement M
 limit-spec = tie.close (tie.spec part-requires build-requires cast-result returns returns-2)

@@ -4,8 +4,7 @@ use Prim.Native.Nat.{_+_, _*_, _-_, _≤_, _<_}
 use lib.ListN.{length}
 use borrow.Author.Needs.{needs}
 use mathlib.Core.Path.{_≡_, refl, sym, _∙_}
-use Rattle.build.specs.Read.{Long, Knows, zoneMeant}
-use Rattle.build.proofs.Seek.{none-knows}
+use Rattle.build.specs.Read.{Long, Knows, nothing, zoneMeant}
 use Rattle.build.proofs.Grow.{work-room, pause-room, kind-none, dates-inside, closed-fits, long-work, long-break, long-closed, grown-none, grown-work, grown-break, grown-closed}
 use Rattle.build.proofs.Turn.{Reading, reading-start, reading-end, room-is, turn-more, turn-knows, turn-refused}
 use Rattle.build.proofs.read_rules.Statement.{statement}
@@ -23,20 +22,17 @@ count-requires c κs = (c .before .before .pre .0)
 no-rules-requires : tie.Need-no-rules-requires Inv-loop μ-loop
 no-rules-requires c κs = search needs
 
-none-known-requires : tie.Need-none-known-requires Inv-loop μ-loop
-none-known-requires c κs = search needs
-
 loop-holds : tie.Need-loop-holds Inv-loop μ-loop
-loop-holds c = (omega arith, reading-start _ _ _ (c .before .before .before .before .before .pre .1) (c .before .no-rules .ensures .0), (c .before .no-rules .ensures .1), none-knows _ _ _ _ (c .none-known .ensures .0) (c .none-known .ensures .1) (c .none-known .ensures .2) (c .before .before .before .before .before .pre .3))
+loop-holds c = (omega arith, reading-start _ _ _ (c .before .before .before .before .pre .1) (c .no-rules .ensures .0), (c .no-rules .ensures .1), nothing)
 
 entry-at-requires : tie.Need-entry-at-requires Inv-loop μ-loop
-entry-at-requires c κs = (omega (arith, (c .before .before .before .before .count .ensures)), omega (arith, (c .before .before .before .before .count .ensures)))
+entry-at-requires c κs = (omega (arith, (c .before .before .before .count .ensures)), omega (arith, (c .before .before .before .count .ensures)))
 
 add-i : tie.Need-add-i Inv-loop μ-loop
-add-i c = omega (arith, (c .before .before .before .before .before .count .ensures))
+add-i c = omega (arith, (c .before .before .before .before .count .ensures))
 
 zone-used-requires : tie.Need-zone-used-requires Inv-loop μ-loop
-zone-used-requires c κs = ((c .before .before .before .before .before .before .before .before .pre .2), (c .entry-at .ensures .name), (c .before .before .before .before .before .before .before .before .pre .3), (c .before .before .loop .inv .3))
+zone-used-requires c κs = ((c .before .before .before .before .before .before .before .pre .2), (c .entry-at .ensures .name), (c .before .before .before .before .before .before .before .pre .3), (c .before .before .loop .inv .3))
 
 enum-known-o : tie.Need-enum-known-o Inv-loop μ-loop
 enum-known-o c = search needs
@@ -48,70 +44,70 @@ rule-of-requires : tie.Need-rule-of-requires Inv-loop μ-loop
 rule-of-requires c κs = search needs
 
 mul-t21 : tie.Need-mul-t21 Inv-loop μ-loop
-mul-t21 c = omega (arith, work-room _ _ _ (room-is (c .before .before .before .before .before .before .before .before .before .before .before .before .before .before .before .before .args .book .now) (c .before .before .before .before .before .before .before .before .before .before .before .before .before .before .before .before .args .pack .now) _ (c .before .before .before .before .before .before .before .before .before .before .loop .i) (c .before .before .before .before .before .before .before .before .before .before .loop .s) (c .before .before .before .before .before .before .before .before .before .before .loop .inv .1) (omega (arith, (c .before .before .before .before .before .before .before .before .before .before .before .before .before .count .ensures), (c .before .before .before .before .before .before .before .before .before .loop-test .taken))) (c .before .before .before .before .before .before .before .before .entry-at .result) (c .before .before .before .before .before .before .before .before .entry-at .ensures)) (c .before .if1 .taken))
+mul-t21 c = omega (arith, work-room _ _ _ (room-is (c .before .before .before .before .before .before .before .before .before .before .before .before .before .before .before .args .book .now) (c .before .before .before .before .before .before .before .before .before .before .before .before .before .before .before .args .pack .now) _ (c .before .before .before .before .before .before .before .before .before .before .loop .i) (c .before .before .before .before .before .before .before .before .before .before .loop .s) (c .before .before .before .before .before .before .before .before .before .before .loop .inv .1) (omega (arith, (c .before .before .before .before .before .before .before .before .before .before .before .before .count .ensures), (c .before .before .before .before .before .before .before .before .before .loop-test .taken))) (c .before .before .before .before .before .before .before .before .entry-at .result) (c .before .before .before .before .before .before .before .before .entry-at .ensures)) (c .before .if1 .taken))
 
 element-set-from-s : tie.Need-element-set-from-s Inv-loop μ-loop
-element-set-from-s c = omega (arith, work-room _ _ _ (room-is (c .before .before .before .before .before .before .before .before .before .before .before .before .before .before .before .before .args .book .now) (c .before .before .before .before .before .before .before .before .before .before .before .before .before .before .before .before .args .pack .now) _ (c .before .before .before .before .before .before .before .before .before .before .loop .i) (c .before .before .before .before .before .before .before .before .before .before .loop .s) (c .before .before .before .before .before .before .before .before .before .before .loop .inv .1) (omega (arith, (c .before .before .before .before .before .before .before .before .before .before .before .before .before .count .ensures), (c .before .before .before .before .before .before .before .before .before .loop-test .taken))) (c .before .before .before .before .before .before .before .before .entry-at .result) (c .before .before .before .before .before .before .before .before .entry-at .ensures)) (c .before .if1 .taken))
+element-set-from-s c = omega (arith, work-room _ _ _ (room-is (c .before .before .before .before .before .before .before .before .before .before .before .before .before .before .before .args .book .now) (c .before .before .before .before .before .before .before .before .before .before .before .before .before .before .before .args .pack .now) _ (c .before .before .before .before .before .before .before .before .before .before .loop .i) (c .before .before .before .before .before .before .before .before .before .before .loop .s) (c .before .before .before .before .before .before .before .before .before .before .loop .inv .1) (omega (arith, (c .before .before .before .before .before .before .before .before .before .before .before .before .count .ensures), (c .before .before .before .before .before .before .before .before .before .loop-test .taken))) (c .before .before .before .before .before .before .before .before .entry-at .result) (c .before .before .before .before .before .before .before .before .entry-at .ensures)) (c .before .if1 .taken))
 
 add-s : tie.Need-add-s Inv-loop μ-loop
-add-s c = omega (arith, work-room _ _ _ (room-is (c .before .before .before .before .before .before .before .before .before .before .before .before .before .before .before .before .args .book .now) (c .before .before .before .before .before .before .before .before .before .before .before .before .before .before .before .before .args .pack .now) _ (c .before .before .before .before .before .before .before .before .before .before .loop .i) (c .before .before .before .before .before .before .before .before .before .before .loop .s) (c .before .before .before .before .before .before .before .before .before .before .loop .inv .1) (omega (arith, (c .before .before .before .before .before .before .before .before .before .before .before .before .before .count .ensures), (c .before .before .before .before .before .before .before .before .before .loop-test .taken))) (c .before .before .before .before .before .before .before .before .entry-at .result) (c .before .before .before .before .before .before .before .before .entry-at .ensures)) (c .before .if1 .taken))
+add-s c = omega (arith, work-room _ _ _ (room-is (c .before .before .before .before .before .before .before .before .before .before .before .before .before .before .before .args .book .now) (c .before .before .before .before .before .before .before .before .before .before .before .before .before .before .before .args .pack .now) _ (c .before .before .before .before .before .before .before .before .before .before .loop .i) (c .before .before .before .before .before .before .before .before .before .before .loop .s) (c .before .before .before .before .before .before .before .before .before .before .loop .inv .1) (omega (arith, (c .before .before .before .before .before .before .before .before .before .before .before .before .count .ensures), (c .before .before .before .before .before .before .before .before .before .loop-test .taken))) (c .before .before .before .before .before .before .before .before .entry-at .result) (c .before .before .before .before .before .before .before .before .entry-at .ensures)) (c .before .if1 .taken))
 
 loop-less : tie.Need-loop-less Inv-loop μ-loop
 loop-less c = omega (arith, (c .before .before .before .before .before .before .before .before .before .loop-test .taken))
 
 loop-again : tie.Need-loop-again Inv-loop μ-loop
-loop-again c = (omega (arith, (c .before .before .before .before .before .before .before .before .before .loop-test .taken)), turn-more (c .before .before .before .before .before .before .before .before .before .before .before .before .before .before .before .before .args .book .now) (c .before .before .before .before .before .before .before .before .before .before .before .before .before .before .before .before .args .pack .now) _ (c .before .before .before .before .before .before .before .before .before .before .loop .i) (c .before .before .before .before .before .before .before .before .before .before .loop .s) (c .before .before .before .before .before .before .before .before .before .before .loop .inv .1) (omega (arith, (c .before .before .before .before .before .before .before .before .before .before .before .before .before .count .ensures), (c .before .before .before .before .before .before .before .before .before .loop-test .taken))) (c .before .before .before .before .before .before .before .before .entry-at .result) (c .before .before .before .before .before .before .before .before .entry-at .ensures) (c .before .before .before .before .before .before .before .zone-used .result) (c .before .before .before .before .before .before .before .zone-used .ensures .0) (c .before .before .before .before .before .before .before .zone-used .ensures .1) (c .before .before .before .before .before .o .given .1) (grown-work _ _ _ _ _ (room-is (c .before .before .before .before .before .before .before .before .before .before .before .before .before .before .before .before .args .book .now) (c .before .before .before .before .before .before .before .before .before .before .before .before .before .before .before .before .args .pack .now) _ (c .before .before .before .before .before .before .before .before .before .before .loop .i) (c .before .before .before .before .before .before .before .before .before .before .loop .s) (c .before .before .before .before .before .before .before .before .before .before .loop .inv .1) (omega (arith, (c .before .before .before .before .before .before .before .before .before .before .before .before .before .count .ensures), (c .before .before .before .before .before .before .before .before .before .loop-test .taken))) (c .before .before .before .before .before .before .before .before .entry-at .result) (c .before .before .before .before .before .before .before .before .entry-at .ensures)) (c .before .if1 .taken) (c .rule-of .ensures) refl ((c .before .before .before .before .before .before .before .before .before .before .loop .inv .2) .work)), long-work _ (c .before .before .before .before .before .before .before .before .before .before .loop .inv .2) _, turn-knows (c .before .before .before .before .before .before .before .before .before .before .before .before .before .before .before .before .args .book .now) (c .before .before .before .before .before .before .before .before .before .before .before .before .before .before .before .before .args .pack .now) _ (c .before .before .before .before .before .before .before .before .before .before .loop .i) (c .before .before .before .before .before .before .before .before .before .before .loop .s) (c .before .before .before .before .before .before .before .before .before .before .loop .inv .1) (omega (arith, (c .before .before .before .before .before .before .before .before .before .before .before .before .before .count .ensures), (c .before .before .before .before .before .before .before .before .before .loop-test .taken))) (c .before .before .before .before .before .before .before .before .entry-at .result) (c .before .before .before .before .before .before .before .before .entry-at .ensures) (c .before .before .before .before .before .before .before .zone-used .result) (c .before .before .before .before .before .before .before .zone-used .ensures .0) (c .before .before .before .before .before .before .before .zone-used .ensures .1) (c .before .before .before .before .before .o .given .1) (c .before .before .before .before .before .before .before .before .before .before .loop .inv .3) (c .before .before .before .known-after .ensures))
+loop-again c = (omega (arith, (c .before .before .before .before .before .before .before .before .before .loop-test .taken)), turn-more (c .before .before .before .before .before .before .before .before .before .before .before .before .before .before .before .args .book .now) (c .before .before .before .before .before .before .before .before .before .before .before .before .before .before .before .args .pack .now) _ (c .before .before .before .before .before .before .before .before .before .before .loop .i) (c .before .before .before .before .before .before .before .before .before .before .loop .s) (c .before .before .before .before .before .before .before .before .before .before .loop .inv .1) (omega (arith, (c .before .before .before .before .before .before .before .before .before .before .before .before .count .ensures), (c .before .before .before .before .before .before .before .before .before .loop-test .taken))) (c .before .before .before .before .before .before .before .before .entry-at .result) (c .before .before .before .before .before .before .before .before .entry-at .ensures) (c .before .before .before .before .before .before .before .zone-used .result) (c .before .before .before .before .before .before .before .zone-used .ensures .0) (c .before .before .before .before .before .before .before .zone-used .ensures .1) (c .before .before .before .before .before .o .given .1) (grown-work _ _ _ _ _ (room-is (c .before .before .before .before .before .before .before .before .before .before .before .before .before .before .before .args .book .now) (c .before .before .before .before .before .before .before .before .before .before .before .before .before .before .before .args .pack .now) _ (c .before .before .before .before .before .before .before .before .before .before .loop .i) (c .before .before .before .before .before .before .before .before .before .before .loop .s) (c .before .before .before .before .before .before .before .before .before .before .loop .inv .1) (omega (arith, (c .before .before .before .before .before .before .before .before .before .before .before .before .count .ensures), (c .before .before .before .before .before .before .before .before .before .loop-test .taken))) (c .before .before .before .before .before .before .before .before .entry-at .result) (c .before .before .before .before .before .before .before .before .entry-at .ensures)) (c .before .if1 .taken) (c .rule-of .ensures) refl ((c .before .before .before .before .before .before .before .before .before .before .loop .inv .2) .work)), long-work _ (c .before .before .before .before .before .before .before .before .before .before .loop .inv .2) _, turn-knows (c .before .before .before .before .before .before .before .before .before .before .before .before .before .before .before .args .book .now) (c .before .before .before .before .before .before .before .before .before .before .before .before .before .before .before .args .pack .now) _ (c .before .before .before .before .before .before .before .before .before .before .loop .i) (c .before .before .before .before .before .before .before .before .before .before .loop .s) (c .before .before .before .before .before .before .before .before .before .before .loop .inv .1) (omega (arith, (c .before .before .before .before .before .before .before .before .before .before .before .before .count .ensures), (c .before .before .before .before .before .before .before .before .before .loop-test .taken))) (c .before .before .before .before .before .before .before .before .entry-at .result) (c .before .before .before .before .before .before .before .before .entry-at .ensures) (c .before .before .before .before .before .before .before .zone-used .result) (c .before .before .before .before .before .before .before .zone-used .ensures .0) (c .before .before .before .before .before .before .before .zone-used .ensures .1) (c .before .before .before .before .before .o .given .1) (c .before .before .before .before .before .before .before .before .before .before .loop .inv .3) (c .before .before .before .known-after .ensures))
 
 rule-of-requires-2 : tie.Need-rule-of-requires-2 Inv-loop μ-loop
 rule-of-requires-2 c κs = search needs
 
 mul-t26 : tie.Need-mul-t26 Inv-loop μ-loop
-mul-t26 c = omega (arith, pause-room _ _ _ (room-is (c .before .before .before .before .before .before .before .before .before .before .before .before .before .before .before .before .before .before .args .book .now) (c .before .before .before .before .before .before .before .before .before .before .before .before .before .before .before .before .before .before .args .pack .now) _ (c .before .before .before .before .before .before .before .before .before .before .before .before .loop .i) (c .before .before .before .before .before .before .before .before .before .before .before .before .loop .s) (c .before .before .before .before .before .before .before .before .before .before .before .before .loop .inv .1) (omega (arith, (c .before .before .before .before .before .before .before .before .before .before .before .before .before .before .before .count .ensures), (c .before .before .before .before .before .before .before .before .before .before .before .loop-test .taken))) (c .before .before .before .before .before .before .before .before .before .before .entry-at .result) (c .before .before .before .before .before .before .before .before .before .before .entry-at .ensures)) (c .before .if2 .taken))
+mul-t26 c = omega (arith, pause-room _ _ _ (room-is (c .before .before .before .before .before .before .before .before .before .before .before .before .before .before .before .before .before .args .book .now) (c .before .before .before .before .before .before .before .before .before .before .before .before .before .before .before .before .before .args .pack .now) _ (c .before .before .before .before .before .before .before .before .before .before .before .before .loop .i) (c .before .before .before .before .before .before .before .before .before .before .before .before .loop .s) (c .before .before .before .before .before .before .before .before .before .before .before .before .loop .inv .1) (omega (arith, (c .before .before .before .before .before .before .before .before .before .before .before .before .before .before .count .ensures), (c .before .before .before .before .before .before .before .before .before .before .before .loop-test .taken))) (c .before .before .before .before .before .before .before .before .before .before .entry-at .result) (c .before .before .before .before .before .before .before .before .before .before .entry-at .ensures)) (c .before .if2 .taken))
 
 element-set-from-s-2 : tie.Need-element-set-from-s-2 Inv-loop μ-loop
-element-set-from-s-2 c = omega (arith, pause-room _ _ _ (room-is (c .before .before .before .before .before .before .before .before .before .before .before .before .before .before .before .before .before .before .args .book .now) (c .before .before .before .before .before .before .before .before .before .before .before .before .before .before .before .before .before .before .args .pack .now) _ (c .before .before .before .before .before .before .before .before .before .before .before .before .loop .i) (c .before .before .before .before .before .before .before .before .before .before .before .before .loop .s) (c .before .before .before .before .before .before .before .before .before .before .before .before .loop .inv .1) (omega (arith, (c .before .before .before .before .before .before .before .before .before .before .before .before .before .before .before .count .ensures), (c .before .before .before .before .before .before .before .before .before .before .before .loop-test .taken))) (c .before .before .before .before .before .before .before .before .before .before .entry-at .result) (c .before .before .before .before .before .before .before .before .before .before .entry-at .ensures)) (c .before .if2 .taken))
+element-set-from-s-2 c = omega (arith, pause-room _ _ _ (room-is (c .before .before .before .before .before .before .before .before .before .before .before .before .before .before .before .before .before .args .book .now) (c .before .before .before .before .before .before .before .before .before .before .before .before .before .before .before .before .before .args .pack .now) _ (c .before .before .before .before .before .before .before .before .before .before .before .before .loop .i) (c .before .before .before .before .before .before .before .before .before .before .before .before .loop .s) (c .before .before .before .before .before .before .before .before .before .before .before .before .loop .inv .1) (omega (arith, (c .before .before .before .before .before .before .before .before .before .before .before .before .before .before .count .ensures), (c .before .before .before .before .before .before .before .before .before .before .before .loop-test .taken))) (c .before .before .before .before .before .before .before .before .before .before .entry-at .result) (c .before .before .before .before .before .before .before .before .before .before .entry-at .ensures)) (c .before .if2 .taken))
 
 add-s-2 : tie.Need-add-s-2 Inv-loop μ-loop
-add-s-2 c = omega (arith, pause-room _ _ _ (room-is (c .before .before .before .before .before .before .before .before .before .before .before .before .before .before .before .before .before .before .args .book .now) (c .before .before .before .before .before .before .before .before .before .before .before .before .before .before .before .before .before .before .args .pack .now) _ (c .before .before .before .before .before .before .before .before .before .before .before .before .loop .i) (c .before .before .before .before .before .before .before .before .before .before .before .before .loop .s) (c .before .before .before .before .before .before .before .before .before .before .before .before .loop .inv .1) (omega (arith, (c .before .before .before .before .before .before .before .before .before .before .before .before .before .before .before .count .ensures), (c .before .before .before .before .before .before .before .before .before .before .before .loop-test .taken))) (c .before .before .before .before .before .before .before .before .before .before .entry-at .result) (c .before .before .before .before .before .before .before .before .before .before .entry-at .ensures)) (c .before .if2 .taken))
+add-s-2 c = omega (arith, pause-room _ _ _ (room-is (c .before .before .before .before .before .before .before .before .before .before .before .before .before .before .before .before .before .args .book .now) (c .before .before .before .before .before .before .before .before .before .before .before .before .before .before .before .before .before .args .pack .now) _ (c .before .before .before .before .before .before .before .before .before .before .before .before .loop .i) (c .before .before .before .before .before .before .before .before .before .before .before .before .loop .s) (c .before .before .before .before .before .before .before .before .before .before .before .before .loop .inv .1) (omega (arith, (c .before .before .before .before .before .before .before .before .before .before .before .before .before .before .count .ensures), (c .before .before .before .before .before .before .before .before .before .before .before .loop-test .taken))) (c .before .before .before .before .before .before .before .before .before .before .entry-at .result) (c .before .before .before .before .before .before .before .before .before .before .entry-at .ensures)) (c .before .if2 .taken))
 
 loop-less-2 : tie.Need-loop-less-2 Inv-loop μ-loop
 loop-less-2 c = omega (arith, (c .before .before .before .before .before .before .before .before .before .before .before .loop-test .taken))
 
 loop-again-2 : tie.Need-loop-again-2 Inv-loop μ-loop
-loop-again-2 c = (omega (arith, (c .before .before .before .before .before .before .before .before .before .before .before .loop-test .taken)), turn-more (c .before .before .before .before .before .before .before .before .before .before .before .before .before .before .before .before .before .before .args .book .now) (c .before .before .before .before .before .before .before .before .before .before .before .before .before .before .before .before .before .before .args .pack .now) _ (c .before .before .before .before .before .before .before .before .before .before .before .before .loop .i) (c .before .before .before .before .before .before .before .before .before .before .before .before .loop .s) (c .before .before .before .before .before .before .before .before .before .before .before .before .loop .inv .1) (omega (arith, (c .before .before .before .before .before .before .before .before .before .before .before .before .before .before .before .count .ensures), (c .before .before .before .before .before .before .before .before .before .before .before .loop-test .taken))) (c .before .before .before .before .before .before .before .before .before .before .entry-at .result) (c .before .before .before .before .before .before .before .before .before .before .entry-at .ensures) (c .before .before .before .before .before .before .before .before .before .zone-used .result) (c .before .before .before .before .before .before .before .before .before .zone-used .ensures .0) (c .before .before .before .before .before .before .before .before .before .zone-used .ensures .1) (c .before .before .before .before .before .before .before .o .given .1) (grown-break _ _ _ _ _ (room-is (c .before .before .before .before .before .before .before .before .before .before .before .before .before .before .before .before .before .before .args .book .now) (c .before .before .before .before .before .before .before .before .before .before .before .before .before .before .before .before .before .before .args .pack .now) _ (c .before .before .before .before .before .before .before .before .before .before .before .before .loop .i) (c .before .before .before .before .before .before .before .before .before .before .before .before .loop .s) (c .before .before .before .before .before .before .before .before .before .before .before .before .loop .inv .1) (omega (arith, (c .before .before .before .before .before .before .before .before .before .before .before .before .before .before .before .count .ensures), (c .before .before .before .before .before .before .before .before .before .before .before .loop-test .taken))) (c .before .before .before .before .before .before .before .before .before .before .entry-at .result) (c .before .before .before .before .before .before .before .before .before .before .entry-at .ensures)) (c .before .if2 .taken) (c .rule-of2 .ensures) refl ((c .before .before .before .before .before .before .before .before .before .before .before .before .loop .inv .2) .breaks)), long-break _ (c .before .before .before .before .before .before .before .before .before .before .before .before .loop .inv .2) _, turn-knows (c .before .before .before .before .before .before .before .before .before .before .before .before .before .before .before .before .before .before .args .book .now) (c .before .before .before .before .before .before .before .before .before .before .before .before .before .before .before .before .before .before .args .pack .now) _ (c .before .before .before .before .before .before .before .before .before .before .before .before .loop .i) (c .before .before .before .before .before .before .before .before .before .before .before .before .loop .s) (c .before .before .before .before .before .before .before .before .before .before .before .before .loop .inv .1) (omega (arith, (c .before .before .before .before .before .before .before .before .before .before .before .before .before .before .before .count .ensures), (c .before .before .before .before .before .before .before .before .before .before .before .loop-test .taken))) (c .before .before .before .before .before .before .before .before .before .before .entry-at .result) (c .before .before .before .before .before .before .before .before .before .before .entry-at .ensures) (c .before .before .before .before .before .before .before .before .before .zone-used .result) (c .before .before .before .before .before .before .before .before .before .zone-used .ensures .0) (c .before .before .before .before .before .before .before .before .before .zone-used .ensures .1) (c .before .before .before .before .before .before .before .o .given .1) (c .before .before .before .before .before .before .before .before .before .before .before .before .loop .inv .3) (c .before .before .before .before .before .known-after .ensures))
+loop-again-2 c = (omega (arith, (c .before .before .before .before .before .before .before .before .before .before .before .loop-test .taken)), turn-more (c .before .before .before .before .before .before .before .before .before .before .before .before .before .before .before .before .before .args .book .now) (c .before .before .before .before .before .before .before .before .before .before .before .before .before .before .before .before .before .args .pack .now) _ (c .before .before .before .before .before .before .before .before .before .before .before .before .loop .i) (c .before .before .before .before .before .before .before .before .before .before .before .before .loop .s) (c .before .before .before .before .before .before .before .before .before .before .before .before .loop .inv .1) (omega (arith, (c .before .before .before .before .before .before .before .before .before .before .before .before .before .before .count .ensures), (c .before .before .before .before .before .before .before .before .before .before .before .loop-test .taken))) (c .before .before .before .before .before .before .before .before .before .before .entry-at .result) (c .before .before .before .before .before .before .before .before .before .before .entry-at .ensures) (c .before .before .before .before .before .before .before .before .before .zone-used .result) (c .before .before .before .before .before .before .before .before .before .zone-used .ensures .0) (c .before .before .before .before .before .before .before .before .before .zone-used .ensures .1) (c .before .before .before .before .before .before .before .o .given .1) (grown-break _ _ _ _ _ (room-is (c .before .before .before .before .before .before .before .before .before .before .before .before .before .before .before .before .before .args .book .now) (c .before .before .before .before .before .before .before .before .before .before .before .before .before .before .before .before .before .args .pack .now) _ (c .before .before .before .before .before .before .before .before .before .before .before .before .loop .i) (c .before .before .before .before .before .before .before .before .before .before .before .before .loop .s) (c .before .before .before .before .before .before .before .before .before .before .before .before .loop .inv .1) (omega (arith, (c .before .before .before .before .before .before .before .before .before .before .before .before .before .before .count .ensures), (c .before .before .before .before .before .before .before .before .before .before .before .loop-test .taken))) (c .before .before .before .before .before .before .before .before .before .before .entry-at .result) (c .before .before .before .before .before .before .before .before .before .before .entry-at .ensures)) (c .before .if2 .taken) (c .rule-of2 .ensures) refl ((c .before .before .before .before .before .before .before .before .before .before .before .before .loop .inv .2) .breaks)), long-break _ (c .before .before .before .before .before .before .before .before .before .before .before .before .loop .inv .2) _, turn-knows (c .before .before .before .before .before .before .before .before .before .before .before .before .before .before .before .before .before .args .book .now) (c .before .before .before .before .before .before .before .before .before .before .before .before .before .before .before .before .before .args .pack .now) _ (c .before .before .before .before .before .before .before .before .before .before .before .before .loop .i) (c .before .before .before .before .before .before .before .before .before .before .before .before .loop .s) (c .before .before .before .before .before .before .before .before .before .before .before .before .loop .inv .1) (omega (arith, (c .before .before .before .before .before .before .before .before .before .before .before .before .before .before .count .ensures), (c .before .before .before .before .before .before .before .before .before .before .before .loop-test .taken))) (c .before .before .before .before .before .before .before .before .before .before .entry-at .result) (c .before .before .before .before .before .before .before .before .before .before .entry-at .ensures) (c .before .before .before .before .before .before .before .before .before .zone-used .result) (c .before .before .before .before .before .before .before .before .before .zone-used .ensures .0) (c .before .before .before .before .before .before .before .before .before .zone-used .ensures .1) (c .before .before .before .before .before .before .before .o .given .1) (c .before .before .before .before .before .before .before .before .before .before .before .before .loop .inv .3) (c .before .before .before .before .before .known-after .ensures))
 
 distinct-dates-requires : tie.Need-distinct-dates-requires Inv-loop μ-loop
-distinct-dates-requires c κs = dates-inside _ _ _ (room-is (c .before .before .before .before .before .before .before .before .before .before .before .before .before .before .before .before .before .before .before .args .book .now) (c .before .before .before .before .before .before .before .before .before .before .before .before .before .before .before .before .before .before .before .args .pack .now) _ (c .before .before .before .before .before .before .before .before .before .before .before .before .before .loop .i) (c .before .before .before .before .before .before .before .before .before .before .before .before .before .loop .s) (c .before .before .before .before .before .before .before .before .before .before .before .before .before .loop .inv .1) (omega (arith, (c .before .before .before .before .before .before .before .before .before .before .before .before .before .before .before .before .count .ensures), (c .before .before .before .before .before .before .before .before .before .before .before .before .loop-test .taken))) (c .before .before .before .before .before .before .before .before .before .before .before .entry-at .result) (c .before .before .before .before .before .before .before .before .before .before .before .entry-at .ensures)) (c .if3 .taken)
+distinct-dates-requires c κs = dates-inside _ _ _ (room-is (c .before .before .before .before .before .before .before .before .before .before .before .before .before .before .before .before .before .before .args .book .now) (c .before .before .before .before .before .before .before .before .before .before .before .before .before .before .before .before .before .before .args .pack .now) _ (c .before .before .before .before .before .before .before .before .before .before .before .before .before .loop .i) (c .before .before .before .before .before .before .before .before .before .before .before .before .before .loop .s) (c .before .before .before .before .before .before .before .before .before .before .before .before .before .loop .inv .1) (omega (arith, (c .before .before .before .before .before .before .before .before .before .before .before .before .before .before .before .count .ensures), (c .before .before .before .before .before .before .before .before .before .before .before .before .loop-test .taken))) (c .before .before .before .before .before .before .before .before .before .before .before .entry-at .result) (c .before .before .before .before .before .before .before .before .before .before .before .entry-at .ensures)) (c .if3 .taken)
 
 closed-of-requires : tie.Need-closed-of-requires Inv-loop μ-loop
 closed-of-requires c κs = search needs
 
 mul-t31 : tie.Need-mul-t31 Inv-loop μ-loop
-mul-t31 c = omega (arith, closed-fits _ _ _ (room-is (c .before .before .before .before .before .before .before .before .before .before .before .before .before .before .before .before .before .before .before .before .before .args .book .now) (c .before .before .before .before .before .before .before .before .before .before .before .before .before .before .before .before .before .before .before .before .before .args .pack .now) _ (c .before .before .before .before .before .before .before .before .before .before .before .before .before .before .before .loop .i) (c .before .before .before .before .before .before .before .before .before .before .before .before .before .before .before .loop .s) (c .before .before .before .before .before .before .before .before .before .before .before .before .before .before .before .loop .inv .1) (omega (arith, (c .before .before .before .before .before .before .before .before .before .before .before .before .before .before .before .before .before .before .count .ensures), (c .before .before .before .before .before .before .before .before .before .before .before .before .before .before .loop-test .taken))) (c .before .before .before .before .before .before .before .before .before .before .before .before .before .entry-at .result) (c .before .before .before .before .before .before .before .before .before .before .before .before .before .entry-at .ensures)) (c .before .before .if3 .taken) (c .before .distinct-dates .ensures .1) .0)
+mul-t31 c = omega (arith, closed-fits _ _ _ (room-is (c .before .before .before .before .before .before .before .before .before .before .before .before .before .before .before .before .before .before .before .before .args .book .now) (c .before .before .before .before .before .before .before .before .before .before .before .before .before .before .before .before .before .before .before .before .args .pack .now) _ (c .before .before .before .before .before .before .before .before .before .before .before .before .before .before .before .loop .i) (c .before .before .before .before .before .before .before .before .before .before .before .before .before .before .before .loop .s) (c .before .before .before .before .before .before .before .before .before .before .before .before .before .before .before .loop .inv .1) (omega (arith, (c .before .before .before .before .before .before .before .before .before .before .before .before .before .before .before .before .before .count .ensures), (c .before .before .before .before .before .before .before .before .before .before .before .before .before .before .loop-test .taken))) (c .before .before .before .before .before .before .before .before .before .before .before .before .before .entry-at .result) (c .before .before .before .before .before .before .before .before .before .before .before .before .before .entry-at .ensures)) (c .before .before .if3 .taken) (c .before .distinct-dates .ensures .1) .0)
 
 element-set-from-s-3 : tie.Need-element-set-from-s-3 Inv-loop μ-loop
-element-set-from-s-3 c = omega (arith, closed-fits _ _ _ (room-is (c .before .before .before .before .before .before .before .before .before .before .before .before .before .before .before .before .before .before .before .before .before .args .book .now) (c .before .before .before .before .before .before .before .before .before .before .before .before .before .before .before .before .before .before .before .before .before .args .pack .now) _ (c .before .before .before .before .before .before .before .before .before .before .before .before .before .before .before .loop .i) (c .before .before .before .before .before .before .before .before .before .before .before .before .before .before .before .loop .s) (c .before .before .before .before .before .before .before .before .before .before .before .before .before .before .before .loop .inv .1) (omega (arith, (c .before .before .before .before .before .before .before .before .before .before .before .before .before .before .before .before .before .before .count .ensures), (c .before .before .before .before .before .before .before .before .before .before .before .before .before .before .loop-test .taken))) (c .before .before .before .before .before .before .before .before .before .before .before .before .before .entry-at .result) (c .before .before .before .before .before .before .before .before .before .before .before .before .before .entry-at .ensures)) (c .before .before .if3 .taken) (c .before .distinct-dates .ensures .1) .0)
+element-set-from-s-3 c = omega (arith, closed-fits _ _ _ (room-is (c .before .before .before .before .before .before .before .before .before .before .before .before .before .before .before .before .before .before .before .before .args .book .now) (c .before .before .before .before .before .before .before .before .before .before .before .before .before .before .before .before .before .before .before .before .args .pack .now) _ (c .before .before .before .before .before .before .before .before .before .before .before .before .before .before .before .loop .i) (c .before .before .before .before .before .before .before .before .before .before .before .before .before .before .before .loop .s) (c .before .before .before .before .before .before .before .before .before .before .before .before .before .before .before .loop .inv .1) (omega (arith, (c .before .before .before .before .before .before .before .before .before .before .before .before .before .before .before .before .before .count .ensures), (c .before .before .before .before .before .before .before .before .before .before .before .before .before .before .loop-test .taken))) (c .before .before .before .before .before .before .before .before .before .before .before .before .before .entry-at .result) (c .before .before .before .before .before .before .before .before .before .before .before .before .before .entry-at .ensures)) (c .before .before .if3 .taken) (c .before .distinct-dates .ensures .1) .0)
 
 add-s-3 : tie.Need-add-s-3 Inv-loop μ-loop
-add-s-3 c = omega (arith, closed-fits _ _ _ (room-is (c .before .before .before .before .before .before .before .before .before .before .before .before .before .before .before .before .before .before .before .before .before .args .book .now) (c .before .before .before .before .before .before .before .before .before .before .before .before .before .before .before .before .before .before .before .before .before .args .pack .now) _ (c .before .before .before .before .before .before .before .before .before .before .before .before .before .before .before .loop .i) (c .before .before .before .before .before .before .before .before .before .before .before .before .before .before .before .loop .s) (c .before .before .before .before .before .before .before .before .before .before .before .before .before .before .before .loop .inv .1) (omega (arith, (c .before .before .before .before .before .before .before .before .before .before .before .before .before .before .before .before .before .before .count .ensures), (c .before .before .before .before .before .before .before .before .before .before .before .before .before .before .loop-test .taken))) (c .before .before .before .before .before .before .before .before .before .before .before .before .before .entry-at .result) (c .before .before .before .before .before .before .before .before .before .before .before .before .before .entry-at .ensures)) (c .before .before .if3 .taken) (c .before .distinct-dates .ensures .1) .0)
+add-s-3 c = omega (arith, closed-fits _ _ _ (room-is (c .before .before .before .before .before .before .before .before .before .before .before .before .before .before .before .before .before .before .before .before .args .book .now) (c .before .before .before .before .before .before .before .before .before .before .before .before .before .before .before .before .before .before .before .before .args .pack .now) _ (c .before .before .before .before .before .before .before .before .before .before .before .before .before .before .before .loop .i) (c .before .before .before .before .before .before .before .before .before .before .before .before .before .before .before .loop .s) (c .before .before .before .before .before .before .before .before .before .before .before .before .before .before .before .loop .inv .1) (omega (arith, (c .before .before .before .before .before .before .before .before .before .before .before .before .before .before .before .before .before .count .ensures), (c .before .before .before .before .before .before .before .before .before .before .before .before .before .before .loop-test .taken))) (c .before .before .before .before .before .before .before .before .before .before .before .before .before .entry-at .result) (c .before .before .before .before .before .before .before .before .before .before .before .before .before .entry-at .ensures)) (c .before .before .if3 .taken) (c .before .distinct-dates .ensures .1) .0)
 
 mul-s : tie.Need-mul-s Inv-loop μ-loop
-mul-s c = omega (arith, closed-fits _ _ _ (room-is (c .before .before .before .before .before .before .before .before .before .before .before .before .before .before .before .before .before .before .before .before .before .args .book .now) (c .before .before .before .before .before .before .before .before .before .before .before .before .before .before .before .before .before .before .before .before .before .args .pack .now) _ (c .before .before .before .before .before .before .before .before .before .before .before .before .before .before .before .loop .i) (c .before .before .before .before .before .before .before .before .before .before .before .before .before .before .before .loop .s) (c .before .before .before .before .before .before .before .before .before .before .before .before .before .before .before .loop .inv .1) (omega (arith, (c .before .before .before .before .before .before .before .before .before .before .before .before .before .before .before .before .before .before .count .ensures), (c .before .before .before .before .before .before .before .before .before .before .before .before .before .before .loop-test .taken))) (c .before .before .before .before .before .before .before .before .before .before .before .before .before .entry-at .result) (c .before .before .before .before .before .before .before .before .before .before .before .before .before .entry-at .ensures)) (c .before .before .if3 .taken) (c .before .distinct-dates .ensures .1) .1)
+mul-s c = omega (arith, closed-fits _ _ _ (room-is (c .before .before .before .before .before .before .before .before .before .before .before .before .before .before .before .before .before .before .before .before .args .book .now) (c .before .before .before .before .before .before .before .before .before .before .before .before .before .before .before .before .before .before .before .before .args .pack .now) _ (c .before .before .before .before .before .before .before .before .before .before .before .before .before .before .before .loop .i) (c .before .before .before .before .before .before .before .before .before .before .before .before .before .before .before .loop .s) (c .before .before .before .before .before .before .before .before .before .before .before .before .before .before .before .loop .inv .1) (omega (arith, (c .before .before .before .before .before .before .before .before .before .before .before .before .before .before .before .before .before .count .ensures), (c .before .before .before .before .before .before .before .before .before .before .before .before .before .before .loop-test .taken))) (c .before .before .before .before .before .before .before .before .before .before .before .before .before .entry-at .result) (c .before .before .before .before .before .before .before .before .before .before .before .before .before .entry-at .ensures)) (c .before .before .if3 .taken) (c .before .distinct-dates .ensures .1) .1)
 
 add-s-4 : tie.Need-add-s-4 Inv-loop μ-loop
-add-s-4 c = omega (arith, closed-fits _ _ _ (room-is (c .before .before .before .before .before .before .before .before .before .before .before .before .before .before .before .before .before .before .before .before .before .args .book .now) (c .before .before .before .before .before .before .before .before .before .before .before .before .before .before .before .before .before .before .before .before .before .args .pack .now) _ (c .before .before .before .before .before .before .before .before .before .before .before .before .before .before .before .loop .i) (c .before .before .before .before .before .before .before .before .before .before .before .before .before .before .before .loop .s) (c .before .before .before .before .before .before .before .before .before .before .before .before .before .before .before .loop .inv .1) (omega (arith, (c .before .before .before .before .before .before .before .before .before .before .before .before .before .before .before .before .before .before .count .ensures), (c .before .before .before .before .before .before .before .before .before .before .before .before .before .before .loop-test .taken))) (c .before .before .before .before .before .before .before .before .before .before .before .before .before .entry-at .result) (c .before .before .before .before .before .before .before .before .before .before .before .before .before .entry-at .ensures)) (c .before .before .if3 .taken) (c .before .distinct-dates .ensures .1) .1)
+add-s-4 c = omega (arith, closed-fits _ _ _ (room-is (c .before .before .before .before .before .before .before .before .before .before .before .before .before .before .before .before .before .before .before .before .args .book .now) (c .before .before .before .before .before .before .before .before .before .before .before .before .before .before .before .before .before .before .before .before .args .pack .now) _ (c .before .before .before .before .before .before .before .before .before .before .before .before .before .before .before .loop .i) (c .before .before .before .before .before .before .before .before .before .before .before .before .before .before .before .loop .s) (c .before .before .before .before .before .before .before .before .before .before .before .before .before .before .before .loop .inv .1) (omega (arith, (c .before .before .before .before .before .before .before .before .before .before .before .before .before .before .before .before .before .count .ensures), (c .before .before .before .before .before .before .before .before .before .before .before .before .before .before .loop-test .taken))) (c .before .before .before .before .before .before .before .before .before .before .before .before .before .entry-at .result) (c .before .before .before .before .before .before .before .before .before .before .before .before .before .entry-at .ensures)) (c .before .before .if3 .taken) (c .before .distinct-dates .ensures .1) .1)
 
 loop-less-3 : tie.Need-loop-less-3 Inv-loop μ-loop
 loop-less-3 c = omega (arith, (c .before .before .before .before .before .before .before .before .before .before .before .before .before .before .loop-test .taken))
 
 loop-again-3 : tie.Need-loop-again-3 Inv-loop μ-loop
-loop-again-3 c = (omega (arith, (c .before .before .before .before .before .before .before .before .before .before .before .before .before .before .loop-test .taken)), turn-more (c .before .before .before .before .before .before .before .before .before .before .before .before .before .before .before .before .before .before .before .before .before .args .book .now) (c .before .before .before .before .before .before .before .before .before .before .before .before .before .before .before .before .before .before .before .before .before .args .pack .now) _ (c .before .before .before .before .before .before .before .before .before .before .before .before .before .before .before .loop .i) (c .before .before .before .before .before .before .before .before .before .before .before .before .before .before .before .loop .s) (c .before .before .before .before .before .before .before .before .before .before .before .before .before .before .before .loop .inv .1) (omega (arith, (c .before .before .before .before .before .before .before .before .before .before .before .before .before .before .before .before .before .before .count .ensures), (c .before .before .before .before .before .before .before .before .before .before .before .before .before .before .loop-test .taken))) (c .before .before .before .before .before .before .before .before .before .before .before .before .before .entry-at .result) (c .before .before .before .before .before .before .before .before .before .before .before .before .before .entry-at .ensures) (c .before .before .before .before .before .before .before .before .before .before .before .before .zone-used .result) (c .before .before .before .before .before .before .before .before .before .before .before .before .zone-used .ensures .0) (c .before .before .before .before .before .before .before .before .before .before .before .before .zone-used .ensures .1) (c .before .before .before .before .before .before .before .before .before .before .o .given .1) (grown-closed _ _ _ _ _ (room-is (c .before .before .before .before .before .before .before .before .before .before .before .before .before .before .before .before .before .before .before .before .before .args .book .now) (c .before .before .before .before .before .before .before .before .before .before .before .before .before .before .before .before .before .before .before .before .before .args .pack .now) _ (c .before .before .before .before .before .before .before .before .before .before .before .before .before .before .before .loop .i) (c .before .before .before .before .before .before .before .before .before .before .before .before .before .before .before .loop .s) (c .before .before .before .before .before .before .before .before .before .before .before .before .before .before .before .loop .inv .1) (omega (arith, (c .before .before .before .before .before .before .before .before .before .before .before .before .before .before .before .before .before .before .count .ensures), (c .before .before .before .before .before .before .before .before .before .before .before .before .before .before .loop-test .taken))) (c .before .before .before .before .before .before .before .before .before .before .before .before .before .entry-at .result) (c .before .before .before .before .before .before .before .before .before .before .before .before .before .entry-at .ensures)) (c .before .before .if3 .taken) (c .closed-of .ensures) refl ((c .before .before .before .before .before .before .before .before .before .before .before .before .before .before .before .loop .inv .2) .closed) (c .before .distinct-dates .ensures .0) (c .before .distinct-dates .ensures .1)), long-closed _ (c .before .before .before .before .before .before .before .before .before .before .before .before .before .before .before .loop .inv .2) _ _, turn-knows (c .before .before .before .before .before .before .before .before .before .before .before .before .before .before .before .before .before .before .before .before .before .args .book .now) (c .before .before .before .before .before .before .before .before .before .before .before .before .before .before .before .before .before .before .before .before .before .args .pack .now) _ (c .before .before .before .before .before .before .before .before .before .before .before .before .before .before .before .loop .i) (c .before .before .before .before .before .before .before .before .before .before .before .before .before .before .before .loop .s) (c .before .before .before .before .before .before .before .before .before .before .before .before .before .before .before .loop .inv .1) (omega (arith, (c .before .before .before .before .before .before .before .before .before .before .before .before .before .before .before .before .before .before .count .ensures), (c .before .before .before .before .before .before .before .before .before .before .before .before .before .before .loop-test .taken))) (c .before .before .before .before .before .before .before .before .before .before .before .before .before .entry-at .result) (c .before .before .before .before .before .before .before .before .before .before .before .before .before .entry-at .ensures) (c .before .before .before .before .before .before .before .before .before .before .before .before .zone-used .result) (c .before .before .before .before .before .before .before .before .before .before .before .before .zone-used .ensures .0) (c .before .before .before .before .before .before .before .before .before .before .before .before .zone-used .ensures .1) (c .before .before .before .before .before .before .before .before .before .before .o .given .1) (c .before .before .before .before .before .before .before .before .before .before .before .before .before .before .before .loop .inv .3) (c .before .before .before .before .before .before .before .before .known-after .ensures))
+loop-again-3 c = (omega (arith, (c .before .before .before .before .before .before .before .before .before .before .before .before .before .before .loop-test .taken)), turn-more (c .before .before .before .before .before .before .before .before .before .before .before .before .before .before .before .before .before .before .before .before .args .book .now) (c .before .before .before .before .before .before .before .before .before .before .before .before .before .before .before .before .before .before .before .before .args .pack .now) _ (c .before .before .before .before .before .before .before .before .before .before .before .before .before .before .before .loop .i) (c .before .before .before .before .before .before .before .before .before .before .before .before .before .before .before .loop .s) (c .before .before .before .before .before .before .before .before .before .before .before .before .before .before .before .loop .inv .1) (omega (arith, (c .before .before .before .before .before .before .before .before .before .before .before .before .before .before .before .before .before .count .ensures), (c .before .before .before .before .before .before .before .before .before .before .before .before .before .before .loop-test .taken))) (c .before .before .before .before .before .before .before .before .before .before .before .before .before .entry-at .result) (c .before .before .before .before .before .before .before .before .before .before .before .before .before .entry-at .ensures) (c .before .before .before .before .before .before .before .before .before .before .before .before .zone-used .result) (c .before .before .before .before .before .before .before .before .before .before .before .before .zone-used .ensures .0) (c .before .before .before .before .before .before .before .before .before .before .before .before .zone-used .ensures .1) (c .before .before .before .before .before .before .before .before .before .before .o .given .1) (grown-closed _ _ _ _ _ (room-is (c .before .before .before .before .before .before .before .before .before .before .before .before .before .before .before .before .before .before .before .before .args .book .now) (c .before .before .before .before .before .before .before .before .before .before .before .before .before .before .before .before .before .before .before .before .args .pack .now) _ (c .before .before .before .before .before .before .before .before .before .before .before .before .before .before .before .loop .i) (c .before .before .before .before .before .before .before .before .before .before .before .before .before .before .before .loop .s) (c .before .before .before .before .before .before .before .before .before .before .before .before .before .before .before .loop .inv .1) (omega (arith, (c .before .before .before .before .before .before .before .before .before .before .before .before .before .before .before .before .before .count .ensures), (c .before .before .before .before .before .before .before .before .before .before .before .before .before .before .loop-test .taken))) (c .before .before .before .before .before .before .before .before .before .before .before .before .before .entry-at .result) (c .before .before .before .before .before .before .before .before .before .before .before .before .before .entry-at .ensures)) (c .before .before .if3 .taken) (c .closed-of .ensures) refl ((c .before .before .before .before .before .before .before .before .before .before .before .before .before .before .before .loop .inv .2) .closed) (c .before .distinct-dates .ensures .0) (c .before .distinct-dates .ensures .1)), long-closed _ (c .before .before .before .before .before .before .before .before .before .before .before .before .before .before .before .loop .inv .2) _ _, turn-knows (c .before .before .before .before .before .before .before .before .before .before .before .before .before .before .before .before .before .before .before .before .args .book .now) (c .before .before .before .before .before .before .before .before .before .before .before .before .before .before .before .before .before .before .before .before .args .pack .now) _ (c .before .before .before .before .before .before .before .before .before .before .before .before .before .before .before .loop .i) (c .before .before .before .before .before .before .before .before .before .before .before .before .before .before .before .loop .s) (c .before .before .before .before .before .before .before .before .before .before .before .before .before .before .before .loop .inv .1) (omega (arith, (c .before .before .before .before .before .before .before .before .before .before .before .before .before .before .before .before .before .count .ensures), (c .before .before .before .before .before .before .before .before .before .before .before .before .before .before .loop-test .taken))) (c .before .before .before .before .before .before .before .before .before .before .before .before .before .entry-at .result) (c .before .before .before .before .before .before .before .before .before .before .before .before .before .entry-at .ensures) (c .before .before .before .before .before .before .before .before .before .before .before .before .zone-used .result) (c .before .before .before .before .before .before .before .before .before .before .before .before .zone-used .ensures .0) (c .before .before .before .before .before .before .before .before .before .before .before .before .zone-used .ensures .1) (c .before .before .before .before .before .before .before .before .before .before .o .given .1) (c .before .before .before .before .before .before .before .before .before .before .before .before .before .before .before .loop .inv .3) (c .before .before .before .before .before .before .before .before .known-after .ensures))
 
 loop-less-4 : tie.Need-loop-less-4 Inv-loop μ-loop
 loop-less-4 c = omega (arith, (c .before .before .before .before .before .before .before .before .before .before .before .before .loop-test .taken))
 
 loop-again-4 : tie.Need-loop-again-4 Inv-loop μ-loop
-loop-again-4 c = (omega (arith, (c .before .before .before .before .before .before .before .before .before .before .before .before .loop-test .taken)), turn-more (c .before .before .before .before .before .before .before .before .before .before .before .before .before .before .before .before .before .before .before .args .book .now) (c .before .before .before .before .before .before .before .before .before .before .before .before .before .before .before .before .before .before .before .args .pack .now) _ (c .before .before .before .before .before .before .before .before .before .before .before .before .before .loop .i) (c .before .before .before .before .before .before .before .before .before .before .before .before .before .loop .s) (c .before .before .before .before .before .before .before .before .before .before .before .before .before .loop .inv .1) (omega (arith, (c .before .before .before .before .before .before .before .before .before .before .before .before .before .before .before .before .count .ensures), (c .before .before .before .before .before .before .before .before .before .before .before .before .loop-test .taken))) (c .before .before .before .before .before .before .before .before .before .before .before .entry-at .result) (c .before .before .before .before .before .before .before .before .before .before .before .entry-at .ensures) (c .before .before .before .before .before .before .before .before .before .before .zone-used .result) (c .before .before .before .before .before .before .before .before .before .before .zone-used .ensures .0) (c .before .before .before .before .before .before .before .before .before .before .zone-used .ensures .1) (c .before .before .before .before .before .before .before .before .o .given .1) (grown-none _ _ _ _ _ (room-is (c .before .before .before .before .before .before .before .before .before .before .before .before .before .before .before .before .before .before .before .args .book .now) (c .before .before .before .before .before .before .before .before .before .before .before .before .before .before .before .before .before .before .before .args .pack .now) _ (c .before .before .before .before .before .before .before .before .before .before .before .before .before .loop .i) (c .before .before .before .before .before .before .before .before .before .before .before .before .before .loop .s) (c .before .before .before .before .before .before .before .before .before .before .before .before .before .loop .inv .1) (omega (arith, (c .before .before .before .before .before .before .before .before .before .before .before .before .before .before .before .before .count .ensures), (c .before .before .before .before .before .before .before .before .before .before .before .before .loop-test .taken))) (c .before .before .before .before .before .before .before .before .before .before .before .entry-at .result) (c .before .before .before .before .before .before .before .before .before .before .before .entry-at .ensures)) (kind-none _ _ _ (room-is (c .before .before .before .before .before .before .before .before .before .before .before .before .before .before .before .before .before .before .before .args .book .now) (c .before .before .before .before .before .before .before .before .before .before .before .before .before .before .before .before .before .before .before .args .pack .now) _ (c .before .before .before .before .before .before .before .before .before .before .before .before .before .loop .i) (c .before .before .before .before .before .before .before .before .before .before .before .before .before .loop .s) (c .before .before .before .before .before .before .before .before .before .before .before .before .before .loop .inv .1) (omega (arith, (c .before .before .before .before .before .before .before .before .before .before .before .before .before .before .before .before .count .ensures), (c .before .before .before .before .before .before .before .before .before .before .before .before .loop-test .taken))) (c .before .before .before .before .before .before .before .before .before .before .before .entry-at .result) (c .before .before .before .before .before .before .before .before .before .before .before .entry-at .ensures)) (c .before .before .before .before .if1 .left) (c .before .before .if2 .left) (c .if3 .left))), (c .before .before .before .before .before .before .before .before .before .before .before .before .before .loop .inv .2), turn-knows (c .before .before .before .before .before .before .before .before .before .before .before .before .before .before .before .before .before .before .before .args .book .now) (c .before .before .before .before .before .before .before .before .before .before .before .before .before .before .before .before .before .before .before .args .pack .now) _ (c .before .before .before .before .before .before .before .before .before .before .before .before .before .loop .i) (c .before .before .before .before .before .before .before .before .before .before .before .before .before .loop .s) (c .before .before .before .before .before .before .before .before .before .before .before .before .before .loop .inv .1) (omega (arith, (c .before .before .before .before .before .before .before .before .before .before .before .before .before .before .before .before .count .ensures), (c .before .before .before .before .before .before .before .before .before .before .before .before .loop-test .taken))) (c .before .before .before .before .before .before .before .before .before .before .before .entry-at .result) (c .before .before .before .before .before .before .before .before .before .before .before .entry-at .ensures) (c .before .before .before .before .before .before .before .before .before .before .zone-used .result) (c .before .before .before .before .before .before .before .before .before .before .zone-used .ensures .0) (c .before .before .before .before .before .before .before .before .before .before .zone-used .ensures .1) (c .before .before .before .before .before .before .before .before .o .given .1) (c .before .before .before .before .before .before .before .before .before .before .before .before .before .loop .inv .3) (c .before .before .before .before .before .before .known-after .ensures))
+loop-again-4 c = (omega (arith, (c .before .before .before .before .before .before .before .before .before .before .before .before .loop-test .taken)), turn-more (c .before .before .before .before .before .before .before .before .before .before .before .before .before .before .before .before .before .before .args .book .now) (c .before .before .before .before .before .before .before .before .before .before .before .before .before .before .before .before .before .before .args .pack .now) _ (c .before .before .before .before .before .before .before .before .before .before .before .before .before .loop .i) (c .before .before .before .before .before .before .before .before .before .before .before .before .before .loop .s) (c .before .before .before .before .before .before .before .before .before .before .before .before .before .loop .inv .1) (omega (arith, (c .before .before .before .before .before .before .before .before .before .before .before .before .before .before .before .count .ensures), (c .before .before .before .before .before .before .before .before .before .before .before .before .loop-test .taken))) (c .before .before .before .before .before .before .before .before .before .before .before .entry-at .result) (c .before .before .before .before .before .before .before .before .before .before .before .entry-at .ensures) (c .before .before .before .before .before .before .before .before .before .before .zone-used .result) (c .before .before .before .before .before .before .before .before .before .before .zone-used .ensures .0) (c .before .before .before .before .before .before .before .before .before .before .zone-used .ensures .1) (c .before .before .before .before .before .before .before .before .o .given .1) (grown-none _ _ _ _ _ (room-is (c .before .before .before .before .before .before .before .before .before .before .before .before .before .before .before .before .before .before .args .book .now) (c .before .before .before .before .before .before .before .before .before .before .before .before .before .before .before .before .before .before .args .pack .now) _ (c .before .before .before .before .before .before .before .before .before .before .before .before .before .loop .i) (c .before .before .before .before .before .before .before .before .before .before .before .before .before .loop .s) (c .before .before .before .before .before .before .before .before .before .before .before .before .before .loop .inv .1) (omega (arith, (c .before .before .before .before .before .before .before .before .before .before .before .before .before .before .before .count .ensures), (c .before .before .before .before .before .before .before .before .before .before .before .before .loop-test .taken))) (c .before .before .before .before .before .before .before .before .before .before .before .entry-at .result) (c .before .before .before .before .before .before .before .before .before .before .before .entry-at .ensures)) (kind-none _ _ _ (room-is (c .before .before .before .before .before .before .before .before .before .before .before .before .before .before .before .before .before .before .args .book .now) (c .before .before .before .before .before .before .before .before .before .before .before .before .before .before .before .before .before .before .args .pack .now) _ (c .before .before .before .before .before .before .before .before .before .before .before .before .before .loop .i) (c .before .before .before .before .before .before .before .before .before .before .before .before .before .loop .s) (c .before .before .before .before .before .before .before .before .before .before .before .before .before .loop .inv .1) (omega (arith, (c .before .before .before .before .before .before .before .before .before .before .before .before .before .before .before .count .ensures), (c .before .before .before .before .before .before .before .before .before .before .before .before .loop-test .taken))) (c .before .before .before .before .before .before .before .before .before .before .before .entry-at .result) (c .before .before .before .before .before .before .before .before .before .before .before .entry-at .ensures)) (c .before .before .before .before .if1 .left) (c .before .before .if2 .left) (c .if3 .left))), (c .before .before .before .before .before .before .before .before .before .before .before .before .before .loop .inv .2), turn-knows (c .before .before .before .before .before .before .before .before .before .before .before .before .before .before .before .before .before .before .args .book .now) (c .before .before .before .before .before .before .before .before .before .before .before .before .before .before .before .before .before .before .args .pack .now) _ (c .before .before .before .before .before .before .before .before .before .before .before .before .before .loop .i) (c .before .before .before .before .before .before .before .before .before .before .before .before .before .loop .s) (c .before .before .before .before .before .before .before .before .before .before .before .before .before .loop .inv .1) (omega (arith, (c .before .before .before .before .before .before .before .before .before .before .before .before .before .before .before .count .ensures), (c .before .before .before .before .before .before .before .before .before .before .before .before .loop-test .taken))) (c .before .before .before .before .before .before .before .before .before .before .before .entry-at .result) (c .before .before .before .before .before .before .before .before .before .before .before .entry-at .ensures) (c .before .before .before .before .before .before .before .before .before .before .zone-used .result) (c .before .before .before .before .before .before .before .before .before .before .zone-used .ensures .0) (c .before .before .before .before .before .before .before .before .before .before .zone-used .ensures .1) (c .before .before .before .before .before .before .before .before .o .given .1) (c .before .before .before .before .before .before .before .before .before .before .before .before .before .loop .inv .3) (c .before .before .before .before .before .before .known-after .ensures))
 
 enum-known-number : tie.Need-enum-known-number Inv-loop μ-loop
 enum-known-number c = search needs
@@ -120,10 +116,10 @@ refused-requires : tie.Need-refused-requires Inv-loop μ-loop
 refused-requires c κs = search needs
 
 returns : tie.Need-returns Inv-loop μ-loop
-returns c = turn-refused (c .before .before .before .before .before .before .before .before .before .before .before .before .before .args .book .now) (c .before .before .before .before .before .before .before .before .before .before .before .before .before .args .pack .now) _ (c .before .before .before .before .before .before .before .loop .i) (c .before .before .before .before .before .before .before .loop .s) (c .before .before .before .before .before .before .before .loop .inv .1) (omega (arith, (c .before .before .before .before .before .before .before .before .before .before .count .ensures), (c .before .before .before .before .before .before .loop-test .taken))) (c .before .before .before .before .before .entry-at .result) (c .before .before .before .before .before .entry-at .ensures) (c .before .before .before .before .zone-used .result) (c .before .before .before .before .zone-used .ensures .0) (c .before .before .before .before .zone-used .ensures .1) (c .before .before .number .given .1) (c .refused .ensures .0) (c .refused .ensures .1)
+returns c = turn-refused (c .before .before .before .before .before .before .before .before .before .before .before .before .args .book .now) (c .before .before .before .before .before .before .before .before .before .before .before .before .args .pack .now) _ (c .before .before .before .before .before .before .before .loop .i) (c .before .before .before .before .before .before .before .loop .s) (c .before .before .before .before .before .before .before .loop .inv .1) (omega (arith, (c .before .before .before .before .before .before .before .before .before .count .ensures), (c .before .before .before .before .before .before .loop-test .taken))) (c .before .before .before .before .before .entry-at .result) (c .before .before .before .before .before .entry-at .ensures) (c .before .before .before .before .zone-used .result) (c .before .before .before .before .zone-used .ensures .0) (c .before .before .before .before .zone-used .ensures .1) (c .before .before .number .given .1) (c .refused .ensures)
 
 returns-2 : tie.Need-returns-2 Inv-loop μ-loop
-returns-2 c = reading-end (c .before .before .before .before .before .before .before .args .book .now) (c .before .before .before .before .before .before .before .args .pack .now) _ (c .before .loop .i) (c .before .loop .s) (c .before .loop .inv .1) (omega (arith, (c .before .before .before .before .count .ensures), (c .loop-test .left)))
+returns-2 c = reading-end (c .before .before .before .before .before .before .args .book .now) (c .before .before .before .before .before .before .args .pack .now) _ (c .before .loop .i) (c .before .loop .s) (c .before .loop .inv .1) (omega (arith, (c .before .before .before .count .ensures), (c .loop-test .left)))
 
 pub read-rules-spec : {M : Type 1} → statement M
 read-rules-spec =
@@ -133,7 +129,6 @@ read-rules-spec =
     μ-loop
     count-requires
     no-rules-requires
-    none-known-requires
     loop-holds
     entry-at-requires
     add-i

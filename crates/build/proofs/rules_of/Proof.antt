@@ -13,7 +13,7 @@ refused-requires : tie.Need-refused-requires
 refused-requires c κs = search needs
 
 returns : tie.Need-returns
-returns c = no-book _ _ _ (c .before .before .book-ok .ensures) (not-true _ (c .before .if1 .taken)) ((c .refused .ensures) .0) ((c .refused .ensures) .1)
+returns c = no-book _ _ _ (c .before .before .book-ok .ensures) (not-true _ (c .before .if1 .taken)) (c .refused .ensures)
 
 limits-ok-requires : tie.Need-limits-ok-requires
 limits-ok-requires c κs = (sym (c .before .book-ok .ensures) ∙ not-false _ (c .if1 .left))
@@ -22,7 +22,7 @@ refused-requires-2 : tie.Need-refused-requires-2
 refused-requires-2 c κs = search needs
 
 returns-2 : tie.Need-returns-2
-returns-2 c = no-limits _ _ (sym (c .before .before .before .before .book-ok .ensures) ∙ not-false _ (c .before .before .before .if1 .left)) _ (c .before .before .limits-ok .ensures) (not-true _ (c .before .if2 .taken)) ((c .refused2 .ensures) .0) ((c .refused2 .ensures) .1)
+returns-2 c = no-limits _ _ (sym (c .before .before .before .before .book-ok .ensures) ∙ not-false _ (c .before .before .before .if1 .left)) _ (c .before .before .limits-ok .ensures) (not-true _ (c .before .if2 .taken)) (c .refused2 .ensures)
 
 pack-ok-requires : tie.Need-pack-ok-requires
 pack-ok-requires c κs = search needs
@@ -31,7 +31,7 @@ refused-requires-3 : tie.Need-refused-requires-3
 refused-requires-3 c κs = search needs
 
 returns-3 : tie.Need-returns-3
-returns-3 c = no-pack _ _ (sym (c .before .before .before .before .before .before .book-ok .ensures) ∙ not-false _ (c .before .before .before .before .before .if1 .left)) (sym (c .before .before .before .before .limits-ok .ensures) ∙ not-false _ (c .before .before .before .if2 .left)) _ (c .before .before .pack-ok .ensures) (not-true _ (c .before .if3 .taken)) ((c .refused3 .ensures) .0) ((c .refused3 .ensures) .1)
+returns-3 c = no-pack _ _ (sym (c .before .before .before .before .before .before .book-ok .ensures) ∙ not-false _ (c .before .before .before .before .before .if1 .left)) (sym (c .before .before .before .before .limits-ok .ensures) ∙ not-false _ (c .before .before .before .if2 .left)) _ (c .before .before .pack-ok .ensures) (not-true _ (c .before .if3 .taken)) (c .refused3 .ensures)
 
 default-zone-requires : tie.Need-default-zone-requires
 default-zone-requires c κs = ((sym (c .before .before .before .before .before .book-ok .ensures) ∙ not-false _ (c .before .before .before .before .if1 .left)), (sym (c .before .pack-ok .ensures) ∙ not-false _ (c .if3 .left)))
@@ -52,7 +52,7 @@ refused-requires-4 : tie.Need-refused-requires-4
 refused-requires-4 c κs = search needs
 
 returns-5 : tie.Need-returns-5
-returns-5 c = no-default _ _ (sym (c .before .before .before .before .before .before .before .before .before .before .book-ok .ensures) ∙ not-false _ (c .before .before .before .before .before .before .before .before .before .if1 .left)) (sym (c .before .before .before .before .before .before .before .before .limits-ok .ensures) ∙ not-false _ (c .before .before .before .before .before .before .before .if2 .left)) (sym (c .before .before .before .before .before .before .pack-ok .ensures) ∙ not-false _ (c .before .before .before .before .before .if3 .left)) (c .before .before .before .before .default-zone .result) ((c .before .before .before .before .default-zone .ensures) .0) _ (c .before .before .number .given .1) ((c .before .before .before .before .default-zone .ensures) .1) ((c .refused4 .ensures) .0) ((c .refused4 .ensures) .1)
+returns-5 c = no-default _ _ (sym (c .before .before .before .before .before .before .before .before .before .before .book-ok .ensures) ∙ not-false _ (c .before .before .before .before .before .before .before .before .before .if1 .left)) (sym (c .before .before .before .before .before .before .before .before .limits-ok .ensures) ∙ not-false _ (c .before .before .before .before .before .before .before .if2 .left)) (sym (c .before .before .before .before .before .before .pack-ok .ensures) ∙ not-false _ (c .before .before .before .before .before .if3 .left)) (c .before .before .before .before .default-zone .result) ((c .before .before .before .before .default-zone .ensures) .0) _ (c .before .before .number .given .1) ((c .before .before .before .before .default-zone .ensures) .1) (c .refused4 .ensures)
 
 pub rules-of-spec : {M : Type 1} → statement M
 rules-of-spec =

@@ -22,7 +22,7 @@ loop-holds : tie.Need-loop-holds Inv-loop μ-loop
 loop-holds c = (refl, refl)
 
 step-requires : tie.Need-step-requires Inv-loop μ-loop
-step-requires c κs = (record { means = (c .before .before .before .before .before .build .ensures .0); fits = (c .before .before .before .before .before .build .ensures .1) }, omega (arith, (c .before .before .before .loop .inv .1), (c .before .before .before .before .before .before .before .before .before .before .pre)))
+step-requires c κs = ((c .before .before .before .before .before .build .ensures), omega (arith, (c .before .before .before .loop .inv .1), (c .before .before .before .before .before .before .before .before .before .before .pre)))
 
 same-length : tie.Need-same-length Inv-loop μ-loop
 same-length c = (c .before .before .before .before .before .before .step .kept .1 .1 .1 .1 .0) ∙ (c .before .before .before .before .before .before .before .before .before .before .loop .inv .0)

@@ -4,14 +4,17 @@ use borrow.Author.Needs.{needs}
 use Rattle.pack.proofs.look_in.Statement.{statement}
 use Rattle.pack.proofs.look_in.Tie as tie
 
-find-place-requires : tie.Need-find-place-requires
-find-place-requires c κs = search needs
+count-of-requires : tie.Need-count-of-requires
+count-of-requires c κs = search needs
+
+find-in-requires : tie.Need-find-in-requires
+find-in-requires c κs = search needs
 
 enum-known-a : tie.Need-enum-known-a
 enum-known-a c = search needs
 
-between-requires : tie.Need-between-requires
-between-requires c κs = search needs
+part-requires : tie.Need-part-requires
+part-requires c κs = search needs
 
 enum-told : tie.Need-enum-told
 enum-told c = search needs
@@ -20,18 +23,19 @@ slice-aggregate-result : tie.Need-slice-aggregate-result
 slice-aggregate-result c = search needs
 
 returns : tie.Need-returns
-returns c = look-found _ _ _ (c .before .before .before .before .find-place .ensures) (c .before .before .a .given .1) (c .between .ensures)
+returns c = look-found _ _ (c .before .before .before .before .find-in .result) (c .before .before .before .before .before .before .before .before .pre) (c .before .before .before .before .before .count-of .ensures .0) (c .before .before .before .before .find-in .ensures) (c .before .before .a .given .1) (c .part .ensures)
 
 returns-2 : tie.Need-returns-2
-returns-2 c = look-absent _ _ _ (c .before .before .before .find-place .ensures) (c .before .enum-told .given .1)
+returns-2 c = look-absent _ _ (c .before .before .before .find-in .result) (c .before .before .before .before .before .before .before .pre) (c .before .before .before .before .count-of .ensures .0) (c .before .before .before .find-in .ensures) 0 (c .before .enum-told .given .1)
 
 pub look-in-spec : {M : Type 1} → statement M
 look-in-spec =
     tie.close
     (tie.spec
-    find-place-requires
+    count-of-requires
+    find-in-requires
     enum-known-a
-    between-requires
+    part-requires
     enum-told
     slice-aggregate-result
     returns

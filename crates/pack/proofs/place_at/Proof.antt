@@ -1,5 +1,5 @@
 -- `pack::place_at` meets its contract.
-use Rattle.pack.proofs.Ends.{file-is}
+use Rattle.pack.proofs.Ends.{file-is, file-none}
 use borrow.Author.Needs.{needs}
 use Rattle.pack.proofs.place_at.Statement.{statement}
 use Rattle.pack.proofs.place_at.Tie as tie
@@ -7,25 +7,36 @@ use Rattle.pack.proofs.place_at.Tie as tie
 start-at-requires : tie.Need-start-at-requires
 start-at-requires c κs = search needs
 
-add-t4 : tie.Need-add-t4
-add-t4 c = search needs
+add-at : tie.Need-add-at
+add-at c = search needs
 
 small-at-requires : tie.Need-small-at-requires
 small-at-requires c κs = search needs
 
-add-t6 : tie.Need-add-t6
-add-t6 c = search needs
+add-at-2 : tie.Need-add-at-2
+add-at-2 c = search needs
 
 len-at-requires : tie.Need-len-at-requires
 len-at-requires c κs = search needs
 
-add-t8 : tie.Need-add-t8
-add-t8 c = search needs
+add-end : tie.Need-add-end
+add-end c = search needs
 
 returns : tie.Need-returns
-returns c = search file-is
+returns c = file-none _ _ (c .before .before .before .start-at .ensures .0) (c .before .before .small-at .ensures .0) (c .before .len-at .ensures .0) (c .if1 .taken)
+
+returns-2 : tie.Need-returns-2
+returns-2 c = file-is _ _ (c .before .before .before .start-at .ensures .0) (c .before .before .small-at .ensures .0) (c .before .len-at .ensures .0)
 
 pub place-at-spec : {M : Type 1} → statement M
 place-at-spec =
     tie.close
-    (tie.spec start-at-requires add-t4 small-at-requires add-t6 len-at-requires add-t8 returns)
+    (tie.spec
+    start-at-requires
+    add-at
+    small-at-requires
+    add-at-2
+    len-at-requires
+    add-end
+    returns
+    returns-2)

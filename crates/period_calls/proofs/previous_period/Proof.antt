@@ -9,13 +9,13 @@ build-requires : tie.Need-build-requires
 build-requires c κs = search needs
 
 returns : tie.Need-returns
-returns c = not-built _ _ (c .before .before .build .result) _ (c .before .before .build .ensures .0) (c .if1 .taken)
+returns c = not-built _ _ (c .before .before .build .result) _ (c .before .before .build .ensures .means) (c .if1 .taken)
 
 previous-in-requires : tie.Need-previous-in-requires
-previous-in-requires c κs = (c .before .before .before .build .ensures .1) (c .before .if1 .left)
+previous-in-requires c κs = (c .before .before .before .build .ensures .fits) (c .before .if1 .left)
 
 returns-2 : tie.Need-returns-2
-returns-2 c = let u = toZ-ofZ (c .before .before .before .before .before .before .before .fits .sec) in let v = toZ-ofZ (c .before .before .before .before .before .before .before .fits .ns) in is-built _ _ (c .before .before .before .before .build .result) _ (c .before .before .before .before .build .ensures .0) (c .before .before .if1 .left) (rw (u, v) at (c .previous-in .ensures))
+returns-2 c = let u = toZ-ofZ (c .before .before .before .before .before .before .before .fits .sec) in let v = toZ-ofZ (c .before .before .before .before .before .before .before .fits .ns) in is-built _ _ (c .before .before .before .before .build .result) _ (c .before .before .before .before .build .ensures .means) (c .before .before .if1 .left) (rw (u, v) at (c .previous-in .ensures))
 
 pub previous-period-spec : {M : Type 1} → statement M
 previous-period-spec = tie.close (tie.spec build-requires returns previous-in-requires returns-2)

@@ -12,10 +12,10 @@ build-requires : tie.Need-build-requires
 build-requires c κs = search needs
 
 returns : tie.Need-returns
-returns c = not-built _ _ (c .before .before .build .result) (c .before .before .build .ensures .0) (λ s. moveCall back s _ _ _ _) (c .if1 .taken)
+returns c = not-built _ _ (c .before .before .build .result) (c .before .before .build .ensures .means) (λ s. moveCall back s _ _ _ _) (c .if1 .taken)
 
 move-in-requires : tie.Need-move-in-requires
-move-in-requires c κs = (c .before .before .before .build .ensures .1) (c .before .if1 .left)
+move-in-requires c κs = (c .before .before .before .build .ensures .fits) (c .before .if1 .left)
 
 enum-known-sec : tie.Need-enum-known-sec
 enum-known-sec c = search needs
@@ -24,10 +24,10 @@ enum-known-number : tie.Need-enum-known-number
 enum-known-number c = search needs
 
 returns-2 : tie.Need-returns-2
-returns-2 c = when-built _ _ (c .before .before .before .before .before .before .before .build .result) (c .before .before .before .before .before .before .before .build .ensures .0) (λ s. moveCall back s _ _ _ _) (c .before .before .before .before .before .if1 .left) (moved-at (rw (toZ-ofZ (c .before .before .before .before .before .before .before .before .before .before .fits .t-sec), toZ-ofZ (c .before .before .before .before .before .before .before .before .before .before .fits .t-ns), toZ-ofZ (c .before .before .before .before .before .before .before .before .before .before .fits .d-sec), toZ-ofZ (c .before .before .before .before .before .before .before .before .before .before .fits .d-ns)) at (c .before .before .before .move-in .ensures)) (c .before .sec .given .1) _ _ (toZ-ofZ {w = w64} (record { sfits = (c .known-told .given .0 .1) })) (toZ-ofZ {w = w64} (record { sfits = (c .known-told .given .1 .0 .1) })))
+returns-2 c = when-built _ _ (c .before .before .before .before .before .before .before .build .result) (c .before .before .before .before .before .before .before .build .ensures .means) (λ s. moveCall back s _ _ _ _) (c .before .before .before .before .before .if1 .left) (moved-at (rw (toZ-ofZ (c .before .before .before .before .before .before .before .before .before .before .fits .t-sec), toZ-ofZ (c .before .before .before .before .before .before .before .before .before .before .fits .t-ns), toZ-ofZ (c .before .before .before .before .before .before .before .before .before .before .fits .d-sec), toZ-ofZ (c .before .before .before .before .before .before .before .before .before .before .fits .d-ns)) at (c .before .before .before .move-in .ensures)) (c .before .sec .given .1) _ _ (toZ-ofZ {w = w64} (record { sfits = (c .known-told .given .0 .1) })) (toZ-ofZ {w = w64} (record { sfits = (c .known-told .given .1 .0 .1) })))
 
 returns-3 : tie.Need-returns-3
-returns-3 c = when-built _ _ (c .before .before .before .before .before .before .before .build .result) (c .before .before .before .before .before .before .before .build .ensures .0) (λ s. moveCall back s _ _ _ _) (c .before .before .before .before .before .if1 .left) (moved-no (rw (toZ-ofZ (c .before .before .before .before .before .before .before .before .before .before .fits .t-sec), toZ-ofZ (c .before .before .before .before .before .before .before .before .before .before .fits .t-ns), toZ-ofZ (c .before .before .before .before .before .before .before .before .before .before .fits .d-sec), toZ-ofZ (c .before .before .before .before .before .before .before .before .before .before .fits .d-ns)) at (c .before .before .before .move-in .ensures)) (c .before .number .given .1))
+returns-3 c = when-built _ _ (c .before .before .before .before .before .before .before .build .result) (c .before .before .before .before .before .before .before .build .ensures .means) (λ s. moveCall back s _ _ _ _) (c .before .before .before .before .before .if1 .left) (moved-no (rw (toZ-ofZ (c .before .before .before .before .before .before .before .before .before .before .fits .t-sec), toZ-ofZ (c .before .before .before .before .before .before .before .before .before .before .fits .t-ns), toZ-ofZ (c .before .before .before .before .before .before .before .before .before .before .fits .d-sec), toZ-ofZ (c .before .before .before .before .before .before .before .before .before .before .fits .d-ns)) at (c .before .before .before .move-in .ensures)) (c .before .number .given .1))
 
 pub sub-spec : {M : Type 1} → statement M
 sub-spec =
