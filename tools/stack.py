@@ -43,9 +43,9 @@ int64_t stack_sub(const uint8_t *, size_t, const uint8_t *, size_t, int64_t, int
 int64_t stack_next_period(const uint8_t *, size_t, const uint8_t *, size_t, int64_t, int64_t);
 int64_t stack_previous_period(const uint8_t *, size_t, const uint8_t *, size_t, int64_t, int64_t);
 size_t stack_list(const uint8_t *, size_t, const uint8_t *, size_t, int64_t, int64_t, int64_t, int64_t, int64_t *, size_t);
-uint32_t stack_offset_in(const uint8_t *, size_t, int64_t, int64_t);
+int64_t stack_offset_in(const uint8_t *, size_t, int64_t, int64_t);
 int64_t stack_next_change_in(const uint8_t *, size_t, int64_t, int64_t);
-uint64_t stack_resolve_in(const uint8_t *, size_t, uint32_t, uint32_t, uint32_t, uint32_t, uint32_t);
+int64_t stack_resolve_in(const uint8_t *, size_t, int64_t, int64_t, int64_t, int64_t, int64_t);
 
 enum { SIZE = 1 << 22, PAINT = 0xA5, NUMBERS = 1 << 20 };
 static uint8_t stack[SIZE];
@@ -66,7 +66,7 @@ static void call(void) {
     case 6: stack_list(book.p, book.n, pack.p, pack.n, WEDNESDAY, 0, WEDNESDAY + YEAR, 0, numbers, NUMBERS); break;
     case 7: stack_offset_in(file.p, file.n, WEDNESDAY + 40 * YEAR, 0); break;
     case 8: stack_next_change_in(file.p, file.n, WEDNESDAY + 40 * YEAR, 0); break;
-    case 9: stack_resolve_in(file.p, file.n, 12466, 3, 28, 9000, 0); break; /* years are counted from -10400: 2066 */
+    case 9: stack_resolve_in(file.p, file.n, 2066, 3, 28, 9000, 0); break;
     default: break;
     }
 }

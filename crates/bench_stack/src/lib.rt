@@ -1,14 +1,13 @@
 // The public calls for a program that measures how much stack each needs (tools/stack.py). Each answers one number, so that the call is not left out.
-use civil::Date;
 use listing::Listing;
 use period_calls::NextPeriod;
 use period_calls::PreviousPeriod;
 use schedule::AddAnswer;
 use schedule::SubAnswer;
 use schedule::TimeAnswer;
-use zone_calls::ChangeRead;
-use zone_calls::OffsetRead;
-use zone_calls::ResolveRead;
+use zone_calls::ChangeAnswer;
+use zone_calls::OffsetAnswer;
+use zone_calls::ResolveAnswer;
 
 #[no_mangle]
 pub extern "C" fn stack_build(book: &[u8], pack: &[u8]) -> i64 {
@@ -73,38 +72,33 @@ pub extern "C" fn stack_list(
 }
 
 #[no_mangle]
-pub extern "C" fn stack_offset_in(file: &[u8], a: i64, b: i64) -> u32 {
+pub extern "C" fn stack_offset_in(file: &[u8], a: i64, b: i64) -> i64 {
     match zone_calls::offset_in(file, a, b) {
-        OffsetRead::Is(offset) => offset,
-        OffsetRead::Unusable => 1,
-        OffsetRead::OutOfRange => 2,
+        OffsetAnswer::Is(offset) => offset,
+        OffsetAnswer::Refused(number, _) => number as i64,
     }
 }
 
 #[no_mangle]
 pub extern "C" fn stack_next_change_in(file: &[u8], a: i64, b: i64) -> i64 {
     match zone_calls::next_change_in(file, a, b) {
-        ChangeRead::At(sec) => sec,
-        ChangeRead::Never => 0,
-        ChangeRead::Unusable => 1,
-        ChangeRead::OutOfRange => 2,
+        ChangeAnswer::At(sec, _) => sec,
+        ChangeAnswer::Never => 0,
+        ChangeAnswer::Refused(number, _) => number as i64,
     }
 }
 
 #[no_mangle]
 pub extern "C" fn stack_resolve_in(
     file: &[u8],
-    year: u32,
-    month: u32,
-    day: u32,
-    sec: u32,
-    ns: u32,
-) -> u64 {
-    let date = Date { year, month, day };
-    match zone_calls::resolve_in(file, date, sec, ns) {
-        ResolveRead::At(t) => t.sec,
-        ResolveRead::Unusable => 1,
-        ResolveRead::NoDate => 2,
-        ResolveRead::NoTime => 3,
+    year: i64,
+    month: i64,
+    day: i64,
+    sec: i64,
+    ns: i64,
+) -> i64 {
+    match zone_calls::resolve_in(file, year, month, day, sec, ns) {
+        ResolveAnswer::At(sec, _) => sec,
+        ResolveAnswer::Refused(number, _) => number as i64,
     }
 }
