@@ -1,21 +1,18 @@
 // The blocks of work or break rules in a window of at most 14 days, in a block list that is filled from the front, rule by rule and date by date. A block's
 // borders are nanoseconds from the window's start.
 ghost use mathlib.Core.Path.{_≡_};
-ghost use mathlib.Core.List.{map};
 ghost use Prim.Native.Nat.{_+_, _≤_, _<_};
 ghost use lib.Dec.{ltb};
 ghost use lib.ListN.{take};
 ghost use Rattle.model.specs.Basic.{if_then_else_};
 ghost use Rattle.model.specs.Blocks.{clipped};
 ghost use Rattle.model.specs.Walk.{onward};
-ghost use Rattle.model.specs.Working.{blocksOfAll};
 ghost use Rattle.instant.specs.Instant.{nanos};
-ghost use Rattle.block_list.specs.Listed.{listOf};
 ghost use Rattle.rules.specs.Rules.{ruleIs, RuleFits, All};
 ghost use Rattle.dates.specs.Dates as date;
 ghost use Rattle.engine.specs.Windows.{Window};
 ghost use Rattle.window.specs.Filled.{Inside};
-ghost use Rattle.shifts.specs.Shown.{held, IsShifts};
+ghost use Rattle.shifts.specs.Shown.{held, IsShifts, Listed};
 use block_list::Block;
 use block_list::Blocks;
 use engine::Days;
@@ -118,10 +115,10 @@ fn past(w: usize, x: Block) -> usize
     w
 }
 
-// The blocks of the first n rules. A rule shows at most 21 dates of 14 days, so they are at most 336.
+// The blocks of the first n rules, in a list that starts as one block value repeated. A rule shows at most 21 dates of 14 days, so they are at most 336.
 pub fn shift_blocks(rules: [Rule; 16], n: usize, pack: &[u8], lo: Instant, hi: Instant) -> Blocks
     requires { ⌜ (n ≤ 16) × All (RuleFits (now pack)) (take n rules) × Window 14 lo hi ⌝ }
-    ensures { λ r. ⌜ (listOf r ≡ onward (nanos lo) (blocksOfAll (nanos lo) (nanos hi) (map (ruleIs (now (pack .entry))) (take n rules)))) × (r .len ≤ 336) ⌝ }
+    ensures { λ r. ⌜ Listed (now (pack .entry)) rules n lo hi r ⌝ }
 {
     let mut out = block_list::empty();
     let mut w: usize = 0;

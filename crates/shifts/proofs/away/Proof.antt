@@ -1,7 +1,7 @@
 -- `shifts::away` meets its contract. Assumes nothing.
 use native.Mathlib.Omega.{arith}
 use borrow.Author.Tests.{ltb-true, ltb-false}
-use mathlib.Core.Path.{refl, sym, _∙_}
+use mathlib.Core.Path.{sym, _∙_}
 use Rattle.shifts.proofs.Pieces.{away-in, away-out}
 use borrow.Author.Needs.{needs}
 use Rattle.shifts.proofs.away.Statement.{statement}

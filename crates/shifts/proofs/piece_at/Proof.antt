@@ -4,7 +4,7 @@ use Rattle.instant.specs.Instant.{nanos}
 use Rattle.model.specs.Walk.{onward}
 use Rattle.window.proofs.Frames.{shown-inside}
 use native.Mathlib.Omega.{arith}
-use mathlib.Core.Path.{refl, sym, _∙_, ap}
+use mathlib.Core.Path.{refl, _∙_, ap}
 use Rattle.shifts.proofs.Pieces.{piece-plain}
 use borrow.Author.Needs.{needs}
 use Rattle.shifts.proofs.piece_at.Statement.{statement}

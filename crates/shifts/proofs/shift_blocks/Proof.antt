@@ -6,7 +6,7 @@ use Rattle.engine.proofs.Fill.{all-front}
 use Rattle.rules.specs.Rules.{ruleIs, RuleFits}
 use Rattle.instant.specs.Instant.{nanos}
 use native.Mathlib.Omega.{arith}
-use mathlib.Core.Path.{_≡_, refl, sym, _∙_}
+use mathlib.Core.Path.{_≡_, sym, _∙_}
 use Rattle.shifts.proofs.Filling.{Dating, Ruling, datesFrom, dating-starts, dating-room, dating-on, dating-off, dating-done, ruling-starts, ruling-room, ruling-turn, ruling-done}
 use Rattle.shifts.proofs.shift_blocks.Statement.{statement}
 use Rattle.shifts.proofs.shift_blocks.Tie as tie
@@ -45,16 +45,16 @@ shows-requires : tie.Need-shows-requires Inv-loop2 μ-loop2 Inv-loop μ-loop
 shows-requires c κs = search needs
 
 piece-at-requires : tie.Need-piece-at-requires Inv-loop2 μ-loop2 Inv-loop μ-loop
-piece-at-requires c κs = (all-front (RuleFits _) _ _ _ _ (c .before .before .before .before .before .before .before .loop-test .taken) (c .before .before .before .before .before .before .before .before .loop .inv .fits) (c .before .before .before .before .before .before .before .before .before .before .before .pre .1), (c .before .before .before .before .before .before .before .before .before .before .before .pre .2), (c .before .before .before .before .before .shifts-of .ensures), (c .before .before .before .loop2 .inv .1), (c .before .before .loop2-test .taken))
+piece-at-requires c κs = (all-front (RuleFits _) _ _ _ _ (c .before .before .before .before .before .before .before .loop-test .taken) (c .before .before .before .before .before .before .before .before .loop .inv .fits) (c .before .before .before .before .before .before .before .before .before .before .before .pre .1), (c .before .before .before .before .before .before .before .before .before .before .before .pre .2), (c .before .before .before .before .before .shifts-of .ensures), (c .before .before .before .loop2 .inv .1), (omega (arith, c .before .before .loop2-test .taken)))
 
 mul-y : tie.Need-mul-y Inv-loop2 μ-loop2 Inv-loop μ-loop
-mul-y c = let q : (c .before .before .before .before .loop2 .w) < 672 = dating-room _ _ _ _ _ _ _ _ _ (c .before .before .before .before .loop2 .inv .0) (c .before .before .before .loop2-test .taken) (ruling-room _ _ _ _ _ _ _ _ (c .before .before .before .before .before .before .before .before .before .loop .inv) _ _ (c .before .before .before .before .before .before .shifts-of .ensures .dates .few) (c .before .before .before .before .before .before .before .before .before .before .before .before .pre .0) (c .before .before .before .before .before .before .before .before .loop-test .taken)) in omega arith
+mul-y c = let q : (c .before .before .before .before .loop2 .w) < 672 = dating-room _ _ _ _ _ _ _ _ _ (c .before .before .before .before .loop2 .inv .0) (omega (arith, c .before .before .before .loop2-test .taken)) (ruling-room _ _ _ _ _ _ _ _ (c .before .before .before .before .before .before .before .before .before .loop .inv) _ _ (c .before .before .before .before .before .before .shifts-of .ensures .dates .few) (c .before .before .before .before .before .before .before .before .before .before .before .before .pre .0) (c .before .before .before .before .before .before .before .before .loop-test .taken)) in omega arith
 
 element-set-from-y : tie.Need-element-set-from-y Inv-loop2 μ-loop2 Inv-loop μ-loop
-element-set-from-y c = dating-room _ _ _ _ _ _ _ _ _ (c .before .before .before .before .loop2 .inv .0) (c .before .before .before .loop2-test .taken) (ruling-room _ _ _ _ _ _ _ _ (c .before .before .before .before .before .before .before .before .before .loop .inv) _ _ (c .before .before .before .before .before .before .shifts-of .ensures .dates .few) (c .before .before .before .before .before .before .before .before .before .before .before .before .pre .0) (c .before .before .before .before .before .before .before .before .loop-test .taken))
+element-set-from-y c = dating-room _ _ _ _ _ _ _ _ _ (c .before .before .before .before .loop2 .inv .0) (omega (arith, c .before .before .before .loop2-test .taken)) (ruling-room _ _ _ _ _ _ _ _ (c .before .before .before .before .before .before .before .before .before .loop .inv) _ _ (c .before .before .before .before .before .before .shifts-of .ensures .dates .few) (c .before .before .before .before .before .before .before .before .before .before .before .before .pre .0) (c .before .before .before .before .before .before .before .before .loop-test .taken))
 
 past-requires : tie.Need-past-requires Inv-loop2 μ-loop2 Inv-loop μ-loop
-past-requires c κs = dating-room _ _ _ _ _ _ _ _ _ (c .before .before .before .before .loop2 .inv .0) (c .before .before .before .loop2-test .taken) (ruling-room _ _ _ _ _ _ _ _ (c .before .before .before .before .before .before .before .before .before .loop .inv) _ _ (c .before .before .before .before .before .before .shifts-of .ensures .dates .few) (c .before .before .before .before .before .before .before .before .before .before .before .before .pre .0) (c .before .before .before .before .before .before .before .before .loop-test .taken))
+past-requires c κs = dating-room _ _ _ _ _ _ _ _ _ (c .before .before .before .before .loop2 .inv .0) (omega (arith, c .before .before .before .loop2-test .taken)) (ruling-room _ _ _ _ _ _ _ _ (c .before .before .before .before .before .before .before .before .before .loop .inv) _ _ (c .before .before .before .before .before .before .shifts-of .ensures .dates .few) (c .before .before .before .before .before .before .before .before .before .before .before .before .pre .0) (c .before .before .before .before .before .before .before .before .loop-test .taken))
 
 add-d : tie.Need-add-d Inv-loop2 μ-loop2 Inv-loop μ-loop
 add-d c = omega (arith, (c .before .before .before .before .before .before .before .shifts-of .ensures .dates .high), (c .before .before .before .before .loop2-test .taken))
@@ -63,7 +63,7 @@ loop2-less : tie.Need-loop2-less Inv-loop2 μ-loop2 Inv-loop μ-loop
 loop2-less c = omega (arith, (c .before .before .before .before .loop2-test .taken))
 
 loop2-again : tie.Need-loop2-again Inv-loop2 μ-loop2 Inv-loop μ-loop
-loop2-again c = (dating-on _ _ _ _ _ _ _ _ _ (c .before .before .before .before .before .loop2 .inv .0) (ruling-room _ _ _ _ _ _ _ _ (c .before .before .before .before .before .before .before .before .before .before .loop .inv) _ _ (c .before .before .before .before .before .before .before .shifts-of .ensures .dates .few) (c .before .before .before .before .before .before .before .before .before .before .before .before .before .pre .0) (c .before .before .before .before .before .before .before .before .before .loop-test .taken)) (c .before .before .before .before .loop2-test .taken) (sym (c .before .before .before .shows .ensures) ∙ (c .before .before .if1 .taken)) _ (c .before .piece-at .ensures) _ (c .past .ensures), omega (arith, (c .before .before .before .before .before .loop2 .inv .1)))
+loop2-again c = (dating-on _ _ _ _ _ _ _ _ _ (c .before .before .before .before .before .loop2 .inv .0) (ruling-room _ _ _ _ _ _ _ _ (c .before .before .before .before .before .before .before .before .before .before .loop .inv) _ _ (c .before .before .before .before .before .before .before .shifts-of .ensures .dates .few) (c .before .before .before .before .before .before .before .before .before .before .before .before .before .pre .0) (c .before .before .before .before .before .before .before .before .before .loop-test .taken)) (omega (arith, c .before .before .before .before .loop2-test .taken)) (sym (c .before .before .before .shows .ensures) ∙ (c .before .before .if1 .taken)) _ (c .before .piece-at .ensures) _ (c .past .ensures), omega (arith, (c .before .before .before .before .before .loop2 .inv .1)))
 
 add-d-2 : tie.Need-add-d-2 Inv-loop2 μ-loop2 Inv-loop μ-loop
 add-d-2 c = omega (arith, (c .before .before .before .before .before .shifts-of .ensures .dates .high), (c .before .before .loop2-test .taken))
@@ -72,7 +72,7 @@ loop2-less-2 : tie.Need-loop2-less-2 Inv-loop2 μ-loop2 Inv-loop μ-loop
 loop2-less-2 c = omega (arith, (c .before .before .loop2-test .taken))
 
 loop2-again-2 : tie.Need-loop2-again-2 Inv-loop2 μ-loop2 Inv-loop μ-loop
-loop2-again-2 c = (dating-off _ _ _ _ _ _ _ _ _ (c .before .before .before .loop2 .inv .0) (c .before .before .loop2-test .taken) (sym (c .before .shows .ensures) ∙ (c .if1 .left)), omega (arith, (c .before .before .before .loop2 .inv .1)))
+loop2-again-2 c = (dating-off _ _ _ _ _ _ _ _ _ (c .before .before .before .loop2 .inv .0) (omega (arith, c .before .before .loop2-test .taken)) (sym (c .before .shows .ensures) ∙ (c .if1 .left)), omega (arith, (c .before .before .before .loop2 .inv .1)))
 
 add-i : tie.Need-add-i Inv-loop2 μ-loop2 Inv-loop μ-loop
 add-i c = omega (arith, (c .before .before .before .before .before .before .before .before .before .pre .0), (c .before .before .before .before .before .loop-test .taken))
@@ -84,7 +84,7 @@ loop-again : tie.Need-loop-again Inv-loop2 μ-loop2 Inv-loop μ-loop
 loop-again c = let q = dating-done _ _ _ _ (c .before .before .before .shifts-of .ensures .dates) _ _ _ _ _ (c .before .loop2 .inv .0) (c .loop2-test .left) in ruling-turn _ _ _ _ _ _ _ _ (c .before .before .before .before .before .before .loop .inv) (c .before .before .before .before .before .loop-test .taken) _ _ _ (c .before .loop2 .inv .0 .long) (q .0) (q .1)
 
 returns : tie.Need-returns Inv-loop2 μ-loop2 Inv-loop μ-loop
-returns c = ruling-done _ _ _ _ _ _ _ _ (c .before .loop .inv) (c .before .before .before .before .pre .0) (c .loop-test .left)
+returns c = let q = ruling-done _ _ _ _ _ _ _ _ (c .before .loop .inv) (c .before .before .before .before .pre .0) (c .loop-test .left) in record { same = q .0; few = q .1 }
 
 pub shift-blocks-spec : {M : Type 1} → statement M
 shift-blocks-spec =

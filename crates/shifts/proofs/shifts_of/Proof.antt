@@ -1,6 +1,6 @@
 -- `shifts::shifts_of` meets its contract. Assumes nothing.
 use Rattle.dates.specs.Dates.{tillTime}
-use mathlib.Core.Path.{refl, sym, _∙_, ap₂}
+use mathlib.Core.Path.{_∙_, ap₂}
 use Rattle.window.proofs.Frames.{offset-small}
 use borrow.Author.Needs.{needs}
 use Rattle.shifts.proofs.shifts_of.Statement.{statement}
