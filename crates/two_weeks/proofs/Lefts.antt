@@ -1,233 +1,250 @@
--- What is left of blocks, found piece by piece: what a turn of each loop keeps. Assumes nothing.
+-- What is left of blocks, found block by block: what a turn of the loop keeps. Assumes nothing.
 use mathlib.Core.Path.{_≡_, refl, sym, _∙_, ap, ap₂}
-use mathlib.Core.Bool.{Bool, true, false, not, _||_}
-use mathlib.Core.List.{List, [], _∷_, _++_, map, append-nil, append-assoc}
-use mathlib.Core.Logic.{_⊎_, inl, inr, ⊎-elim, _↔_}
-use Prim.Native.Nat.{ℕ, zero, suc, _+_, _*_, _-_, _≤_, _<_}
+use mathlib.Core.Bool.{Bool, true, false, _||_}
+use mathlib.Core.List.{List, [], _∷_, _++_, map, append-nil}
+use Prim.Native.Nat.{ℕ, zero, suc, _+_, _≤_, _<_}
 use native.Mathlib.Omega.{arith}
-use borrow.Author.Tests.{ltb-true, lt-ltb, le-ltb, le-leb, lt-leb}
+use borrow.Author.Tests.{lt-ltb, le-ltb, le-leb, lt-leb, leb-false}
 use lib.Dec.{ltb, leb}
-use lib.ListN.{length, getD, take}
-use Rattle.model.specs.Basic.{if_then_else_, joined}
-use Rattle.model.specs.Blocks.{Block, block, put, union, cut, subtract}
-use Rattle.model.specs.Build.{isNone, worksIn2001}
+use lib.ListN.{length, getD, take, drop}
+use Rattle.model.specs.Basic.{joined}
+use Rattle.model.specs.Blocks.{Block as Block′, sorted, merged, union, cut, subtract}
+use Rattle.model.specs.Build.{worksIn2001}
 use Rattle.model.specs.Walk.{onward}
-use Rattle.model.specs.Working.{Rule, Schedule, blocksOf, blocksOfAll, working}
-use Rattle.laws_base.specs.Test.{by-test, clash}
-use Rattle.laws_blocks.specs.Members.{In, NonEmpty, Normal, append-in, append-nonempty, chain-nonempty, union-in, union-normal, subtract-in}
-use Rattle.engine.proofs.Fill.{restOf, rest-more, rest-end}
-use Rattle.pairs.specs.Pairs.{part, pairs}
-use Rattle.pairs.proofs.Parts.{blockAt, from-first, from-none}
-use Rattle.window.specs.Filled.{Filled}
-use Rattle.window.proofs.Laws.{Apart, apart-onward, onward-append, union-onward, subtract-onward}
-use Rattle.week.proofs.Whole.{rules-apart, union-apart, filled-first}
+use Rattle.model.specs.Working.{Schedule, blocksOfAll, working}
+use Rattle.laws_base.specs.Test.{by-test}
+use Rattle.laws_blocks.specs.Members.{NonEmpty, Chain, Normal, From, chain-weaken, chain-sorted, chain-nonempty, union-normal}
+use Rattle.instant.specs.Instant.{nanos}
+use Rattle.instant.specs.declared.Instant.{Instant}
+use Rattle.block_list.specs.declared.Block.{Block}
+use Rattle.block_list.specs.declared.Blocks.{Blocks}
+use Rattle.block_list.specs.Listed.{blockOf, front, listOf, nil}
+use Rattle.blocks.proofs.Front.{rest-cons, rest-none}
+use Rattle.rules.specs.Rules.{ruleIs}
+use Rattle.rules.specs.declared.Rule.{Rule as Rule′}
+use Rattle.shifts.specs.Shown.{Listed}
+use Rattle.window.proofs.Laws.{Apart, apart-onward, union-onward, subtract-onward}
+use Rattle.week.proofs.Whole.{rules-apart, union-apart}
 use Rattle.two_weeks.specs.Left.{some, leaves}
 
 -- ---- one block
 
-module _ (s e : ℕ) (g : Block) (l : List Block) where
-  passed : g .end ≤ s → some (cut s e (g ∷ l)) ≡ some (cut s e l)
-  unfolding cut
-  passed h = rw (le-leb (g .end) s h)
+-- nothing is left of nothing
+cut-none : (s e : ℕ) (off : List Block′) → e ≤ s → cut s e off ≡ []
+unfolding cut
+cut-none s e [] h = rw (le-ltb s e h)
+cut-none s e (g ∷ off) h =
+    by-test (leb (g .end) s)
+    (λ p. rw p (cut-none s e off h))
+    (λ p. by-test (leb e (g .start))
+    (λ q. rw (p, q, le-ltb s e h))
+    (λ q.
+    let a = leb-false (g .end) s p in let b = leb-false e (g .start) q in
+    rw (p, q, le-ltb s (g .start) (omega arith)) (cut-none (g .end) e off (omega arith))))
 
-  whole : s < g .end → e ≤ g .start → some (cut s e (g ∷ l)) ≡ ltb s e
+-- blocks from the end of g on are left by g as they are
+subtract-past : (g : Block′) (off l : List Block′) → From (g .end) l → subtract l (g ∷ off) ≡ subtract l off
+unfolding subtract cut
+subtract-past g off [] f = refl
+subtract-past g off (b ∷ l) f = rw (le-leb (g .end) (b .start) (f .0)) (ap (λ (x : List Block′). cut (b .start) (b .end) off ++ x) (subtract-past g off l (f .1)))
+
+module _ (b : Block′) (n : b .start < b .end) (g : Block′) (off : List Block′) where
+  -- g begins behind the block's start
+  in-front : g .start < g .end → b .start < g .start → some (cut (b .start) (b .end) (g ∷ off)) ≡ true
   unfolding cut some
-  whole h k = rw (lt-leb (g .end) s h, le-leb e (g .start) k) (by-test (ltb s e) (λ t. rw t) (λ t. rw t))
+  in-front h k =
+      by-test (leb (b .end) (g .start))
+      (λ q. rw (lt-leb (g .end) (b .start) (omega arith), q, lt-ltb (b .start) (b .end) n))
+      (λ q. rw (lt-leb (g .end) (b .start) (omega arith), q, lt-ltb (b .start) (g .start) k))
 
-  front : s < g .end → g .start < e → s < g .start → some (cut s e (g ∷ l)) ≡ true
-  unfolding cut some
-  front h k f = rw (lt-leb (g .end) s h, lt-leb e (g .start) k, lt-ltb s (g .start) f)
+  module _ (h : b .start < g .end) (k : g .start ≤ b .start) where
+    behind : cut (b .start) (b .end) (g ∷ off) ≡ cut (g .end) (b .end) off
+    unfolding cut
+    behind = rw (lt-leb (g .end) (b .start) h, lt-leb (b .end) (g .start) (omega arith), le-ltb (b .start) (g .start) k)
 
-  behind : s < g .end → g .start < e → g .start ≤ s → some (cut s e (g ∷ l)) ≡ some (cut (g .end) e l)
-  unfolding cut
-  behind h k f = rw (lt-leb (g .end) s h, lt-leb e (g .start) k, le-ltb s (g .start) f)
+    -- g ends before the block's end, and the next one begins later
+    at-end : g .end < b .end → Chain (suc (g .end)) off → some (cut (b .start) (b .end) (g ∷ off)) ≡ true
+    unfolding cut some
+    at-end e c = ap some behind ∙ go off c
+      where
+        go : (l : List Block′) → Chain (suc (g .end)) l → some (cut (g .end) (b .end) l) ≡ true
+        go [] c = rw (lt-ltb (g .end) (b .end) e)
+        go (x ∷ l) c =
+            let p = c .0 in let q = c .1 in
+            by-test (leb (b .end) (x .start))
+            (λ t. rw (lt-leb (x .end) (g .end) (omega arith), t, lt-ltb (g .end) (b .end) e))
+            (λ t. rw (lt-leb (x .end) (g .end) (omega arith), t, lt-ltb (g .end) (x .start) (omega arith)))
 
--- of [s, e), what is behind `from` and the gaps from k on are to come
-pub record Leaving (off : List ℕ) (m s e from k : ℕ) : Type 0 where
-  pub same : some (cut from e (part k (m - k) off)) ≡ some (cut s e (pairs m off))
-  pub upto : k ≤ m
+    -- g covers the block
+    covered : b .end ≤ g .end → cut (b .start) (b .end) (g ∷ off) ≡ []
+    covered e = behind ∙ cut-none (g .end) (b .end) off e
 
-pub leaving-starts : (off : List ℕ) (m s e : ℕ) → Leaving off m s e s 0
-leaving-starts off m s e = let z : m - 0 ≡ m = omega arith in record { same = rw z; upto = omega arith }
+-- ---- the lists
 
-module _ (off : List ℕ) (m s e from k : ℕ) (c : Leaving off m s e from k) where
-  pub leaving-done : m ≤ k → ltb from e ≡ some (cut s e (pairs m off))
-  unfolding cut some
-  leaving-done h =
-      let u = c .upto in let z : k ≡ m = omega arith in
-      let g : part k (m - k) off ≡ [] = ap (λ (x : ℕ). part x (m - x) off) z ∙ from-none m off in
-      let q : some (cut from e []) ≡ ltb from e = by-test (ltb from e) (λ t. rw t) (λ t. rw t) in
-      sym (ap (λ (l : List Block). some (cut from e l)) g ∙ q) ∙ c .same
-
-  module _ (h : k < m) where
-    rest : List Block
-    rest = part (k + 1) (m - (k + 1)) off
-
-    first : part k (m - k) off ≡ blockAt off k ∷ part (k + 1) (m - (k + 1)) off
-    first = from-first k m off h
-
-    now-first : some (cut from e (blockAt off k ∷ part (k + 1) (m - (k + 1)) off)) ≡ some (cut s e (pairs m off))
-    now-first = ap (λ (l : List Block). some (cut from e l)) (sym first) ∙ c .same
-
-    pub leaving-past : getD off (2 * k + 1) 0 ≤ from → Leaving off m s e from (k + 1)
-    leaving-past p = record { same = sym (passed from e (blockAt off k) (part (k + 1) (m - (k + 1)) off) p) ∙ now-first; upto = omega arith }
-
-    module _ (p : from < getD off (2 * k + 1) 0) where
-      pub leaving-whole : e ≤ getD off (2 * k) 0 → ltb from e ≡ some (cut s e (pairs m off))
-      leaving-whole q = sym (whole from e (blockAt off k) (part (k + 1) (m - (k + 1)) off) p q) ∙ now-first
-
-      module _ (q : getD off (2 * k) 0 < e) where
-        pub leaving-front : from < getD off (2 * k) 0 → true ≡ some (cut s e (pairs m off))
-        leaving-front r = sym (front from e (blockAt off k) (part (k + 1) (m - (k + 1)) off) p q r) ∙ now-first
-
-        pub leaving-behind : getD off (2 * k) 0 ≤ from → Leaving off m s e (getD off (2 * k + 1) 0) (k + 1)
-        leaving-behind r = record { same = sym (behind from e (blockAt off k) (part (k + 1) (m - (k + 1)) off) p q r) ∙ now-first; upto = omega arith }
-
--- ---- several blocks
-
-some-append : (a b : List Block) → some (a ++ b) ≡ (some a || some b)
+some-append : (a b : List Block′) → some (a ++ b) ≡ (some a || some b)
 unfolding some
 some-append [] b = refl
 some-append (x ∷ a) b = refl
 
-subtract-append : (a b off : List Block) → subtract (a ++ b) off ≡ subtract a off ++ subtract b off
-unfolding subtract
-subtract-append [] b off = refl
-subtract-append (x ∷ a) b off = ap (λ (t : List Block). cut (x .start) (x .end) off ++ t) (subtract-append a b off) ∙ sym (append-assoc (cut (x .start) (x .end) off) (subtract a off) (subtract b off))
+left-first : (b : Block′) (l off : List Block′) → some (cut (b .start) (b .end) off) ≡ true → leaves (b ∷ l) off ≡ true
+unfolding leaves subtract
+left-first b l off h = some-append (cut (b .start) (b .end) off) (subtract l off) ∙ rw h
 
-leaves-append : (a b off : List Block) → leaves (a ++ b) off ≡ (leaves a off || leaves b off)
-unfolding leaves
-leaves-append a b off = ap some (subtract-append a b off) ∙ some-append (subtract a off) (subtract b off)
+gone-first : (b : Block′) (l off : List Block′) → cut (b .start) (b .end) off ≡ [] → leaves (b ∷ l) off ≡ leaves l off
+unfolding leaves subtract
+gone-first b l off h = rw h
 
--- the blocks from i on are to come
-pub record Several (on : List ℕ) (n : ℕ) (off : List Block) (i : ℕ) : Type 0 where
-  pub same : leaves (part i (n - i) on) off ≡ leaves (pairs n on) off
+-- without breaks
+leaves-all : (l : List Block′) → NonEmpty l → leaves l [] ≡ some l
+unfolding leaves subtract cut some
+leaves-all [] n = refl
+leaves-all (b ∷ l) n = rw (lt-ltb (b .start) (b .end) (n .0))
+
+normal-drop : (m i : ℕ) (l : List Block′) → Chain m l → Normal (drop i l)
+normal-drop m zero l c = chain-weaken 0 m l (omega arith) c
+normal-drop m (suc i) [] c = tt
+normal-drop m (suc i) (b ∷ l) c = normal-drop (suc (b .end)) i l (c .2)
+
+-- the blocks from i on are to come, and those of off in front of j take nothing of them
+pub record Passing (on : List Block) (n : ℕ) (off : List Block) (m i j : ℕ) : Type 0 where
+  pub same : leaves (drop i (front n on)) (drop j (front m off)) ≡ leaves (front n on) (front m off)
   pub upto : i ≤ n
+  pub past : j ≤ m
+  pub on-fits : n ≤ length on
+  pub off-fits : m ≤ length off
 
-pub several-starts : (on : List ℕ) (n : ℕ) (off : List Block) → Several on n off 0
-several-starts on n off = let z : n - 0 ≡ n = omega arith in record { same = rw z; upto = omega arith }
+pub passing-starts : (on : List Block) (n : ℕ) (off : List Block) (m : ℕ) → n ≤ length on → m ≤ length off → Passing on n off m 0 0
+passing-starts on n off m a b = record { same = refl; upto = omega arith; past = omega arith; on-fits = a; off-fits = b }
 
-module _ (on : List ℕ) (n : ℕ) (off : List Block) (i : ℕ) (c : Several on n off i) where
-  pub several-done : n ≤ i → false ≡ leaves (pairs n on) off
+module _ (on : List Block) (n : ℕ) (off : List Block) (m i j : ℕ) (c : Passing on n off m i j) where
+  pub passing-done : n ≤ i → false ≡ leaves (front n on) (front m off)
   unfolding leaves subtract some
-  several-done h =
+  passing-done h =
       let u = c .upto in let z : i ≡ n = omega arith in
-      let g : part i (n - i) on ≡ [] = ap (λ (x : ℕ). part x (n - x) on) z ∙ from-none n on in
-      sym (ap (λ (l : List Block). leaves l off) g) ∙ c .same
+      sym (ap (λ (l : List Block′). leaves l (drop j (front m off))) (ap (λ (k : ℕ). drop k (front n on)) z ∙ rest-none blockOf n on (c .on-fits))) ∙ c .same
 
-  module _ (h : i < n) where
-    split : leaves (part i (n - i) on) off ≡ (some (cut (getD on (2 * i) 0) (getD on (2 * i + 1) 0) off) || leaves (part (i + 1) (n - (i + 1)) on) off)
-    unfolding leaves subtract
-    split = ap (λ (l : List Block). leaves l off) (from-first i n on h)
-        ∙ some-append (cut (getD on (2 * i) 0) (getD on (2 * i + 1) 0) off) (subtract (part (i + 1) (n - (i + 1)) on) off)
+  module _ (h : i < n) (a : Normal (front n on)) where
+    -- the block at i, and those behind it
+    x : Block′
+    x = blockOf (getD on i nil)
 
-    pub several-found : (r : Bool) → r ≡ some (cut (getD on (2 * i) 0) (getD on (2 * i + 1) 0) off) → r ≡ true → true ≡ leaves (pairs n on) off
-    several-found r p t = sym (rw (sym p ∙ t) at split) ∙ c .same
+    xs : List Block′
+    xs = drop (i + 1) (front n on)
 
-    pub several-on : (r : Bool) → r ≡ some (cut (getD on (2 * i) 0) (getD on (2 * i + 1) 0) off) → r ≡ false → Several on n off (i + 1)
-    several-on r p t = record { same = sym (rw (sym p ∙ t) at split) ∙ c .same; upto = omega arith }
+    first : drop i (front n on) ≡ x ∷ xs
+    unfolding x xs
+    first = rest-cons blockOf n on i nil h (c .on-fits)
 
--- ---- by instants
+    chain : Normal (x ∷ xs)
+    chain = rw first at (normal-drop 0 i (front n on) a)
 
-put-nonempty : (s e : ℕ) (l : List Block) → NonEmpty l → NonEmpty (put s e l)
-put-nonempty s e l n = by-test (ltb s e) (λ t. rw t (ltb-true s e t, n)) (λ t. rw t n)
+    -- nothing of off is to come
+    pub passing-free : m ≤ j → true ≡ leaves (front n on) (front m off)
+    unfolding cut some
+    passing-free k =
+        let u = c .past in let z : j ≡ m = omega arith in
+        let e : drop j (front m off) ≡ [] = ap (λ (q : ℕ). drop q (front m off)) z ∙ rest-none blockOf m off (c .off-fits) in
+        sym (left-first x xs [] (rw (lt-ltb (x .start) (x .end) (chain .1)))) ∙ sym (ap₂ leaves first e) ∙ c .same
 
-cut-nonempty : (s e : ℕ) (off : List Block) → NonEmpty (cut s e off)
-unfolding cut
-cut-nonempty s e [] = put-nonempty s e [] tt
-cut-nonempty s e (g ∷ off) =
-    by-test (leb (g .end) s)
-    (λ p. rw p (cut-nonempty s e off))
-    (λ p. by-test (leb e (g .start))
-    (λ q. rw (p, q) (put-nonempty s e [] tt))
-    (λ q. rw (p, q) (put-nonempty s (g .start) (cut (g .end) e off) (cut-nonempty (g .end) e off))))
+    module _ (k : j < m) (b : Normal (front m off)) where
+      y : Block′
+      y = blockOf (getD off j nil)
 
-subtract-nonempty : (on off : List Block) → NonEmpty (subtract on off)
-unfolding subtract
-subtract-nonempty [] off = tt
-subtract-nonempty (b ∷ on) off = append-nonempty (cut (b .start) (b .end) off) (subtract on off) (cut-nonempty (b .start) (b .end) off) (subtract-nonempty on off)
+      ys : List Block′
+      ys = drop (j + 1) (front m off)
 
-some-in : (t : ℕ) (l : List Block) → In t l → some l ≡ true
+      first-off : drop j (front m off) ≡ y ∷ ys
+      unfolding y ys
+      first-off = rest-cons blockOf m off j nil k (c .off-fits)
+
+      chain-off : Normal (y ∷ ys)
+      chain-off = rw first-off at (normal-drop 0 j (front m off) b)
+
+      now-first : leaves (x ∷ xs) (y ∷ ys) ≡ leaves (front n on) (front m off)
+      now-first = sym (ap₂ leaves first first-off) ∙ c .same
+
+      pub passing-past : getD off j nil .end ≤ getD on i nil .start → Passing on n off m i (j + 1)
+      unfolding x xs y ys leaves
+      passing-past p =
+          let q : Chain (y .end) (x ∷ xs) = (p, chain .1, chain .2) in
+          record {
+            same = ap (λ (l : List Block′). leaves l ys) first ∙ sym (ap some (subtract-past y ys (x ∷ xs) (chain-sorted (y .end) (x ∷ xs) q .1))) ∙ now-first;
+            upto = omega arith;
+            past = omega arith;
+            on-fits = c .on-fits;
+            off-fits = c .off-fits;
+          }
+
+      module _ (p : getD on i nil .start < getD off j nil .end) where
+        pub passing-front : getD on i nil .start < getD off j nil .start → true ≡ leaves (front n on) (front m off)
+        unfolding x xs y ys
+        passing-front q = sym (left-first x xs (y ∷ ys) (in-front x (chain .1) y ys (chain-off .1) q)) ∙ now-first
+
+        module _ (q : getD off j nil .start ≤ getD on i nil .start) where
+          pub passing-end : getD off j nil .end < getD on i nil .end → true ≡ leaves (front n on) (front m off)
+          unfolding x xs y ys
+          passing-end r = sym (left-first x xs (y ∷ ys) (at-end x (chain .1) y ys p q r (chain-off .2))) ∙ now-first
+
+          pub passing-gone : getD on i nil .end ≤ getD off j nil .end → Passing on n off m (i + 1) j
+          unfolding x xs y ys
+          passing-gone r = record {
+            same = ap (λ (l : List Block′). leaves xs l) first-off ∙ sym (gone-first x xs (y ∷ ys) (covered x (chain .1) y ys p q r)) ∙ now-first;
+            upto = omega arith;
+            past = omega arith;
+            on-fits = c .on-fits;
+            off-fits = c .off-fits;
+          }
+
+-- ---- the whole
+
+-- a count says whether there is a block
+pub counted : (n : ℕ) (l : List Block) → n ≤ length l → ltb 0 n ≡ some (front n l)
 unfolding some
-some-in t [] i = absurd i
-some-in t (b ∷ l) i = refl
+counted zero l h = refl
+counted (suc n) [] h = absurd (omega arith)
+counted (suc n) (b ∷ l) h = lt-ltb 0 (suc n) (omega arith)
 
--- lists with the same instants hold something alike
-some-same : (l k : List Block) → NonEmpty l → NonEmpty k → ((t : ℕ) → In t l ↔ In t k) → some l ≡ some k
-unfolding some
-some-same [] [] n o h = refl
-some-same [] (b ∷ k) n o h = absurd (h (b .start) .1 (inl (omega arith, o .0)))
-some-same (b ∷ l) k n o h = sym (some-in (b .start) k (h (b .start) .0 (inl (omega arith, n .0))))
-
--- blocks made one leave the same
-leaves-union : (a off : List Block) → Normal off → leaves (union a) off ≡ leaves a off
-unfolding leaves
-leaves-union a off c =
-    some-same (subtract (union a) off) (subtract a off) (subtract-nonempty (union a) off) (subtract-nonempty a off)
-    (λ t. let u = union-in t a in let p = subtract-in t (union a) off c in let q = subtract-in t a off c in (
-      λ i. let x = p .0 i in q .1 (u .0 (x .0), x .1),
-      λ i. let x = q .0 i in p .1 (u .1 (x .0), x .1),
-    ))
-
--- as distances
-some-onward : (t : ℕ) (l : List Block) → some (onward t l) ≡ some l
+some-onward : (t : ℕ) (l : List Block′) → some (onward t l) ≡ some l
 unfolding some onward
 some-onward t [] = refl
 some-onward t (b ∷ l) = refl
 
-leaves-onward : (t : ℕ) (a off : List Block) → Apart t a → Apart t off → leaves (onward t a) (onward t off) ≡ leaves a off
+leaves-onward : (t : ℕ) (a off : List Block′) → Apart t a → Apart t off → leaves (onward t a) (onward t off) ≡ leaves a off
 unfolding leaves
 leaves-onward t a off p q = ap some (subtract-onward t a off (p .full) (p .from) (q .full) (q .from)) ∙ some-onward t (subtract a off)
 
--- ---- the functions
+-- 14 days from t on
+abbrev end : ℕ → ℕ
+end t = t + 1209600000000000
 
--- of a rule's blocks made one
-pub rule-leaves : (t : ℕ) (l₀ : List ℕ) (b : List Block) (k : ℕ) (l : List ℕ) (n : ℕ) (off : List Block) (r : Bool) → Filled t l₀ 0 b k l n → Normal off → r ≡ leaves (pairs n l) off
-    → r ≡ leaves (onward t b) off
-unfolding part
-rule-leaves t l₀ b k l n off r f c e = e ∙ ap (λ (x : List Block). leaves x off) (f .same) ∙ leaves-union (onward t b) off c
+-- the union of a filled list
+module _ (p : List ℕ) (rules : List Rule′) (n : ℕ) (lo hi : Instant) (b : Blocks) (f : Listed p rules n lo hi b) (l : List Block′) (e : l ≡ union (listOf b)) where
+  pub union-is : l ≡ union (onward (nanos lo) (blocksOfAll (nanos lo) (nanos hi) (map (ruleIs p) (take n rules))))
+  union-is = e ∙ ap union (f .same)
 
--- the rules from i on are to come
-module _ {A : Type 0} (t : ℕ) (g : A → List Block) (k : ℕ) (items : List A) (off : List Block) where
-  pub record Rules (i : ℕ) : Type 0 where
-    pub same : leaves (onward t (restOf g k items i)) off ≡ leaves (onward t (restOf g k items 0)) off
-    pub upto : i ≤ k
-    pub fits : k ≤ length items
+  pub union-sorted : Normal l
+  union-sorted =
+      let t : ℕ = nanos lo in let o : List Block′ = blocksOfAll t (nanos hi) (map (ruleIs p) (take n rules)) in
+      rw union-is (union-normal (onward t o) (apart-onward t o (rules-apart t (nanos hi) (map (ruleIs p) (take n rules)))))
 
-  pub rules-start : k ≤ length items → Rules 0
-  rules-start h = record { same = refl; upto = omega arith; fits = h }
+module _ (s : Schedule) (t : ℕ) (z : t ≡ 391337827200000000000) (on : List Block′) (e : on ≡ union (onward t (blocksOfAll t (end t) (s .work)))) where
+  module _ (off : List Block′) (f : off ≡ union (onward t (blocksOfAll t (end t) (s .breaks)))) where
+    pub works-left : (r : Bool) → r ≡ leaves on off → r ≡ worksIn2001 s
+    unfolding worksIn2001 working leaves some
+    works-left r i =
+        let O : List Block′ = blocksOfAll t (end t) (s .breaks) in
+        let W : List Block′ = blocksOfAll t (end t) (s .work) in
+        let a : Apart t W = rules-apart t (end t) (s .work) in
+        let b : Apart t O = rules-apart t (end t) (s .breaks) in
+        let g : O ≡ blocksOfAll t (end t) (s .breaks ++ []) = ap (blocksOfAll t (end t)) (sym (append-nil (s .breaks))) in
+        i ∙ ap₂ leaves (e ∙ union-onward t W (a .full) (a .from)) (f ∙ union-onward t O (b .full) (b .from))
+        ∙ leaves-onward t (union W) (union O) (union-apart t W a) (union-apart t O b)
+        ∙ ap (λ (x : List Block′). leaves (union W) (union x)) g ∙ rw z
 
-  module _ (i : ℕ) (c : Rules i) where
-    pub rules-done : k ≤ i → false ≡ leaves (onward t (joined (map g (take k items)))) off
-    unfolding leaves subtract some onward
-    rules-done h =
-        let u = c .upto in let z : i ≡ k = omega arith in
-        let e : restOf g k items i ≡ [] = ap (restOf g k items) z ∙ rest-end g k items (c .fits) in
-        sym (ap (λ (l : List Block). leaves (onward t l) off) e) ∙ c .same
-
-    module _ (h : i < k) (x : A) where
-      rest-split : leaves (onward t (restOf g k items i)) off ≡ (leaves (onward t (g (getD items i x))) off || leaves (onward t (restOf g k items (i + 1))) off)
-      rest-split = ap (λ (l : List Block). leaves l off) (ap (onward t) (rest-more g k items i x h (c .fits)) ∙ onward-append t (g (getD items i x)) (restOf g k items (i + 1)))
-          ∙ leaves-append (onward t (g (getD items i x))) (onward t (restOf g k items (i + 1))) off
-
-      pub rules-found : (r : Bool) → r ≡ leaves (onward t (g (getD items i x))) off → r ≡ true → true ≡ leaves (onward t (joined (map g (take k items)))) off
-      rules-found r p q = sym (rw (sym p ∙ q) at rest-split) ∙ c .same
-
-      pub rules-on : (r : Bool) → r ≡ leaves (onward t (g (getD items i x))) off → r ≡ false → Rules (i + 1)
-      rules-on r p q = record { same = sym (rw (sym p ∙ q) at rest-split) ∙ c .same; upto = omega arith; fits = c .fits }
-
--- the whole
-pub works-is : (s : Schedule) (t : ℕ) (r : Bool) (w o : List Block) (l₀ : List ℕ) (k : ℕ) (l : List ℕ) (m : ℕ) → t ≡ 391337827200000000000
-    → w ≡ blocksOfAll t (t + 1209600000000000) (s .work) → o ≡ blocksOfAll t (t + 1209600000000000) (s .breaks)
-    → Filled t l₀ 0 o k l m → r ≡ leaves (onward t w) (pairs m l) → r ≡ worksIn2001 s
-unfolding worksIn2001 working leaves some
-works-is s t r w o l₀ k l m z ew eo f e =
-    let W : List Block = blocksOfAll t (t + 1209600000000000) (s .work) in
-    let O : List Block = blocksOfAll t (t + 1209600000000000) (s .breaks) in
-    let aw : Apart t w = rw ew (rules-apart t (t + 1209600000000000) (s .work)) in
-    let ao : Apart t o = rw eo (rules-apart t (t + 1209600000000000) (s .breaks)) in
-    let p : pairs m l ≡ onward t (union o) = filled-first t (t + 1209600000000000) l₀ o k l m f ao in
-    let n : Normal (union o) = union-normal o (ao .full) in
-    let b : O ≡ blocksOfAll t (t + 1209600000000000) (s .breaks ++ []) = ap (blocksOfAll t (t + 1209600000000000)) (sym (append-nil (s .breaks))) in
-    e ∙ ap (leaves (onward t w)) p ∙ leaves-onward t w (union o) aw (union-apart t o ao) ∙ sym (leaves-union w (union o) n)
-    ∙ ap₂ (λ (x y : List Block). leaves (union x) (union y)) ew (eo ∙ b) ∙ rw z
+  -- without breaks
+  pub works-whole : Normal on → s .breaks ≡ [] → (r : Bool) → r ≡ some on → r ≡ worksIn2001 s
+  unfolding union merged sorted onward joined
+  works-whole normal h r i = works-left [] (sym none) r (i ∙ sym (leaves-all on (chain-nonempty 0 on normal)))
+    where
+      none : union (onward t (blocksOfAll t (end t) (s .breaks))) ≡ []
+      none = rw h

@@ -25,7 +25,7 @@ use Rattle.window.proofs.Laws.{Apart, apart-none, apart-both, apart-onw
 -- ---- one piece
 
 -- a block as distances from an instant at or before it
-put-onward : (t s e : ℕ) → t ≤ s → put (s - t) (e - t) [] ≡ onward t (put s e [])
+pub put-onward : (t s e : ℕ) → t ≤ s → put (s - t) (e - t) [] ≡ onward t (put s e [])
 unfolding onward
 put-onward t s e h =
     by-test (ltb s e)

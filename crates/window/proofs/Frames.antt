@@ -137,22 +137,27 @@ module _ (lo hi : Instant) (days : Days) (w : Window 14 lo hi) (x : Frame) (m : 
       ∙ frame-piece days lo hi x m known (omega arith) (omega arith) (offset-small f z lo hi days o w q) d 0 86400000000000 h
       ∙ ap (onward (nanos lo)) (sym (plain-clipped f z zero-time zero-time lo hi (days .offset) d o fits fits (q .kept) (record { order = w .order; first = omega arith; last = omega arith }) (m .known known)))
 
+  -- a date of a rule, by the offset
+  pub date-plain : (p : List ℕ) (r : Rule′) (a b : ℕ) → RuleFits p r → DaysOf (ruleIs p r .zone) lo hi days → a ≡ timeIn (r .from) → b ≡ tillTime (timeIn (r .from)) (timeIn (r .to))
+      → (d : ℕ) → days .first ≤ d → d ≤ days .last → onward (x .lo) (plainPiece x (days .first) a b d) ≡ onward (nanos lo) (pieceOf (ruleIs p r) (nanos lo) (nanos hi) d)
+  date-plain p r a b o q i j d h k =
+      let u = w .low .low in let v = q .low in
+      let f : List ℕ = fileAt p (r .at) (r .len) in
+      let n = q .first-is in let l = q .last-is in
+      frame-piece days lo hi x m known (omega arith) (omega arith) (offset-small f (r .zone) lo hi days (o .opened) w q) d a b h
+      ∙ ap (onward (nanos lo))
+      (ap₂ (λ (s e : ℕ). clipped (nanos lo) (nanos hi) (less (days .offset * second) d s) (less (days .offset * second) d e)) i j
+      ∙ sym (plain-clipped f (r .zone) (r .from) (r .to) lo hi (days .offset) d (o .opened) (o .from) (o .to) (q .kept) (record { order = w .order; first = omega arith; last = omega arith }) (m .known known))
+      ∙ piece-any (ruleIs p r) (nanos lo) (nanos hi) d)
+
   -- the dates of a rule, by the offset
   pub rule-plain : (p : List ℕ) (r : Rule′) (a b : ℕ) → RuleFits p r → DaysOf (ruleIs p r .zone) lo hi days → a ≡ timeIn (r .from) → b ≡ tillTime (timeIn (r .from)) (timeIn (r .to))
       → onward (x .lo) (plain x (days .first) (days .last) (r .days) a b) ≡ onward (nanos lo) (blocksOf (nanos lo) (nanos hi) (ruleIs p r))
   unfolding plain
   rule-plain p r a b o q i j =
-      let u = w .low .low in let v = q .low in
-      let f : List ℕ = fileAt p (r .at) (r .len) in
-      let n = q .first-is in let l = q .last-is in
       shown-moved (x .lo) (nanos lo) (ruleIs p r .on) (plainPiece x (days .first) a b) (pieceOf (ruleIs p r) (nanos lo) (nanos hi)) (days .last + 1 - days .first) (days .first)
-      (λ d h k.
-      frame-piece days lo hi x m known (omega arith) (omega arith) (offset-small f (r .zone) lo hi days (o .opened) w q) d a b h
-      ∙ ap (onward (nanos lo))
-      (ap₂ (λ (s e : ℕ). clipped (nanos lo) (nanos hi) (less (days .offset * second) d s) (less (days .offset * second) d e)) i j
-      ∙ sym (plain-clipped f (r .zone) (r .from) (r .to) lo hi (days .offset) d (o .opened) (o .from) (o .to) (q .kept) (record { order = w .order; first = omega arith; last = omega arith }) (m .known known))
-      ∙ piece-any (ruleIs p r) (nanos lo) (nanos hi) d))
-      ∙ ap (onward (nanos lo)) (rule-shows (ruleIs p r) (nanos lo) (nanos hi) (days .first) (days .last) n l)
+      (λ d h k. date-plain p r a b o q i j d h (omega arith))
+      ∙ ap (onward (nanos lo)) (rule-shows (ruleIs p r) (nanos lo) (nanos hi) (days .first) (days .last) (q .first-is) (q .last-is))
 
 -- ---- what the functions on one piece are asked
 

@@ -25,7 +25,7 @@ use rules::Rule;
 
 // The nanoseconds from lo to t, which is at most 14 days later. The five seconds keep the difference from going below zero: a count of
 // nanoseconds is less than that.
-fn since(lo: Instant, t: Instant) -> u64
+pub fn since(lo: Instant, t: Instant) -> u64
     requires { ⌜ (lo .sec ≤ 643761727200) × (nanos lo ≤ nanos t) × (nanos t ≤ nanos lo + 1209600000000000) ⌝ }
     ensures { λ r. ⌜ r ≡ nanos t - nanos lo ⌝ }
 {
@@ -71,7 +71,7 @@ pub struct Frame {
 }
 
 // The frame of a window; `first` is 0 where no offset is known.
-fn frame_of(days: Days, lo: Instant, hi: Instant) -> Frame
+pub fn frame_of(days: Days, lo: Instant, hi: Instant) -> Frame
     requires { ⌜ Window 14 lo hi × (days .offset ≤ 187199) ⌝ }
     ensures { λ r. ⌜ IsFrame days lo hi r ⌝ }
 {
@@ -192,7 +192,7 @@ fn dates_into(
 }
 
 // A time of day in nanoseconds.
-fn time_in(t: Time) -> u64
+pub fn time_in(t: Time) -> u64
     requires { ⌜ TimeFits t ⌝ }
     ensures { λ r. ⌜ (r ≡ timeIn t) × (r < 86400000000000) ⌝ }
 {
@@ -200,7 +200,7 @@ fn time_in(t: Time) -> u64
 }
 
 // The end's time of day, counted from the start's date: on the next one if it is at or before the start's.
-fn till(a: u64, b: u64) -> u64
+pub fn till(a: u64, b: u64) -> u64
     requires { ⌜ b < 86400000000000 ⌝ }
     ensures { λ r. ⌜ (r ≡ tillTime a b) × (r ≤ 172800000000000) ⌝ }
 {

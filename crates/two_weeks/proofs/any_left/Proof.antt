@@ -1,60 +1,62 @@
 -- `two_weeks::any_left` meets its contract. Assumes nothing.
+use Prim.Native.Nat.{_+_, _-_}
+use lib.ListN.{length, length-map}
+use mathlib.Core.Path.{_≡_, sym, _∙_}
 use native.Mathlib.Omega.{arith}
-use Prim.Native.Nat.{_+_, _*_, _-_, _≤_, _<_}
-use lib.ListN.{length}
-use borrow.Author.Needs.{needs}
-use Rattle.pairs.specs.Pairs.{pairs}
-use Rattle.two_weeks.proofs.Lefts.{Several, several-starts, several-done, several-found, several-on}
+use Rattle.two_weeks.proofs.Lefts.{Passing, passing-starts, passing-done, passing-free, passing-past, passing-front, passing-end, passing-gone}
 use Rattle.two_weeks.proofs.any_left.Statement.{statement}
 use Rattle.two_weeks.proofs.any_left.Tie as tie
 
 abbrev Inv-loop : tie.InvT-loop
-Inv-loop on n off m i₀ i = Several on n (pairs m off) i
+Inv-loop on off n m i₀ j₀ i j = Passing (on .items) n (off .items) m i j
 
 abbrev μ-loop : tie.MeasureT-loop
-μ-loop on n off m i₀ i = n - i
+μ-loop on off n m i₀ j₀ i j = (n - i) + (m - j)
 
 loop-holds : tie.Need-loop-holds Inv-loop μ-loop
-loop-holds c = several-starts _ _ _
-
-mul-is-left : tie.Need-mul-is-left Inv-loop μ-loop
-mul-is-left c = search needs
-
-mul-is-left-2 : tie.Need-mul-is-left-2 Inv-loop μ-loop
-mul-is-left-2 c = search needs
-
-shared-slice-read-is-left : tie.Need-shared-slice-read-is-left Inv-loop μ-loop
-shared-slice-read-is-left c = search needs
-
-mul-is-left-3 : tie.Need-mul-is-left-3 Inv-loop μ-loop
-mul-is-left-3 c = search needs
-
-add-is-left : tie.Need-add-is-left Inv-loop μ-loop
-add-is-left c = search needs
-
-mul-is-left-4 : tie.Need-mul-is-left-4 Inv-loop μ-loop
-mul-is-left-4 c = search needs
-
-shared-slice-read-is-left-2 : tie.Need-shared-slice-read-is-left-2 Inv-loop μ-loop
-shared-slice-read-is-left-2 c = search needs
-
-is-left-requires : tie.Need-is-left-requires Inv-loop μ-loop
-is-left-requires c κs = search needs
+loop-holds c = let k : length (c .args .t1 .items) ≡ 672 = sym (length-map (c .args .t1 .items) _) ∙ (c .good .0 .1 .1 .0 .1 .0 .1) in let l : length (c .args .t2 .items) ≡ 672 = sym (length-map (c .args .t2 .items) _) ∙ (c .good .1 .0 .1 .1 .0 .1 .0 .1) in passing-starts _ _ _ _ (omega (arith, (c .pre .0 .few))) (omega (arith, (c .pre .1 .few)))
 
 returns : tie.Need-returns Inv-loop μ-loop
-returns c = several-found _ _ _ _ (c .before .before .before .before .before .loop .inv) (c .before .before .before .before .loop-test .taken) _ (c .before .is-left .ensures) (c .if1 .taken)
+returns c = passing-free _ _ _ _ _ _ (c .before .before .loop .inv) (c .before .loop-test .taken) (c .before .before .before .pre .0 .normal) (c .if1 .taken)
 
-add-i : tie.Need-add-i Inv-loop μ-loop
-add-i c = search needs
+mul-x : tie.Need-mul-x Inv-loop μ-loop
+mul-x c = omega (arith, (c .before .before .before .pre .0 .few), (c .before .loop-test .taken))
+
+element-copy-out-x : tie.Need-element-copy-out-x Inv-loop μ-loop
+element-copy-out-x c = omega (arith, (c .before .before .before .pre .0 .few), (c .before .loop-test .taken))
+
+mul-y : tie.Need-mul-y Inv-loop μ-loop
+mul-y c = omega (arith, (c .before .before .before .before .pre .1 .few), (c .before .if1 .left))
+
+element-copy-out-y : tie.Need-element-copy-out-y Inv-loop μ-loop
+element-copy-out-y c = omega (arith, (c .before .before .before .before .pre .1 .few), (c .before .if1 .left))
+
+add-j : tie.Need-add-j Inv-loop μ-loop
+add-j c = omega (arith, (c .before .before .before .before .before .before .before .before .pre .1 .few), (c .before .before .before .before .before .if1 .left))
 
 loop-less : tie.Need-loop-less Inv-loop μ-loop
-loop-less c = search needs
+loop-less c = omega (arith, (c .before .before .before .before .before .if1 .left))
 
 loop-again : tie.Need-loop-again Inv-loop μ-loop
-loop-again c = several-on _ _ _ _ (c .before .before .before .before .before .loop .inv) (c .before .before .before .before .loop-test .taken) _ (c .before .is-left .ensures) (c .if1 .left)
+loop-again c = passing-past _ _ _ _ _ _ (c .before .before .before .before .before .before .before .loop .inv) (c .before .before .before .before .before .before .loop-test .taken) (c .before .before .before .before .before .before .before .before .pre .0 .normal) (c .before .before .before .before .before .if1 .left) (c .before .before .before .before .before .before .before .before .pre .1 .normal) (c .if2 .taken)
 
 returns-2 : tie.Need-returns-2 Inv-loop μ-loop
-returns-2 c = several-done _ _ _ _ (c .before .loop .inv) (c .loop-test .left)
+returns-2 c = passing-front _ _ _ _ _ _ (c .before .before .before .before .before .before .before .before .before .before .loop .inv) (c .before .before .before .before .before .before .before .before .before .loop-test .taken) (c .before .before .before .before .before .before .before .before .before .before .before .pre .0 .normal) (c .before .before .before .before .before .before .before .before .if1 .left) (c .before .before .before .before .before .before .before .before .before .before .before .pre .1 .normal) (c .before .before .before .if2 .left) (c .if3 .taken)
+
+returns-3 : tie.Need-returns-3 Inv-loop μ-loop
+returns-3 c = passing-end _ _ _ _ _ _ (c .before .before .before .before .before .before .before .before .before .before .before .before .before .loop .inv) (c .before .before .before .before .before .before .before .before .before .before .before .before .loop-test .taken) (c .before .before .before .before .before .before .before .before .before .before .before .before .before .before .pre .0 .normal) (c .before .before .before .before .before .before .before .before .before .before .before .if1 .left) (c .before .before .before .before .before .before .before .before .before .before .before .before .before .before .pre .1 .normal) (c .before .before .before .before .before .before .if2 .left) (c .before .before .before .if3 .left) (c .if4 .taken)
+
+add-i : tie.Need-add-i Inv-loop μ-loop
+add-i c = omega (arith, (c .before .before .before .before .before .before .before .before .before .before .before .before .before .before .pre .0 .few), (c .before .before .before .before .before .before .before .before .before .before .before .before .loop-test .taken))
+
+loop-less-2 : tie.Need-loop-less-2 Inv-loop μ-loop
+loop-less-2 c = omega (arith, (c .before .before .before .before .before .before .before .before .before .before .before .before .loop-test .taken))
+
+loop-again-2 : tie.Need-loop-again-2 Inv-loop μ-loop
+loop-again-2 c = passing-gone _ _ _ _ _ _ (c .before .before .before .before .before .before .before .before .before .before .before .before .before .loop .inv) (c .before .before .before .before .before .before .before .before .before .before .before .before .loop-test .taken) (c .before .before .before .before .before .before .before .before .before .before .before .before .before .before .pre .0 .normal) (c .before .before .before .before .before .before .before .before .before .before .before .if1 .left) (c .before .before .before .before .before .before .before .before .before .before .before .before .before .before .pre .1 .normal) (c .before .before .before .before .before .before .if2 .left) (c .before .before .before .if3 .left) (c .if4 .left)
+
+returns-4 : tie.Need-returns-4 Inv-loop μ-loop
+returns-4 c = passing-done _ _ _ _ _ _ (c .before .loop .inv) (c .loop-test .left)
 
 pub any-left-spec : {M : Type 1} → statement M
 any-left-spec =
@@ -63,16 +65,17 @@ any-left-spec =
     Inv-loop
     μ-loop
     loop-holds
-    mul-is-left
-    mul-is-left-2
-    shared-slice-read-is-left
-    mul-is-left-3
-    add-is-left
-    mul-is-left-4
-    shared-slice-read-is-left-2
-    is-left-requires
     returns
-    add-i
+    mul-x
+    element-copy-out-x
+    mul-y
+    element-copy-out-y
+    add-j
     loop-less
     loop-again
-    returns-2)
+    returns-2
+    returns-3
+    add-i
+    loop-less-2
+    loop-again-2
+    returns-4)
