@@ -69,13 +69,13 @@ pub fn spend_back(l: &[u64], n: usize, limit: u64, g: u64, w: u64, d: u64) -> Ta
     ensures { λ r. ⌜ takenIs r ≡ spend limit (w + g) 0 d (moves g (backward w (pairs n (now (l .entry))))) ⌝ }
 {
     let mut left = d;
-    let mut end: u64 = 0;
+    let mut last: u64 = 0;
     let mut i = n;
     while 0 < i {
         let from = minus(w, l[2 * i - 1]) + g;
         let to = minus(w, l[2 * i - 2]) + g;
         i -= 1;
-        if exceeds(limit, end, from) {
+        if exceeds(limit, last, from) {
             return Taken::Gap;
         }
         let len = minus(to, from);
@@ -83,10 +83,10 @@ pub fn spend_back(l: &[u64], n: usize, limit: u64, g: u64, w: u64, d: u64) -> Ta
             return Taken::Found(from + left);
         }
         left -= len;
-        end = to;
+        last = to;
     }
-    if exceeds(limit, end, w + g) {
+    if exceeds(limit, last, w + g) {
         return Taken::Gap;
     }
-    Taken::Left(left, end)
+    Taken::Left(left, last)
 }

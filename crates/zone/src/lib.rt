@@ -115,11 +115,12 @@ pub fn second_of(f: &[u8], z: Zone, x: u64) -> u64
     while until <= x - off {
         let q = run_at(f, z, until);
         let o = q.offset as u64;
-        if x < until + o {
+        if until + o <= x {
+            off = o;
+            until = q.until;
+        } else {
             return read_after(f, z, x, until, x - off);
         }
-        off = o;
-        until = q.until;
     }
     x - off
 }

@@ -12,10 +12,10 @@ use Rattle.seek.proofs.spend_back.Statement.{statement}
 use Rattle.seek.proofs.spend_back.Tie as tie
 
 abbrev Inv-loop : tie.InvT-loop
-Inv-loop l n limit g w d left₀ end₀ i₀ left end i = (i ≤ n) × (spend limit (w + g) end left (moves g (backward w (pairs i l))) ≡ spend limit (w + g) 0 d (moves g (backward w (pairs n l))))
+Inv-loop l n limit g w d left₀ last₀ i₀ left last i = (i ≤ n) × (spend limit (w + g) last left (moves g (backward w (pairs i l))) ≡ spend limit (w + g) 0 d (moves g (backward w (pairs n l))))
 
 abbrev μ-loop : tie.MeasureT-loop
-μ-loop l n limit g w d left₀ end₀ i₀ left end i = i
+μ-loop l n limit g w d left₀ last₀ i₀ left last i = i
 
 loop-holds : tie.Need-loop-holds Inv-loop μ-loop
 loop-holds c = (omega arith, refl)

@@ -63,25 +63,25 @@ loop-less : tie.Need-loop-less Inv-loop μ-loop
 loop-less c = omega (arith, (c .before .before .before .before .before .before .before .before .before .loop-test .taken))
 
 loop-again : tie.Need-loop-again Inv-loop μ-loop
-loop-again c = closing-on _ _ _ _ _ (piece-apart (holidayRule (holidaysIs (c .before .before .before .before .before .before .before .before .before .before .before .before .before .before .before .before .before .before .before .before .before .args .book .now) (c .before .before .before .before .before .before .before .before .before .before .before .before .before .before .before .before .before .before .before .before .before .args .pack .now) (c .before .before .before .before .before .before .before .before .before .before .before .before .before .before .before .before .before .before .before .before .before .args .c))) (nanos (c .before .before .before .before .before .before .before .before .before .before .before .before .before .before .before .before .before .before .before .before .before .args .lo)) (nanos (c .before .before .before .before .before .before .before .before .before .before .before .before .before .before .before .before .before .before .before .before .before .args .hi))) _ _ _ _ (c .before .before .before .before .before .before .before .before .before .before .before .before .before .before .before .before .before .before .before .before .before .pre .2 .normal) _ _ _ _ (c .before .before .before .before .before .before .before .before .before .before .loop .inv) (c .before .before .before .before .before .before .before .before .before .loop-test .taken) _ (c .before .before .before .before .before .before .date-at .ensures) (c .before .before .before .before .before .if2 .taken) (c .before .before .before .before .if3 .taken) _ _ (filled-same _ _ _ _ _ _ _ _ (piece-any (holidayRule (holidaysIs (c .before .before .before .before .before .before .before .before .before .before .before .before .before .before .before .before .before .before .before .before .before .args .book .now) (c .before .before .before .before .before .before .before .before .before .before .before .before .before .before .before .before .before .before .before .before .before .args .pack .now) (c .before .before .before .before .before .before .before .before .before .before .before .before .before .before .before .before .before .before .before .before .before .args .c))) _ _ _) (c .before .before .free-into .ensures))
+loop-again c = closing-on _ _ _ _ _ (piece-apart (holidayRule (holidaysIs (c .before .before .before .before .before .before .before .before .before .before .before .before .before .before .before .before .before .before .before .before .before .args .book .now) (c .before .before .before .before .before .before .before .before .before .before .before .before .before .before .before .before .before .before .before .before .before .args .pack .now) (c .before .before .before .before .before .before .before .before .before .before .before .before .before .before .before .before .before .before .before .before .before .args .c))) (nanos (c .before .before .before .before .before .before .before .before .before .before .before .before .before .before .before .before .before .before .before .before .before .args .lo)) (nanos (c .before .before .before .before .before .before .before .before .before .before .before .before .before .before .before .before .before .before .before .before .before .args .hi))) _ _ _ _ (c .before .before .before .before .before .before .before .before .before .before .before .before .before .before .before .before .before .before .before .before .before .pre .2 .normal) _ _ _ _ (c .before .before .before .before .before .before .before .before .before .before .loop .inv) (omega (arith, (c .before .before .before .before .before .before .before .before .before .loop-test .taken))) _ (c .before .before .before .before .before .before .date-at .ensures) (c .before .before .before .before .before .if2 .taken) (c .before .before .before .before .if3 .taken) _ _ (filled-same _ _ _ _ _ _ _ _ (piece-any (holidayRule (holidaysIs (c .before .before .before .before .before .before .before .before .before .before .before .before .before .before .before .before .before .before .before .before .before .args .book .now) (c .before .before .before .before .before .before .before .before .before .before .before .before .before .before .before .before .before .before .before .before .before .args .pack .now) (c .before .before .before .before .before .before .before .before .before .before .before .before .before .before .before .before .before .before .before .before .before .args .c))) _ _ _) (c .before .before .free-into .ensures))
 
 loop-less-2 : tie.Need-loop-less-2 Inv-loop μ-loop
 loop-less-2 c = omega (arith, (c .before .before .before .before .before .loop-test .taken))
 
 loop-again-2 : tie.Need-loop-again-2 Inv-loop μ-loop
-loop-again-2 c = closing-off _ _ _ _ _ (piece-apart (holidayRule (holidaysIs (c .before .before .before .before .before .before .before .before .before .before .before .before .before .before .before .before .before .args .book .now) (c .before .before .before .before .before .before .before .before .before .before .before .before .before .before .before .before .before .args .pack .now) (c .before .before .before .before .before .before .before .before .before .before .before .before .before .before .before .before .before .args .c))) (nanos (c .before .before .before .before .before .before .before .before .before .before .before .before .before .before .before .before .before .args .lo)) (nanos (c .before .before .before .before .before .before .before .before .before .before .before .before .before .before .before .before .before .args .hi))) _ _ _ _ (c .before .before .before .before .before .before .before .before .before .before .before .before .before .before .before .before .before .pre .2 .normal) _ _ _ _ (c .before .before .before .before .before .before .loop .inv) (c .before .before .before .before .before .loop-test .taken) _ (c .before .before .date-at .ensures) (inr (c .if3 .left))
+loop-again-2 c = closing-off _ _ _ _ _ (piece-apart (holidayRule (holidaysIs (c .before .before .before .before .before .before .before .before .before .before .before .before .before .before .before .before .before .args .book .now) (c .before .before .before .before .before .before .before .before .before .before .before .before .before .before .before .before .before .args .pack .now) (c .before .before .before .before .before .before .before .before .before .before .before .before .before .before .before .before .before .args .c))) (nanos (c .before .before .before .before .before .before .before .before .before .before .before .before .before .before .before .before .before .args .lo)) (nanos (c .before .before .before .before .before .before .before .before .before .before .before .before .before .before .before .before .before .args .hi))) _ _ _ _ (c .before .before .before .before .before .before .before .before .before .before .before .before .before .before .before .before .before .pre .2 .normal) _ _ _ _ (c .before .before .before .before .before .before .loop .inv) (omega (arith, (c .before .before .before .before .before .loop-test .taken))) _ (c .before .before .date-at .ensures) (inr (c .if3 .left))
 
 loop-less-3 : tie.Need-loop-less-3 Inv-loop μ-loop
 loop-less-3 c = omega (arith, (c .before .before .before .before .loop-test .taken))
 
 loop-again-3 : tie.Need-loop-again-3 Inv-loop μ-loop
-loop-again-3 c = closing-off _ _ _ _ _ (piece-apart (holidayRule (holidaysIs (c .before .before .before .before .before .before .before .before .before .before .before .before .before .before .before .before .args .book .now) (c .before .before .before .before .before .before .before .before .before .before .before .before .before .before .before .before .args .pack .now) (c .before .before .before .before .before .before .before .before .before .before .before .before .before .before .before .before .args .c))) (nanos (c .before .before .before .before .before .before .before .before .before .before .before .before .before .before .before .before .args .lo)) (nanos (c .before .before .before .before .before .before .before .before .before .before .before .before .before .before .before .before .args .hi))) _ _ _ _ (c .before .before .before .before .before .before .before .before .before .before .before .before .before .before .before .before .pre .2 .normal) _ _ _ _ (c .before .before .before .before .before .loop .inv) (c .before .before .before .before .loop-test .taken) _ (c .before .date-at .ensures) (inl (c .if2 .left))
+loop-again-3 c = closing-off _ _ _ _ _ (piece-apart (holidayRule (holidaysIs (c .before .before .before .before .before .before .before .before .before .before .before .before .before .before .before .before .args .book .now) (c .before .before .before .before .before .before .before .before .before .before .before .before .before .before .before .before .args .pack .now) (c .before .before .before .before .before .before .before .before .before .before .before .before .before .before .before .before .args .c))) (nanos (c .before .before .before .before .before .before .before .before .before .before .before .before .before .before .before .before .args .lo)) (nanos (c .before .before .before .before .before .before .before .before .before .before .before .before .before .before .before .before .args .hi))) _ _ _ _ (c .before .before .before .before .before .before .before .before .before .before .before .before .before .before .before .before .pre .2 .normal) _ _ _ _ (c .before .before .before .before .before .loop .inv) (omega (arith, (c .before .before .before .before .loop-test .taken))) _ (c .before .date-at .ensures) (inl (c .if2 .left))
 
 loop-less-4 : tie.Need-loop-less-4 Inv-loop μ-loop
 loop-less-4 c = omega (arith, (c .before .before .loop-test .taken))
 
 loop-again-4 : tie.Need-loop-again-4 Inv-loop μ-loop
-loop-again-4 c = closing-off _ _ _ _ _ (piece-apart (holidayRule (holidaysIs (c .before .before .before .before .before .before .before .before .before .before .before .before .before .before .args .book .now) (c .before .before .before .before .before .before .before .before .before .before .before .before .before .before .args .pack .now) (c .before .before .before .before .before .before .before .before .before .before .before .before .before .before .args .c))) (nanos (c .before .before .before .before .before .before .before .before .before .before .before .before .before .before .args .lo)) (nanos (c .before .before .before .before .before .before .before .before .before .before .before .before .before .before .args .hi))) _ _ _ _ (c .before .before .before .before .before .before .before .before .before .before .before .before .before .before .pre .2 .normal) _ _ _ _ (c .before .before .before .loop .inv) (c .before .before .loop-test .taken) _ refl (year-not _ _ _ _ _ _ _ (omega (arith, (c .before .before .before .before .before .before .before .before .before .days-in .ensures .low))) (c .before .before .before .before .before .before .before .year-from .ensures) (c .before .before .before .before .before .before .year-of .ensures) (c .before .in-years .ensures) (c .if1 .left))
+loop-again-4 c = closing-off _ _ _ _ _ (piece-apart (holidayRule (holidaysIs (c .before .before .before .before .before .before .before .before .before .before .before .before .before .before .args .book .now) (c .before .before .before .before .before .before .before .before .before .before .before .before .before .before .args .pack .now) (c .before .before .before .before .before .before .before .before .before .before .before .before .before .before .args .c))) (nanos (c .before .before .before .before .before .before .before .before .before .before .before .before .before .before .args .lo)) (nanos (c .before .before .before .before .before .before .before .before .before .before .before .before .before .before .args .hi))) _ _ _ _ (c .before .before .before .before .before .before .before .before .before .before .before .before .before .before .pre .2 .normal) _ _ _ _ (c .before .before .before .loop .inv) (omega (arith, (c .before .before .loop-test .taken))) _ refl (year-not _ _ _ _ _ _ _ (omega (arith, (c .before .before .before .before .before .before .before .before .before .days-in .ensures .low))) (c .before .before .before .before .before .before .before .year-from .ensures) (c .before .before .before .before .before .before .year-of .ensures) (c .before .in-years .ensures) (c .if1 .left))
 
 same-length : tie.Need-same-length Inv-loop μ-loop
 same-length c = (c .before .loop .inv .long)

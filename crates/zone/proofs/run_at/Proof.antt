@@ -1,6 +1,7 @@
 -- `zone::run_at` meets its contract.
 use Rattle.zone.proofs.Steps.{early-offset, early-run, late-offset, late-run}
 use native.Mathlib.Omega.{arith}
+use borrow.Author.Needs.{needs}
 use Rattle.zone.proofs.run_at.Statement.{statement}
 use Rattle.zone.proofs.run_at.Tie as tie
 
@@ -17,7 +18,7 @@ returns : tie.Need-returns
 returns c = (early-offset (c .before .before .before .before .before .before .before .pre .0 .table) _ _ (c .before .before .before .before .count-at .ensures .0) (omega arith) (c .before .before .before .table-offset .ensures .0), early-run (c .before .before .before .before .before .before .before .pre .0 .table) _ _ (c .before .before .before .before .count-at .ensures .0) (omega arith) (c .time-at .ensures))
 
 span-at-requires : tie.Need-span-at-requires
-span-at-requires c κs = (c .before .before .before .before .before .before .pre .0 .fits .footer-fits, omega arith)
+span-at-requires c κs = search needs
 
 returns-2 : tie.Need-returns-2
 returns-2 c = (late-offset (c .before .before .before .before .before .before .before .pre .0 .table) _ _ (c .before .before .before .before .count-at .ensures .0) (omega arith) (c .before .before .before .before .count-at .ensures .1) (c .before .before .before .table-offset .ensures .0) (c .span-at .ensures .0), late-run (c .before .before .before .before .before .before .before .pre .0 .table) _ _ (c .before .before .before .before .count-at .ensures .0) (omega arith) (c .before .before .before .before .count-at .ensures .1) (c .before .before .before .table-offset .ensures .0) (c .span-at .ensures .1))

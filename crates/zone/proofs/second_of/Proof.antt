@@ -19,64 +19,49 @@ Inv-loop f z x off₀ until₀ off until = At (offsetAt (meant f z)) x off until
 abbrev μ-loop : tie.MeasureT-loop
 μ-loop f z x off₀ until₀ off until = x + 1 - until
 
--- src/lib.rt:67:26
 sub-run-at : tie.Need-sub-run-at Inv-loop μ-loop
 sub-run-at c = omega arith
 
--- src/lib.rt:67:9
 run-at-requires : tie.Need-run-at-requires Inv-loop μ-loop
 run-at-requires c κs = (c .before .pre .0, omega arith)
 
--- src/lib.rt:68:19
 cast-off : tie.Need-cast-off Inv-loop μ-loop
 cast-off c = search needs
 
--- src/lib.rt:70:5
 loop-holds : tie.Need-loop-holds Inv-loop μ-loop
 loop-holds c = at-start _ (λ u. offset-fits _ (c .before .before .before .pre .0 .fits) u .0) (λ u. offset-fits _ (c .before .before .before .pre .0 .fits) u .1) (omega arith) (c .before .run-at .ensures .0) (c .before .run-at .ensures .1)
 
--- src/lib.rt:70:20
 sub-loop : tie.Need-sub-loop Inv-loop μ-loop
 sub-loop c = omega (arith, at-off (c .loop .inv))
 
--- src/lib.rt:71:13
 run-at-requires-2 : tie.Need-run-at-requires-2 Inv-loop μ-loop
 run-at-requires-2 c κs = (c .before .before .before .before .before .pre .0, omega arith)
 
--- src/lib.rt:72:17
 cast-o : tie.Need-cast-o Inv-loop μ-loop
 cast-o c = search needs
 
--- src/lib.rt:73:16
 add-if1 : tie.Need-add-if1 Inv-loop μ-loop
 add-if1 c = omega (arith, c .before .run-at2 .ensures .0, offset-fits _ (c .before .before .before .before .before .before .before .pre .0 .fits) (c .before .before .before .loop .until))
 
--- src/lib.rt:74:47
+loop-less : tie.Need-loop-less Inv-loop μ-loop
+loop-less c = omega (arith, c .before .before .run-at2 .ensures .1 .on)
+
+loop-again : tie.Need-loop-again Inv-loop μ-loop
+loop-again c = at-next (c .before .before .before .before .loop .inv) (omega arith) (c .before .before .run-at2 .ensures .0) (c .before .before .run-at2 .ensures .1) (omega arith)
+
 sub-read-after : tie.Need-sub-read-after Inv-loop μ-loop
 sub-read-after c =
     omega (arith, at-off (c .before .before .before .before .loop .inv), c .before .before .run-at2 .ensures .0, offset-fits _ (c .before .before .before .before .before .before .before .before .pre .0 .fits) (c .before .before .before .before .loop .until))
 
--- src/lib.rt:74:13
 read-after-requires : tie.Need-read-after-requires Inv-loop μ-loop
 read-after-requires c κs = (c .before .before .before .before .before .before .before .before .pre .0, omega arith, at-jump (c .before .before .before .before .loop .inv) (omega arith) (c .before .before .run-at2 .ensures .0) (omega arith))
 
--- src/lib.rt:74:13
 returns : tie.Need-returns Inv-loop μ-loop
 returns c = one-answer _ (c .read-after .ensures) (second-resolves _ (c .before .before .before .before .before .before .before .before .before .pre .0 .fits) _ (omega arith))
 
--- src/lib.rt:70:5
-loop-less : tie.Need-loop-less Inv-loop μ-loop
-loop-less c = omega (arith, c .before .before .run-at2 .ensures .1 .on)
-
--- src/lib.rt:70:5
-loop-again : tie.Need-loop-again Inv-loop μ-loop
-loop-again c = at-next (c .before .before .before .before .loop .inv) (omega arith) (c .before .before .run-at2 .ensures .0) (c .before .before .run-at2 .ensures .1) (omega arith)
-
--- src/lib.rt:79:5
 sub-result : tie.Need-sub-result Inv-loop μ-loop
 sub-result c = omega (arith, at-off (c .before .loop .inv))
 
--- src/lib.rt:63:1
 returns-2 : tie.Need-returns-2 Inv-loop μ-loop
 returns-2 c = one-answer _ (at-found (c .before .loop .inv) (omega arith)) (second-resolves _ (c .before .before .before .before .before .pre .0 .fits) _ (omega arith))
 
@@ -94,10 +79,10 @@ second-of-spec =
     run-at-requires-2
     cast-o
     add-if1
+    loop-less
+    loop-again
     sub-read-after
     read-after-requires
     returns
-    loop-less
-    loop-again
     sub-result
     returns-2)
