@@ -1,12 +1,12 @@
-//! Times the working time of one week, ours by value and in lent memory, and the original's, on the same
+//! Times the working time of one week, ours and the original's, on the same
 //! books and the same weeks.
 //!
 //! Usage: week COUNT BATCHES [ZONEINFO [BOOK WHO]]
 //!
 //! COUNT weeks begin at seconds at random in 2026 to 2028. A batch builds the
 //! book once and asks for every week; the best of BATCHES counts, in
-//! processor time, and the three take turns. With BOOK and WHO (`ours`, `lent`
-//! or `original`) only that one is run. Ends with 1 where answers differ.
+//! processor time, and the two take turns. With BOOK and WHO (`ours` or
+//! `original`) only that one is run. Ends with 1 where answers differ.
 
 use bench::{all_limits, holidays, join, named, pack, shift, thirty, BERLIN, HOUR, MON_TO_FRI};
 use jiff::Timestamp;
@@ -23,15 +23,6 @@ const SPAN: u64 = 3 * 365 * 86_400;
 extern "C" {
     /// Our code: a slice is a pointer and a length.
     fn bench_week_times(
-        book: *const u8,
-        book_len: usize,
-        pack: *const u8,
-        pack_len: usize,
-        weeks: *mut u64,
-        count: usize,
-    );
-    /// The same in lent memory.
-    fn bench_week_lent(
         book: *const u8,
         book_len: usize,
         pack: *const u8,
@@ -71,15 +62,6 @@ fn ours(book: &[u8], pack: &[u8], weeks: &[i64]) -> (f64, Vec<i64>) {
     (spent() - since, work.iter().map(|&time| time as i64).collect())
 }
 
-fn lent(book: &[u8], pack: &[u8], weeks: &[i64]) -> (f64, Vec<i64>) {
-    let mut work: Vec<u64> = weeks.iter().map(|&second| (second + FIRST) as u64).collect();
-    let since = spent();
-    unsafe {
-        bench_week_lent(book.as_ptr(), book.len(), pack.as_ptr(), pack.len(), work.as_mut_ptr(), work.len());
-    }
-    (spent() - since, work.iter().map(|&time| time as i64).collect())
-}
-
 fn original(book: &[u8], pack: &[u8], weeks: &[i64]) -> (f64, Vec<i64>) {
     let mut work = weeks.to_vec();
     let since = spent();
@@ -114,14 +96,14 @@ fn main() -> std::io::Result<()> {
     let books = [("office-berlin-30", office), ("all-limits", all_limits())];
     let weeks = weeks(count);
     let wanted = |place: usize, name: &str| told.get(place).is_none_or(|word| word == name);
-    println!("{:<18} {:>10} {:>10} {:>10}", "book", "ours", "lent", "original");
+    println!("{:<18} {:>10} {:>10}", "book", "ours", "original");
     let mut bad = false;
     for (title, records) in books.iter().filter(|(title, _)| wanted(3, title)) {
         let book = join(records);
-        let mut best = [f64::INFINITY; 3];
-        let mut answers = [Vec::new(), Vec::new(), Vec::new()];
+        let mut best = [f64::INFINITY; 2];
+        let mut answers = [Vec::new(), Vec::new()];
         for _ in 0..batches {
-            for (place, (name, run)) in [("ours", ours as fn(&[u8], &[u8], &[i64]) -> _), ("lent", lent), ("original", original)].into_iter().enumerate() {
+            for (place, (name, run)) in [("ours", ours as fn(&[u8], &[u8], &[i64]) -> _), ("original", original)].into_iter().enumerate() {
                 if wanted(4, name) {
                     let (time, answer): (f64, Vec<i64>) = run(&book, &pack, &weeks);
                     best[place] = best[place].min(time);
@@ -129,8 +111,8 @@ fn main() -> std::io::Result<()> {
                 }
             }
         }
-        println!("{title:<18} {:>10.0} {:>10.0} {:>10.0}", best[0] / count as f64, best[1] / count as f64, best[2] / count as f64);
-        bad |= told.len() < 5 && (answers[0] != answers[2] || answers[1] != answers[2]);
+        println!("{title:<18} {:>10.0} {:>10.0}", best[0] / count as f64, best[1] / count as f64);
+        bad |= told.len() < 5 && answers[0] != answers[1];
     }
     if bad {
         eprintln!("answers differ");

@@ -1,6 +1,5 @@
 -- Laws of filling in place: one turn, and the whole; and of one week.
-use mathlib.Core.Path.{_≡_, refl, sym, ap, _∙_}
-use mathlib.Core.Bool.{true, false}
+use mathlib.Core.Path.{_≡_, refl, ap, _∙_}
 use mathlib.Core.List.{List}
 use mathlib.Core.Logic.{⊎-elim}
 use Prim.Native.Nat.{ℕ, _+_, _*_, _-_, _/_, _≤_, _<_}
@@ -8,11 +7,9 @@ use native.Mathlib.Nat.{eq-or-lt-of-le}
 use native.Mathlib.Omega.{arith}
 use lib.ListN.{length, getD, set, length-set}
 use lib.Seq.{getD-set-same, getD-set-other}
-use lib.Dec.{eqb}
 use borrow.Author.Tests.{lt-ltb, le-ltb, eq-eqb, ne-eqb}
-use Rattle.model.specs.Basic.{if_then_else_}
-use Rattle.model.specs.Answer.{Answer, gives, refuses}
-use Rattle.model.specs.Blocks.{Block, total}
+use Rattle.model.specs.Answer.{Answer}
+use Rattle.model.specs.Blocks.{total}
 use Rattle.model.specs.Instant.{second}
 use Rattle.model.specs.Working.{Schedule, working}
 use Rattle.build.specs.Read.{answerIs}
@@ -56,20 +53,10 @@ module _ (s : Schedule) {x : ℕ} where
   unfolding weekIn
   week-late g h = rw (le-ltb x 12654496799 g, lt-ltb 643761122400 x h)
 
-  pub week-is : {sec ns : ℕ} {l : List Block} → 12654496799 ≤ x → x ≤ 643761122400 → l ≡ working s (x * 1000000000 + 0) ((x + 604800) * 1000000000 + 0)
-      → sec * 1000000000 + ns ≡ total l → ns < 1000000000 → sec ≡ weekIn s x
+  -- from the sum in nanoseconds
+  pub week-is : {t : ℕ} → 12654496799 ≤ x → x ≤ 643761122400 → t ≡ total (working s (x * 1000000000 + 0) ((x + 604800) * 1000000000 + 0)) → t / 1000000000 ≡ weekIn s x
   unfolding weekIn
-  week-is {sec} {ns} {l} g h e t n =
-      let a : (x * 1000000000 + 0) ≡ x * second = omega arith in
-      let b : ((x + 604800) * 1000000000 + 0) ≡ (x + 604800) * second = omega arith in
-      let q : total l ≡ total (working s (x * second) ((x + 604800) * second)) = ap total (rw (a, b) at e) in
-      let r : sec * 1000000000 + ns ≡ total (working s (x * second) ((x + 604800) * second)) = t ∙ q in
-      rw (le-ltb x 12654496799 g, le-ltb 643761122400 x h) (omega arith)
-
-  -- the same from the sum in nanoseconds
-  pub lent-is : {t : ℕ} → 12654496799 ≤ x → x ≤ 643761122400 → t ≡ total (working s (x * 1000000000 + 0) ((x + 604800) * 1000000000 + 0)) → t / 1000000000 ≡ weekIn s x
-  unfolding weekIn
-  lent-is {t} g h e =
+  week-is {t} g h e =
       let a : (x * 1000000000 + 0) ≡ x * second = omega arith in
       let b : ((x + 604800) * 1000000000 + 0) ≡ (x + 604800) * second = omega arith in
       let q : t ≡ total (working s (x * second) ((x + 604800) * second)) = rw (a, b) at e in

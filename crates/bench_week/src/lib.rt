@@ -23,9 +23,7 @@ fn week(book: &[u8], pack: &[u8], s: Schedule, x: u64) -> u64
         sec: x + 604800,
         ns: 0,
     };
-    let b = engine::working_time(book, pack, s, lo, hi);
-    let t = blocks::total(b);
-    t.sec
+    week::week_time(book, pack, s, lo, hi) / 1000000000
 }
 
 fn weeks(book: &[u8], pack: &[u8], s: Schedule, xs: &mut [u64])
@@ -50,49 +48,4 @@ pub extern "C" fn bench_week_times(book: &[u8], pack: &[u8], xs: &mut [u64])
     }
     let s = b.schedule;
     weeks(book, pack, s, xs);
-}
-
-// ---- the same in lent memory
-
-// The working time of the week that begins at the second x, as `week` gives it, by the crate `week`.
-fn lent_week(book: &[u8], pack: &[u8], s: Schedule, x: u64) -> u64
-    requires { ⌜ ScheduleFits (now book) (now pack) s ⌝ }
-    ensures { λ r. ⌜ r ≡ weekIn (scheduleIs (now (book .entry)) (now (pack .entry)) s) x ⌝ }
-{
-    if x < 12654496799 {
-        return 0;
-    }
-    if 643761122400 < x {
-        return 0;
-    }
-    let lo = Instant { sec: x, ns: 0 };
-    let hi = Instant {
-        sec: x + 604800,
-        ns: 0,
-    };
-    week::week_time(book, pack, s, lo, hi) / 1000000000
-}
-
-fn lent_weeks(book: &[u8], pack: &[u8], s: Schedule, xs: &mut [u64])
-    requires { ⌜ ScheduleFits (now book) (now pack) s ⌝ }
-    ensures { λ _. ⌜ Each (weekIn (scheduleIs (now (book .entry)) (now (pack .entry)) s)) (now (xs .entry)) (now (xs .exit)) ⌝ }
-{
-    let mut i: usize = 0;
-    while i < xs.len() {
-        xs[i] = lent_week(book, pack, s, xs[i]);
-        i += 1;
-    }
-}
-
-// Puts the working time of the week that begins at each second in its place, by the crate `week`. A book that is refused changes nothing.
-#[no_mangle]
-pub extern "C" fn bench_week_lent(book: &[u8], pack: &[u8], xs: &mut [u64])
-    ensures { λ _. ⌜ Each (weeksOf (definition.build (now (book .entry)) (now (pack .entry)))) (now (xs .entry)) (now (xs .exit)) ⌝ }
-{
-    let b = build::build(book, pack);
-    if b.number != 0 {
-        return;
-    }
-    let s = b.schedule;
-    lent_weeks(book, pack, s, xs);
 }

@@ -4,7 +4,7 @@ ghost use Prim.Native.Nat.{_+_, _*_, _≤_, _<_};
 ghost use mathlib.Core.Bool.{true};
 ghost use mathlib.Core.Option.{none};
 ghost use lib.ListN.{length, getElem?};
-ghost use Rattle.model.specs.Basic.{among, distinct};
+ghost use Rattle.model.specs.Basic.{distinct};
 ghost use Rattle.model.specs.Book.{withinLimits, lastDefault};
 ghost use Rattle.be.specs.Walk.{allFrom};
 ghost use Rattle.book.specs.Meaning.{recordsOf, yearAt, dayAt, datesAt, timeFrom, entryFrom, bytesAt, IsEntry, kindAt, datesIn, talliesOf};
@@ -130,15 +130,7 @@ pub fn date_at(b: &[u8], p: usize) -> u32
     dates_of::date_at(b, p)
 }
 
-// Is the day among the n dates from p on?
-pub fn has_date(b: &[u8], p: usize, n: usize, day: u32) -> bool
-    requires { ⌜ p + 4 * n ≤ length (now b) ⌝ }
-    ensures { λ r. ⌜ r ≡ among (datesAt (now (b .entry)) p n) day ⌝ }
-{
-    dates_of::has_date(b, p, n, day)
-}
-
-// How many different days they are.
+// How many different days are written at the n dates from p on.
 pub fn distinct_dates(b: &[u8], p: usize, n: usize) -> usize
     requires { ⌜ p + 4 * n ≤ length (now b) ⌝ }
     ensures { λ r. ⌜ (r ≡ length (distinct (datesAt (now (b .entry)) p n))) × (r ≤ n) ⌝ }

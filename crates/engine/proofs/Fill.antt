@@ -1,21 +1,21 @@
--- Filling a list with the blocks of rules, date by date: what a turn of either loop keeps. Assumes nothing.
+-- The dates of a window and of a rule in it, and the rules of a counted array. Assumes nothing.
 use Prim.Native.Nat.{ℕ, zero, suc, _+_, _*_, _-_, _/_, _≤_, _<_}
 use mathlib.Core.Path.{_≡_, refl, sym, _∙_, ap}
 use mathlib.Core.Bool.{Bool, true, false}
 use mathlib.Core.List.{List, [], _∷_, _++_, map, append-assoc, append-nil}
 use native.Mathlib.Omega.{arith}
 use native.Mathlib.Numerals.{add-one}
-use lib.Dec.{ltb, eqb}
+use lib.Dec.{eqb}
 use borrow.Author.Tests.{eqb-true}
-use lib.ListN.{length, take, drop, getD, set, length-set, drop-of-length-le}
+use lib.ListN.{length, take, drop, getD, drop-of-length-le}
 use lib.Seq.{drop-cons, getD-take, length-take-le}
-use Rattle.model.specs.Basic.{if_then_else_, any, among, distinct, filter, run, joined}
+use Rattle.model.specs.Basic.{any, among, distinct, filter, run, joined}
 use Rattle.model.specs.Blocks.{Block}
 use Rattle.model.specs.Tzif.{Zone}
 use Rattle.model.specs.Instant.{second}
 use Rattle.model.specs.Zone.{offsetAt}
 use Rattle.dates.proofs.Facts.{local-is, first-back, last-on, kept-small}
-use Rattle.model.specs.Working.{Rule, Holidays, holidayRule, localDay, firstDate, lastDate, localDates, startOf, endOf, blocksOf, blocksOfAll}
+use Rattle.model.specs.Working.{Rule, localDay, firstDate, lastDate, startOf, endOf}
 use Rattle.laws_base.specs.Test.{by-test}
 use Rattle.laws_zone.specs.Sound.{Sound}
 use Rattle.laws_zone.specs.Zones.{fits-sound}
@@ -26,16 +26,12 @@ use Rattle.zone.specs.declared.Zone.{Zone as Zone′}
 use Rattle.book.specs.Meaning.{timeIn}
 use Rattle.instant.specs.Instant.{nanos}
 use Rattle.instant.specs.declared.Instant.{Instant}
-use Rattle.blocks.specs.Counted.{blockOf, front}
 use Rattle.blocks.specs.declared.Block.{Block as Item}
-use Rattle.blocks.proofs.Front.{front-length}
-use Rattle.blocks.proofs.Walk.{stored}
 use Rattle.dates.specs.Dates.{IsDay, held, pieceOf, during, Kept, IsIn}
 use Rattle.rules.specs.declared.Rule.{Rule as Rule′}
-use Rattle.rules.specs.declared.Closed.{Closed}
 use Rattle.engine.specs.Windows.{Window, DaysOf, dayBy}
 use Rattle.engine.specs.declared.Days.{Days}
-use Rattle.rules.specs.Rules.{fileAt, ruleIs, holidaysIs, RuleFits, ClosedFits, All}
+use Rattle.rules.specs.Rules.{fileAt, ruleIs, All}
 
 -- ---- the dates of a rule
 
@@ -105,114 +101,6 @@ all-front P n l i x h k a =
     let e : length (take n l) ≡ n = length-take-le n l k in
     rw (getD-take n l i x) at (all-at P (take n l) i x (omega arith) a)
 
--- ---- a turn of either loop
-
--- what the dates of a window show is what the rule has in it
-rule-shows : (r : Rule) (lo hi a b : ℕ) → a ≡ firstDate (r .zone) lo → b ≡ lastDate (r .zone) hi → shown (r .on) (pieceOf r lo hi) (run a (b + 1 - a)) ≡ blocksOf lo hi r
-unfolding blocksOf localDates pieceOf
-rule-shows r lo hi a b p q = rw (p, q)
-
--- the blocks in front of w, and those that the dates from d to last show
-abbrev pub datesFrom : Rule → ℕ → ℕ → ℕ → List Item → ℕ → ℕ → List Block
-datesFrom r lo hi last out w d = front w out ++ shown (r .on) (pieceOf r lo hi) (run d (last + 1 - d))
-
--- the dates from d on are to come: `whole` is what the list holds in the end, `top` how many it then has at most
-pub record Dating (r : Rule) (lo hi last : ℕ) (whole : List Block) (top : ℕ) (out : List Item) (w d : ℕ) : Type 0 where
-  pub same : datesFrom r lo hi last out w d ≡ whole
-  pub count : w + (last + 1 - d) ≤ top
-  pub long : length out ≡ 672
-
-past-count : (s e w k : ℕ) → k ≡ (if ltb s e then w + 1 else w) → k ≤ w + 1
-past-count s e w k h = by-test (ltb s e) (λ t. let q : k ≡ w + 1 = h ∙ rw t in omega arith) (λ t. let q : k ≡ w = h ∙ rw t in omega arith)
-
-pub dating-starts : (r : Rule) (lo hi last : ℕ) (out : List Item) (w d : ℕ) → length out ≡ 672
-    → Dating r lo hi last (datesFrom r lo hi last out w d) (w + (last + 1 - d)) out w d × (d ≤ d)
-dating-starts r lo hi last out w d l = (record { same = refl; count = omega arith; long = l }, omega arith)
-
-module _ (r : Rule) (lo hi last : ℕ) (whole : List Block) (top : ℕ) (out : List Item) (w d : ℕ) (m : Dating r lo hi last whole top out w d) where
-  pub dating-room : d ≤ last → top ≤ 672 → w < 672
-  dating-room h k = let a = m .count in omega arith
-
-  -- a date that is on: what it shows is stored at w and counted by `past`
-  pub dating-on : top ≤ 672 → d ≤ last → r .on d ≡ true → (x : Item) → held x ≡ pieceOf r lo hi d
-      → (k : ℕ) → k ≡ (if ltb (nanos (x .start)) (nanos (x .end)) then w + 1 else w) → Dating r lo hi last whole top (set out w x) k (d + 1)
-  unfolding held
-  dating-on u h t x e k c =
-      let a = m .count in let b = m .long in
-      let p = past-count (nanos (x .start)) (nanos (x .end)) w k c in
-      let q : w < length out = omega arith in
-      record {
-        same = date-on (r .on) (pieceOf r lo hi) d last (front w out) whole (m .same) h t (front k (set out w x)) (stored out w x k c q ∙ ap (λ (l : List Block). front w out ++ l) e);
-        count = omega arith;
-        long = length-set out w x ∙ m .long;
-      }
-
-  pub dating-off : d ≤ last → r .on d ≡ false → Dating r lo hi last whole top out w (d + 1)
-  dating-off h t = let a = m .count in record { same = date-off (r .on) (pieceOf r lo hi) d last (front w out) whole (m .same) h t; count = omega arith; long = m .long }
-
--- the dates of a window are done: what the rule has in it is behind the blocks that were there
-pub dating-done : (r : Rule) (lo hi : Instant) (days : Days) → DaysOf (r .zone) lo hi days → (out₀ : List Item) (w₀ : ℕ) (out : List Item) (w d : ℕ)
-    → Dating r (nanos lo) (nanos hi) (days .last) (datesFrom r (nanos lo) (nanos hi) (days .last) out₀ w₀ (days .first)) (w₀ + (days .last + 1 - days .first)) out w d
-    → days .last < d → (front w out ≡ front w₀ out₀ ++ blocksOf (nanos lo) (nanos hi) r) × (w ≤ w₀ + 21)
-dating-done r lo hi days q out₀ w₀ out w d m h =
-    let a = m .count in let f = q .few in (
-      dates-done (r .on) (pieceOf r (nanos lo) (nanos hi)) d (days .last) (front w out) (datesFrom r (nanos lo) (nanos hi) (days .last) out₀ w₀ (days .first)) (m .same) h
-          ∙ ap (λ (l : List Block). front w₀ out₀ ++ l) (rule-shows r (nanos lo) (nanos hi) (days .first) (days .last) (q .first-is) (q .last-is)),
-      omega arith,
-    )
-
-maps : {A B C : Type 0} (f : B → C) (g : A → B) (l : List A) → map f (map g l) ≡ map (λ (a : A). f (g a)) l
-maps f g [] = refl
-maps f g (a ∷ l) = ap (λ t. f (g a) ∷ t) (maps f g l)
-
-module _ {A : Type 0} (lo hi : ℕ) (h : A → Rule) (n : ℕ) (rules : List A) where
-  -- the blocks in front of w, and those of the rules from i on
-  abbrev pub rulesFrom : List Item → ℕ → ℕ → List Block
-  rulesFrom out w i = front w out ++ restOf (λ (a : A). blocksOf lo hi (h a)) n rules i
-
-  -- the rules from i on are to come; each shows at most 21 dates
-  pub record Ruling (start : ℕ) (whole : List Block) (out : List Item) (w i : ℕ) : Type 0 where
-    pub same : rulesFrom out w i ≡ whole
-    pub count : w ≤ start + i * 21
-    pub upto : i ≤ n
-    pub fits : n ≤ length rules
-    pub long : length out ≡ 672
-
-  pub ruling-starts : (out : List Item) (w : ℕ) → n ≤ length rules → length out ≡ 672 → Ruling w (rulesFrom out w 0) out w 0
-  ruling-starts out w f l = record { same = refl; count = omega arith; upto = omega arith; fits = f; long = l }
-
-  module _ (start : ℕ) (whole : List Block) (out : List Item) (w i : ℕ) (m : Ruling start whole out w i) where
-    -- there is room for the dates of one more rule
-    pub ruling-room : (z : Zone) (a b : Instant) (days : Days) → DaysOf z a b days → start ≤ 336 → n ≤ 16 → i < n → w + (days .last + 1 - days .first) ≤ 672
-    ruling-room z a b days q p r t = let c = m .count in let f = q .few in omega arith
-
-    pub ruling-turn : i < n → (x : A) (out′ : List Item) (w′ : ℕ) → length out′ ≡ 672 → front w′ out′ ≡ front w out ++ blocksOf lo hi (h (getD rules i x)) → w′ ≤ w + 21
-        → Ruling start whole out′ w′ (i + 1)
-    ruling-turn t x out′ w′ l e c =
-        let a = m .count in let k = m .fits in
-        let g : A → List Block = λ (a : A). blocksOf lo hi (h a) in
-        record {
-          same = ap (λ (t : List Block). t ++ restOf g n rules (i + 1)) e
-              ∙ append-assoc (front w out) (g (getD rules i x)) (restOf g n rules (i + 1))
-              ∙ ap (λ (t : List Block). front w out ++ t) (sym (rest-more g n rules i x t k)) ∙ m .same;
-          count = omega arith;
-          upto = omega arith;
-          fits = k;
-          long = l;
-        }
-
-    pub ruling-length : n ≤ 16 → start ≤ 336 → w ≡ length (front w out)
-    ruling-length u v = let a = m .count in let b = m .upto in let c = m .long in sym (front-length blockOf w out (omega arith))
-
-  -- the rules are done
-  pub ruling-done : (out₀ : List Item) (start : ℕ) (out : List Item) (w i : ℕ) → Ruling start (rulesFrom out₀ start 0) out w i → n ≤ i
-      → front w out ≡ front start out₀ ++ blocksOfAll lo hi (map h (take n rules))
-  ruling-done out₀ start out w i m t =
-      let a = m .upto in let e : i ≡ n = omega arith in
-      let g : A → List Block = λ (a : A). blocksOf lo hi (h a) in
-      sym (append-nil (front w out)) ∙ ap (λ (t : List Block). front w out ++ t) (sym (ap (restOf g n rules) e ∙ rest-end g n rules (m .fits))) ∙ m .same
-      ∙ ap (λ (t : List (List Block)). front start out₀ ++ joined t) (sym (maps (blocksOf lo hi) h (take n rules)))
-
 -- ---- rules and holiday records of the code
 
 -- whichever dates a rule is on, it shows the same of one
@@ -281,34 +169,14 @@ in-moved f g z lo hi days d e w q a b =
     let p = q .first-is in let r = q .last-is in
     rw e (record { order = w .order; first = omega arith; last = omega arith })
 
-pub rule-opened : (p : List ℕ) (n : ℕ) (l : List Rule′) (i : ℕ) (x : Rule′) → i < n → n ≤ length l → All (RuleFits p) (take n l)
-    → ZoneOk (fileAt p (getD l i x .at) (getD l i x .len)) (getD l i x .zone)
-rule-opened p n l i x h k a = all-front (RuleFits p) n l i x h k a .opened
-
 pub rule-piece : (p f : List ℕ) (r : Rule′) (lo hi d : ℕ) (x : Item) → f ≡ fileAt p (r .at) (r .len)
     → held x ≡ pieceOf (during (meant f (r .zone)) (timeIn (r .from)) (timeIn (r .to))) lo hi d → held x ≡ pieceOf (ruleIs p r) lo hi d
 rule-piece p f r lo hi d x e h =
     h ∙ ap (λ (f : List ℕ). pieceOf (during (meant f (r .zone)) (timeIn (r .from)) (timeIn (r .to))) lo hi d) e ∙ piece-any (ruleIs p r) lo hi d
 
--- the rule of a holiday record
-abbrev pub closedRule : List ℕ → List ℕ → Closed → Rule
-closedRule b p c = holidayRule (holidaysIs b p c)
-
-pub closed-opened : (b p : List ℕ) (n : ℕ) (l : List Closed) (i : ℕ) (x : Closed) → i < n → n ≤ length l → All (ClosedFits b p) (take n l)
-    → ZoneOk (fileAt p (getD l i x .at) (getD l i x .len)) (getD l i x .zone)
-closed-opened b p n l i x h k a = all-front (ClosedFits b p) n l i x h k a .opened
-
-pub closed-inside : (b p : List ℕ) (n : ℕ) (l : List Closed) (i : ℕ) (x : Closed) → i < n → n ≤ length l → All (ClosedFits b p) (take n l)
-    → getD l i x .dates + 4 * getD l i x .count ≤ length b
-closed-inside b p n l i x h k a = all-front (ClosedFits b p) n l i x h k a .inside
-
 pub closed-piece : (f g : List ℕ) (z : Zone′) (lo hi d : ℕ) (x : Item) → f ≡ g
     → held x ≡ pieceOf (during (meant f z) 0 0) lo hi d → held x ≡ pieceOf (during (meant g z) 0 0) lo hi d
 closed-piece f g z lo hi d x e h = h ∙ ap (λ (f : List ℕ). pieceOf (during (meant f z) 0 0) lo hi d) e
-
--- a holiday record shows of a date what takes all of it does
-pub closed-shows : (h : Holidays) (lo hi d : ℕ) (x : Item) → held x ≡ pieceOf (during (h .zone) 0 0) lo hi d → held x ≡ pieceOf (holidayRule h) lo hi d
-closed-shows h lo hi d x e = e ∙ piece-any (holidayRule h) lo hi d
 
 -- a date is among the distinct ones if it is among them
 pub among-distinct : (l : List ℕ) (n : ℕ) → among (distinct l) n ≡ among l n
@@ -321,7 +189,3 @@ among-distinct (m ∷ l) n =
     (λ u. let e : n ≡ m = eqb-true n m u in rw u (ap (among l) e ∙ t))
     (λ u. rw u)))
     (λ t. rw t (by-test (eqb n m) (λ u. rw u) (λ u. rw u ih)))
-
-pub closed-done : (lo hi : ℕ) (b p : List ℕ) (l : List Closed) (base all : List Block) → all ≡ base ++ blocksOfAll lo hi (map (closedRule b p) l)
-    → all ≡ base ++ blocksOfAll lo hi (map holidayRule (map (holidaysIs b p) l))
-closed-done lo hi b p l base all e = e ∙ ap (λ (t : List Rule). base ++ blocksOfAll lo hi t) (sym (maps holidayRule (holidaysIs b p) l))

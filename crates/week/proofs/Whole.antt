@@ -84,7 +84,7 @@ module _ (lo hi : ℕ) where
         let a2 : Apart lo p = rw eg (rules-apart lo hi (s .breaks)) in
         let a3 : Apart lo c = rw eh (rules-apart lo hi (map holidayRule (s .holidays))) in
         let x : pairs n l ≡ onward lo (union W) = filled-first l₀ b k l n f a1 ∙ ap (λ (y : List Block). onward lo (union y)) e in
-        let z : p ++ c ≡ O = off-is s w lo hi p (p ++ c) eg (ap (λ (y : List Block). p ++ y) eh) in
+        let z : p ++ c ≡ O = off-is s lo hi p (p ++ c) eg (ap (λ (y : List Block). p ++ y) eh) in
         let y : pairs m o ≡ onward lo (union O) = filled-second o₀ p i o₁ m₁ g a2 c j o m h a3 ∙ ap (λ (y : List Block). onward lo (union y)) z in
         let u = union-apart lo W (rules-apart lo hi (s .work)) in
         let v = union-apart lo O (rules-apart lo hi (offRules s)) in

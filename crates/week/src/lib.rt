@@ -1,5 +1,5 @@
 // The working time of a window of at most seven days as pairs of numbers in lent memory: the blocks' borders in nanoseconds from the window's start.
-// The same as `engine::working_time` gives by value, but no list is copied.
+// No list is copied.
 ghost use mathlib.Core.Path.{_≡_};
 ghost use Prim.Native.Nat.{_+_, _*_, _≤_};
 ghost use lib.ListN.{length};

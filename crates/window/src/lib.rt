@@ -1,5 +1,5 @@
-// What one record has in a window of at most seven days, or one rule in one of at most 14, as pairs of numbers in lent memory: the blocks' borders in
-// nanoseconds from the window's start. Each piece is added in place to a list that stays sorted and apart, so that no list is copied.
+// What one record has in a window of at most seven days, as pairs of numbers in lent memory: the blocks' borders in nanoseconds from the window's
+// start. Each piece is added in place to a list that stays sorted and apart, so that no list is copied.
 ghost use mathlib.Core.Path.{_≡_};
 ghost use Prim.Native.Nat.{_+_, _*_, _-_, _≤_, _<_};
 ghost use lib.ListN.{length};
@@ -214,31 +214,6 @@ pub fn till(a: u64, b: u64) -> u64
 pub fn rule_into(pack: &[u8], r: Rule, lo: Instant, hi: Instant, out: &mut [u64], w: usize) -> usize
     requires { ⌜ RuleFits (now pack) r × Window 7 lo hi × Ready (now out) w 14 ⌝ }
     ensures { λ n. ⌜ Filled (nanos lo) (now (out .entry)) w (blocksOf (nanos lo) (nanos hi) (ruleIs (now (pack .entry)) r)) 14 (now (out .exit)) n ⌝ }
-{
-    let z = r.zone;
-    let days = engine::days_in(pack, r.at, r.len, z, lo, hi);
-    let f = frame_of(days, lo, hi);
-    if f.first == 0 {
-        return dates_into(pack, r, days, lo, hi, out, w);
-    }
-    let from = r.from;
-    let to = r.to;
-    let a = time_in(from);
-    let b = till(a, time_in(to));
-    plain_into(f, days.first, days.last, r.days, a, b, out, w)
-}
-
-// The same for a window of at most 14 days, which has at most 21 dates.
-pub fn two_weeks_into(
-    pack: &[u8],
-    r: Rule,
-    lo: Instant,
-    hi: Instant,
-    out: &mut [u64],
-    w: usize,
-) -> usize
-    requires { ⌜ RuleFits (now pack) r × Window 14 lo hi × Ready (now out) w 21 ⌝ }
-    ensures { λ n. ⌜ Filled (nanos lo) (now (out .entry)) w (blocksOf (nanos lo) (nanos hi) (ruleIs (now (pack .entry)) r)) 21 (now (out .exit)) n ⌝ }
 {
     let z = r.zone;
     let days = engine::days_in(pack, r.at, r.len, z, lo, hi);
