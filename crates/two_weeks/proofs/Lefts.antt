@@ -25,7 +25,7 @@ use Rattle.rules.specs.declared.Rule.{Rule as Rule′}
 use Rattle.shifts.specs.Shown.{Listed}
 use Rattle.window.proofs.Laws.{Apart, apart-onward, union-onward, subtract-onward}
 use Rattle.week.proofs.Whole.{rules-apart, union-apart}
-use Rattle.two_weeks.specs.Left.{some, leaves}
+use Rattle.two_weeks.specs.Left.{some, leaves, UnionOf}
 
 -- ---- one block
 
@@ -218,14 +218,15 @@ abbrev end : ℕ → ℕ
 end t = t + 1209600000000000
 
 -- the union of a filled list
-module _ (p : List ℕ) (rules : List Rule′) (n : ℕ) (lo hi : Instant) (b : Blocks) (f : Listed p rules n lo hi b) (l : List Block′) (e : l ≡ union (listOf b)) where
-  pub union-is : l ≡ union (onward (nanos lo) (blocksOfAll (nanos lo) (nanos hi) (map (ruleIs p) (take n rules))))
-  union-is = e ∙ ap union (f .same)
-
-  pub union-sorted : Normal l
-  union-sorted =
-      let t : ℕ = nanos lo in let o : List Block′ = blocksOfAll t (nanos hi) (map (ruleIs p) (take n rules)) in
-      rw union-is (union-normal (onward t o) (apart-onward t o (rules-apart t (nanos hi) (map (ruleIs p) (take n rules)))))
+pub union-is : (p : List ℕ) (rules : List Rule′) (n : ℕ) (lo hi : Instant) (b r : Blocks) → Listed p rules n lo hi b → listOf r ≡ union (listOf b) → r .len ≤ b .len → UnionOf p rules n lo hi r
+union-is p rules n lo hi b r f e k =
+    let t : ℕ = nanos lo in
+    let o : List Block′ = blocksOfAll t (nanos hi) (map (ruleIs p) (take n rules)) in
+    let q : listOf r ≡ union (onward t o) = e ∙ ap union (f .same) in
+    record {
+      same = q;
+      merged = record { few = omega (arith, f .few); normal = rw q (union-normal (onward t o) (apart-onward t o (rules-apart t (nanos hi) (map (ruleIs p) (take n rules))))) };
+    }
 
 module _ (s : Schedule) (t : ℕ) (z : t ≡ 391337827200000000000) (on : List Block′) (e : on ≡ union (onward t (blocksOfAll t (end t) (s .work)))) where
   module _ (off : List Block′) (f : off ≡ union (onward t (blocksOfAll t (end t) (s .breaks)))) where

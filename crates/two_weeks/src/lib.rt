@@ -1,13 +1,25 @@
 // Whether a schedule has work at all: in two weeks of 2001, without breaks, holidays ignored. The blocks of work and those of breaks go into a block list
 // each, which is sorted and merged in its own array. Then the two lists are gone through together, until a block of work is found that is not taken whole.
 ghost use mathlib.Core.Path.{_≡_};
+ghost use Prim.Native.Nat.{_≤_};
+ghost use lib.ListN.{take};
 ghost use Rattle.model.specs.Build.{worksIn2001};
-ghost use Rattle.rules.specs.Rules.{scheduleIs, ScheduleFits};
+ghost use Rattle.rules.specs.Rules.{scheduleIs, RuleFits, ScheduleFits, All};
+ghost use Rattle.engine.specs.Windows.{Window};
 ghost use Rattle.block_list.specs.Listed.{listOf};
-ghost use Rattle.two_weeks.specs.Left.{leaves, Merged};
+ghost use Rattle.two_weeks.specs.Left.{leaves, Merged, UnionOf};
 use block_list::Blocks;
 use instant::Instant;
+use rules::Rule;
 use rules::Schedule;
+
+// The union of the blocks that the first n rules have in the window. It is a function of its own, so that the list is copied once.
+fn union_of(rules: [Rule; 16], n: usize, pack: &[u8], lo: Instant, hi: Instant) -> Blocks
+    requires { ⌜ (n ≤ 16) × All (RuleFits (now pack)) (take n rules) × Window 14 lo hi ⌝ }
+    ensures { λ r. ⌜ UnionOf (now (pack .entry)) rules n lo hi r ⌝ }
+{
+    list_union::union(shifts::shift_blocks(rules, n, pack, lo, hi))
+}
 
 // Is anything of `on` left without `off`? The blocks of either list are apart, so a block is taken whole only by one that covers it.
 fn any_left(on: Blocks, off: Blocks) -> bool
@@ -53,11 +65,11 @@ pub fn has_work(book: &[u8], pack: &[u8], s: Schedule) -> bool
         ns: 0,
     };
     let work = s.work;
-    let on = list_union::union(shifts::shift_blocks(work, s.works, pack, lo, hi));
+    let on = union_of(work, s.works, pack, lo, hi);
     if s.pauses == 0 {
         return 0 < on.len;
     }
     let breaks = s.breaks;
-    let off = list_union::union(shifts::shift_blocks(breaks, s.pauses, pack, lo, hi));
+    let off = union_of(breaks, s.pauses, pack, lo, hi);
     any_left(on, off)
 }
