@@ -1,7 +1,7 @@
 #!/usr/bin/env python3
 """Writes what the test programs test_clock_* are run on, and what they must write.
 
-    tools/clock_cases.py
+usage: tools/clock_cases.py
 
 Writes stdin, stdout and data/ of the four crates. The book and the pack are those of sample/. The answers come from compare/second.py, not from the
 program that is to be compared. The same lines come out each time.
@@ -60,6 +60,8 @@ def write(name, data, stdin):
     (crate / "stdout").write_bytes(subprocess.run(command, input=stdin, stdout=subprocess.PIPE, check=True).stdout)
 
 
+if len(sys.argv) > 1:
+    sys.exit(__doc__)
 few = queries(4, 400)
 write("test_clock_long", {"book.bin": BOOK, "zones.bin": PACK}, queries(1, PIECE + 400))
 write("test_clock_no_book", {"zones.bin": PACK}, few)

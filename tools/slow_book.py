@@ -1,7 +1,7 @@
 #!/usr/bin/env python3
 """Writes a book and a pack for which the program may skip no window, and a query line over the whole range.
 
-    tools/slow_book.py FOLDER
+usage: tools/slow_book.py FOLDER
 
 FOLDER gets book.bin, zones.bin and queries: 16 work and 16 break records, each in a zone of its own that changes its offset on two days of the year,
 and 8 holiday records with 512 dates. The changes of all zones are some six days apart, so that one lies near every border of two windows.
@@ -38,8 +38,8 @@ def named(name, body):
 
 
 def main():
-    if len(sys.argv) != 2:
-        sys.exit("usage: slow_book.py FOLDER")
+    if len(sys.argv) != 2 or sys.argv[1].startswith("-"):
+        sys.exit(__doc__)
     folder = Path(sys.argv[1])
     folder.mkdir(parents=True, exist_ok=True)
     names = [f"Zone/{k}" for k in range(ZONES)]

@@ -1,7 +1,7 @@
 #!/usr/bin/env python3
 """Measures how much stack the program and each public call need.
 
-    tools/stack.py [FOLDER..]
+usage: tools/stack.py [FOLDER..]
 
 Each FOLDER has a book.bin and a zones.bin (sample/ where none is told). Builds target/staticlib/libbench_stack.a by `rt staticlib bench_stack` and
 target/bin/clock by `rt check clock` unless they are newer than the code, and a small program in C over the archive. Needs cc and objdump. Prints, in bytes:
@@ -225,6 +225,8 @@ def least_limit(program, folder):
 
 
 def main():
+    if sys.argv[1:2] and sys.argv[1].startswith("-"):
+        sys.exit(__doc__)
     folders = [Path(f).resolve() for f in sys.argv[1:]] or [ROOT / "sample"]
     with tempfile.TemporaryDirectory() as place:
         driver, program = build(Path(place))

@@ -1,7 +1,7 @@
 #!/usr/bin/env python3
 """Makes the zone files, the questions and the expected answers of the program zone_calls_test.
 
-usage: zone_questions.py ZONEINFO CRATE
+usage: tools/zone_questions.py ZONEINFO CRATE
 
 ZONEINFO is a folder of compiled zone files (Debian's package tzdata installs one), CRATE the folder crates/zone_calls_test. data/zones.bin gets the files of the
 zones named below, one behind the other; data/questions.bin the questions, 52 bytes each: which call, the file's place and length, 4 bytes each, then five
@@ -156,4 +156,6 @@ def main(folder, crate):
 
 
 if __name__ == "__main__":
+    if len(sys.argv) != 3 or sys.argv[1].startswith("-"):
+        sys.exit(__doc__)
     main(sys.argv[1], sys.argv[2])
