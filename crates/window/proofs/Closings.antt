@@ -1,31 +1,29 @@
 -- The dates of a holiday record in one pass, in whichever order they are written: what a turn keeps. Assumes nothing.
 use mathlib.Core.Path.{_≡_, refl, sym, _∙_, ap, ap₂}
 use mathlib.Core.Bool.{Bool, true, false}
-use mathlib.Core.List.{List, [], _∷_, _++_, map, append-assoc, append-nil}
+use mathlib.Core.List.{List, [], _∷_, _++_, append-nil}
 use mathlib.Core.Logic.{_⊎_, inl, inr, ⊎-elim, _↔_}
 use Prim.Native.Nat.{ℕ, zero, suc, _+_, _*_, _-_, _≤_, _<_}
 use native.Mathlib.Nat.{eq-or-lt-of-le}
 use native.Mathlib.Omega.{arith}
-use borrow.Author.Tests.{eqb-true, eq-eqb, ne-eqb, leb-false, le-leb, lt-leb}
-use lib.Dec.{eqb, leb}
-use lib.ListN.{length, getD, length-append, length-map}
-use Rattle.model.specs.Basic.{if_then_else_, isIn, any, among, filter, run, joined}
+use borrow.Author.Tests.{eqb-true, eq-eqb, ne-eqb}
+use lib.Dec.{eqb}
+use lib.ListN.{length, length-append, length-map}
+use Rattle.model.specs.Basic.{any, among, filter, run, joined}
 use Rattle.model.specs.Blocks.{Block, block, union}
-use Rattle.model.specs.Calendar.{isDate, dayNumber, yearOf, daysBeforeYear}
 use Rattle.model.specs.Walk.{onward}
-use Rattle.laws_calendar.specs.Dates.{Within, has-within, is-had, date-facts, year-within, year-mono}
-use Rattle.model.specs.Working.{Rule, holidayRule, firstDate, lastDate, blocksOf}
-use Rattle.laws_base.specs.Test.{by-test, both-and, clash}
+use Rattle.model.specs.Working.{holidayRule, firstDate, lastDate, blocksOf}
+use Rattle.laws_base.specs.Test.{by-test, clash}
 use Rattle.laws_blocks.specs.Members.{In, NonEmpty, Normal, append-in, append-nonempty, chain-nonempty, union-normal, union-same, union-again}
 use Rattle.laws_blocks.specs.Count672.{union-length}
-use Rattle.book.specs.Meaning.{yearAt, dayAt, datesAt}
+use Rattle.book.specs.Meaning.{dayAt, datesAt}
 use Rattle.rules.specs.declared.Closed.{Closed}
 use Rattle.rules.specs.Rules.{holidaysIs}
 use Rattle.dates.specs.Dates.{pieceOf}
 use Rattle.engine.proofs.Fill.{shown, among-distinct}
 use Rattle.pairs.specs.Pairs.{part, pairs}
 use Rattle.window.specs.Filled.{Filled, Ready}
-use Rattle.window.proofs.Laws.{Apart, apart-both, apart-onward, union-onto, union-steps, onward-append}
+use Rattle.window.proofs.Laws.{Apart, apart-both, apart-onward, union-steps, onward-append}
 use Rattle.window.proofs.Fills.{apart-shown}
 use Rattle.window.proofs.Frames.{rule-shows}
 
@@ -257,32 +255,3 @@ closed-shows b p c lo hi first last e g =
     shown-same (among (datesAt b (c .dates) (c .count))) (holidayRule (holidaysIs b p c) .on) (pieceOf (holidayRule (holidaysIs b p c)) lo hi) (last + 1 - first) first
     (λ x a z. sym (among-distinct (datesAt b (c .dates) (c .count)) x))
     ∙ rule-shows (holidayRule (holidaysIs b p c)) lo hi first last e g
-
--- ---- the years of a window
-
--- a date of another year is not in it
-pub year-out : (b : List ℕ) (p first last from : ℕ) → 0 < first → from ≤ yearOf first → isIn from (yearOf last) (yearAt b p) ≡ false → (dayAt b p < first) ⊎ (last < dayAt b p)
-unfolding dayAt
-year-out b p first last from z h e =
-    let y : ℕ = yearAt b p in
-    by-test (isDate y (getD b (p + 2) 0) (getD b (p + 3) 0))
-    (λ t.
-    let w : Within (dayNumber y (getD b (p + 2) 0) (getD b (p + 3) 0)) y = has-within (is-had (date-facts t)) in
-    let f = year-within first in let l = year-within last in
-    by-test (leb from y)
-    (λ u. by-test (leb y (yearOf last))
-    (λ v. clash true refl (sym (both-and (leb from y) (leb y (yearOf last)) u v) ∙ e))
-    (λ v. let k = year-mono {a = yearOf last + 1} {b = y} (let x = leb-false y (yearOf last) v in omega arith) in rw t (inr (let a = w .from in let c = l .to in omega arith))))
-    (λ u. let k = year-mono {a = y + 1} {b = yearOf first} (let x = leb-false from y u in omega arith) in rw t (inl (let a = w .to in let c = f .from in omega arith))))
-    (λ t. rw t (inl z))
-
-pub in-low : (from to y x : ℕ) → x ≡ y → x < from → false ≡ isIn from to y
-in-low from to y x e h = rw (lt-leb from y (omega arith))
-
-pub in-high : (from to y x : ℕ) → x ≡ y → from ≤ x → leb x to ≡ isIn from to y
-in-high from to y x e h = rw (le-leb from y (omega arith)) (ap (λ (k : ℕ). leb k to) e)
-
--- the same by the code's test
-pub year-not : (b : List ℕ) (p first last from to : ℕ) (r : Bool) → 0 < first → from ≤ yearOf first → to ≡ yearOf last → r ≡ isIn from to (yearAt b p) → r ≡ false
-    → (dayAt b p < first) ⊎ (last < dayAt b p)
-year-not b p first last from to r z h e q t = year-out b p first last from z h (sym (ap (λ (k : ℕ). isIn from k (yearAt b p)) e) ∙ sym q ∙ t)

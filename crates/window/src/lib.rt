@@ -5,15 +5,15 @@ ghost use Prim.Native.Nat.{_+_, _*_, _-_, _≤_, _<_};
 ghost use lib.ListN.{length};
 ghost use Rattle.model.specs.Basic.{isIn};
 ghost use Rattle.model.specs.Blocks.{clipped};
-ghost use Rattle.model.specs.Calendar.{yearOf};
 ghost use Rattle.model.specs.Working.{blocksOf, holidayRule};
 ghost use Rattle.instant.specs.Instant.{nanos};
 ghost use Rattle.zone.specs.Zones.{meant, ZoneOk};
-ghost use Rattle.book.specs.Meaning.{timeIn, yearAt};
+ghost use Rattle.book.specs.Meaning.{timeIn, dayAt};
 ghost use Rattle.rules.specs.Rules.{fileAt, ruleIs, holidaysIs, RuleFits, ClosedFits, TimeFits};
 ghost use Rattle.dates.specs.Dates.{held, pieceOf, during, tillTime};
 ghost use Rattle.engine.specs.Windows.{Window, DaysOf};
 ghost use Rattle.window.specs.Filled.{Inside, Filled, Ready, IsFrame, plain};
+ghost use Rattle.window.specs.Ranks.{rankAt, rankOf, dayBy};
 use blocks::Block;
 use book::Time;
 use engine::Days;
@@ -260,48 +260,69 @@ fn free_into(
 }
 
 // A byte as a wider number.
-fn wide(x: u8) -> u32
+fn wide(x: u8) -> u64
     ensures { λ r. ⌜ (r ≡ x) × (r < 256) ⌝ }
 {
-    x as u32
+    x as u64
 }
 
-// The year of the date at p, counted from -10400; 0 for the years before.
-fn year_at(b: &[u8], p: usize) -> u32
+// The rank of what is written at p: its four bytes as one number, in which the years before 0 come first.
+fn rank_at(b: &[u8], p: usize) -> u32
     requires { ⌜ p + 4 ≤ length (now b) ⌝ }
-    ensures { λ r. ⌜ r ≡ yearAt (now (b .entry)) p ⌝ }
+    ensures { λ r. ⌜ (r ≡ rankAt (now (b .entry)) p) × (dayBy r ≡ dayAt (now (b .entry)) p) ⌝ }
 {
-    let y = (wide(b[p]) * 256 + wide(b[p + 1]) + 32768) % 65536;
-    if y < 22368 {
-        return 0;
-    }
-    y - 22368
+    let n = wide(b[p]) * 16777216 + wide(b[p + 1]) * 65536 + wide(b[p + 2]) * 256 + wide(b[p + 3]);
+    ((n + 2147483648) % 4294967296) as u32
 }
 
-// Whether the date at p is of one of the years from `from` to `to`.
-fn in_years(b: &[u8], p: usize, from: u32, to: u32) -> bool
-    requires { ⌜ p + 4 ≤ length (now b) ⌝ }
-    ensures { λ r. ⌜ r ≡ isIn from to (yearAt (now (b .entry)) p) ⌝ }
+// Whether k is one of the ranks from `from` to `to`.
+fn in_ranks(k: u32, from: u64, to: u64) -> bool
+    ensures { λ r. ⌜ r ≡ isIn from to k ⌝ }
 {
-    let y = year_at(b, p);
-    if y < from {
+    let n = k as u64;
+    if n < from {
         return false;
     }
-    y <= to
+    n <= to
 }
 
-// The year of a day; 0 for a day behind those that the calendar has.
-fn year_from(day: u32) -> u32
-    ensures { λ r. ⌜ r ≤ yearOf day ⌝ }
+// The day of the date that has the rank k, 0 where it is no date's. Years are counted from -10400, those of ranks from -32768.
+fn day_by(k: u32) -> u32
+    ensures { λ r. ⌜ r ≡ dayBy k ⌝ }
+{
+    if k / 65536 < 22368 {
+        return 0;
+    }
+    let year = k / 65536 - 22368;
+    let month = k / 256 % 256;
+    let day = k % 256;
+    if !civil::is_date(year, month, day) {
+        return 0;
+    }
+    civil::day_number(year, month, day)
+}
+
+// The rank of a day's date.
+fn rank_of(day: u32) -> u64
+    requires { ⌜ day < 7597044 ⌝ }
+    ensures { λ r. ⌜ r ≡ rankOf day ⌝ }
+{
+    let d = civil::date_of(day);
+    (d.year as u64 + 22368) * 65536 + d.month as u64 * 256 + d.day as u64
+}
+
+// The same; 0 for a day behind those that the calendar has.
+fn rank_from(day: u32) -> u64
+    ensures { λ r. ⌜ r ≤ rankOf day ⌝ }
 {
     if day < 7597044 {
-        return civil::year_of(day);
+        return rank_of(day);
     }
     0
 }
 
 // Adds the dates of a holiday record that the window has, by one pass over the record's dates, from the last to the first. The day is
-// counted only of a date whose year the window has.
+// counted only of a date whose rank is that of a date of the window.
 pub fn closed_into(
     book: &[u8],
     pack: &[u8],
@@ -319,16 +340,17 @@ pub fn closed_into(
     let f = frame_of(days, lo, hi);
     let first = days.first;
     let last = days.last;
-    let from = year_from(first);
-    let to = civil::year_of(last);
+    let from = rank_from(first);
+    let to = rank_of(last);
     let mut n = w;
     let mut left = c.count;
     let mut at = c.dates + 4 * c.count;
     while 0 < left {
         left -= 1;
         at -= 4;
-        if in_years(book, at, from, to) {
-            let d = book::date_at(book, at);
+        let k = rank_at(book, at);
+        if in_ranks(k, from, to) {
+            let d = day_by(k);
             if first <= d {
                 if d <= last {
                     n = free_into(pack, c, days, f, d, lo, hi, out, n);

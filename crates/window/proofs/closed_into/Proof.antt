@@ -9,7 +9,8 @@ use Rattle.instant.specs.Instant.{nanos}
 use Rattle.window.proofs.Fills.{Dating, dating-starts, dating-ready, dating-on, dating-off, dating-done, filled-as, filled-same, piece-in, piece-out, span-in, span-out}
 use Rattle.window.proofs.Frames.{shown-inside, rule-shows, few-dates, offset-small, rule-plain, free-plain, piece-any, piece-apart, piece-short, on-date, till-here, till-next, plain-as}
 use Rattle.engine.proofs.Whole.{window-longer}
-use Rattle.window.proofs.Closings.{Closing, closing-starts, closing-ready, closing-on, closing-off, closing-done, closed-shows, year-not}
+use Rattle.window.proofs.Closings.{Closing, closing-starts, closing-ready, closing-on, closing-off, closing-done, closed-shows}
+use Rattle.window.proofs.Order.{rank-not}
 use Rattle.model.specs.Working.{holidayRule}
 use Rattle.rules.specs.Rules.{holidaysIs}
 use Rattle.dates.specs.Dates.{pieceOf}
@@ -29,11 +30,11 @@ days-in-requires c κs = ((c .before .before .before .before .pre .0 .opened), w
 frame-of-requires : tie.Need-frame-of-requires Inv-loop μ-loop
 frame-of-requires c κs = (window-longer _ _ (c .before .before .before .before .before .pre .1), offset-small _ _ _ _ _ (c .before .before .before .before .before .pre .0 .opened) (window-longer _ _ (c .before .before .before .before .before .pre .1)) (c .days-in .ensures))
 
-year-from-requires : tie.Need-year-from-requires Inv-loop μ-loop
-year-from-requires c κs = search needs
+rank-from-requires : tie.Need-rank-from-requires Inv-loop μ-loop
+rank-from-requires c κs = search needs
 
-year-of-requires : tie.Need-year-of-requires Inv-loop μ-loop
-year-of-requires c κs = omega (arith, (c .before .before .days-in .ensures .high))
+rank-of-requires : tie.Need-rank-of-requires Inv-loop μ-loop
+rank-of-requires c κs = omega (arith, (c .before .before .days-in .ensures .high))
 
 mul-at : tie.Need-mul-at Inv-loop μ-loop
 mul-at c = omega (arith, (c .before .before .before .before .before .before .before .before .before .pre .0 .inside))
@@ -50,38 +51,41 @@ sub-left c = omega (arith, (c .loop-test .taken))
 sub-at : tie.Need-sub-at Inv-loop μ-loop
 sub-at c = omega (arith, (c .loop-test .taken), (c .before .loop .inv .place))
 
-in-years-requires : tie.Need-in-years-requires Inv-loop μ-loop
-in-years-requires c κs = omega (arith, (c .loop-test .taken), (c .before .loop .inv .place), (c .before .loop .inv .upto), (c .before .before .before .before .before .before .before .before .before .before .before .before .pre .0 .inside))
+rank-at-requires : tie.Need-rank-at-requires Inv-loop μ-loop
+rank-at-requires c κs = omega (arith, (c .loop-test .taken), (c .before .loop .inv .place), (c .before .loop .inv .upto), (c .before .before .before .before .before .before .before .before .before .before .before .before .pre .0 .inside))
 
-date-at-requires : tie.Need-date-at-requires Inv-loop μ-loop
-date-at-requires c κs = omega (arith, (c .before .before .loop-test .taken), (c .before .before .before .loop .inv .place), (c .before .before .before .loop .inv .upto), (c .before .before .before .before .before .before .before .before .before .before .before .before .before .before .pre .0 .inside))
+in-ranks-requires : tie.Need-in-ranks-requires Inv-loop μ-loop
+in-ranks-requires c κs = search needs
+
+day-by-requires : tie.Need-day-by-requires Inv-loop μ-loop
+day-by-requires c κs = search needs
 
 free-into-requires : tie.Need-free-into-requires Inv-loop μ-loop
-free-into-requires c κs = ((c .before .before .before .before .before .before .before .before .before .before .before .before .before .before .before .before .before .before .pre .0 .opened), window-longer _ _ (c .before .before .before .before .before .before .before .before .before .before .before .before .before .before .before .before .before .before .pre .1), (c .before .before .before .before .before .before .before .before .before .before .before .before .before .days-in .ensures), (c .before .before .before .before .before .before .before .before .before .before .before .before .frame-of .ensures), (c .before .before .if2 .taken), (c .before .if3 .taken), closing-ready _ _ _ _ _ (piece-apart (holidayRule (holidaysIs (c .before .before .before .before .before .before .before .before .before .before .before .before .before .before .before .before .before .before .args .book .now) (c .before .before .before .before .before .before .before .before .before .before .before .before .before .before .before .before .before .before .args .pack .now) (c .before .before .before .before .before .before .before .before .before .before .before .before .before .before .before .before .before .before .args .c))) (nanos (c .before .before .before .before .before .before .before .before .before .before .before .before .before .before .before .before .before .before .args .lo)) (nanos (c .before .before .before .before .before .before .before .before .before .before .before .before .before .before .before .before .before .before .args .hi))) _ _ _ _ (c .before .before .before .before .before .before .before .before .before .before .before .before .before .before .before .before .before .before .pre .2 .normal) _ _ _ _ (c .before .before .before .before .before .before .before .loop .inv) (piece-short (holidayRule (holidaysIs (c .before .before .before .before .before .before .before .before .before .before .before .before .before .before .before .before .before .before .args .book .now) (c .before .before .before .before .before .before .before .before .before .before .before .before .before .before .before .before .before .before .args .pack .now) (c .before .before .before .before .before .before .before .before .before .before .before .before .before .before .before .before .before .before .args .c))) (nanos (c .before .before .before .before .before .before .before .before .before .before .before .before .before .before .before .before .before .before .args .lo)) (nanos (c .before .before .before .before .before .before .before .before .before .before .before .before .before .before .before .before .before .before .args .hi))) (few-dates _ _ _ _ _ (c .before .before .before .before .before .before .before .before .before .before .before .before .before .before .before .before .before .before .pre .0 .opened) (c .before .before .before .before .before .before .before .before .before .before .before .before .before .before .before .before .before .before .pre .1) (c .before .before .before .before .before .before .before .before .before .before .before .before .before .days-in .ensures)) (c .before .before .before .before .before .before .before .before .before .before .before .before .before .before .before .before .before .before .pre .2 .room))
+free-into-requires c κs = ((c .before .before .before .before .before .before .before .before .before .before .before .before .before .before .before .before .before .before .before .pre .0 .opened), window-longer _ _ (c .before .before .before .before .before .before .before .before .before .before .before .before .before .before .before .before .before .before .before .pre .1), (c .before .before .before .before .before .before .before .before .before .before .before .before .before .before .days-in .ensures), (c .before .before .before .before .before .before .before .before .before .before .before .before .before .frame-of .ensures), (c .before .before .if2 .taken), (c .before .if3 .taken), closing-ready _ _ _ _ _ (piece-apart (holidayRule (holidaysIs (c .before .before .before .before .before .before .before .before .before .before .before .before .before .before .before .before .before .before .before .args .book .now) (c .before .before .before .before .before .before .before .before .before .before .before .before .before .before .before .before .before .before .before .args .pack .now) (c .before .before .before .before .before .before .before .before .before .before .before .before .before .before .before .before .before .before .before .args .c))) (nanos (c .before .before .before .before .before .before .before .before .before .before .before .before .before .before .before .before .before .before .before .args .lo)) (nanos (c .before .before .before .before .before .before .before .before .before .before .before .before .before .before .before .before .before .before .before .args .hi))) _ _ _ _ (c .before .before .before .before .before .before .before .before .before .before .before .before .before .before .before .before .before .before .before .pre .2 .normal) _ _ _ _ (c .before .before .before .before .before .before .before .before .loop .inv) (piece-short (holidayRule (holidaysIs (c .before .before .before .before .before .before .before .before .before .before .before .before .before .before .before .before .before .before .before .args .book .now) (c .before .before .before .before .before .before .before .before .before .before .before .before .before .before .before .before .before .before .before .args .pack .now) (c .before .before .before .before .before .before .before .before .before .before .before .before .before .before .before .before .before .before .before .args .c))) (nanos (c .before .before .before .before .before .before .before .before .before .before .before .before .before .before .before .before .before .before .before .args .lo)) (nanos (c .before .before .before .before .before .before .before .before .before .before .before .before .before .before .before .before .before .before .before .args .hi))) (few-dates _ _ _ _ _ (c .before .before .before .before .before .before .before .before .before .before .before .before .before .before .before .before .before .before .before .pre .0 .opened) (c .before .before .before .before .before .before .before .before .before .before .before .before .before .before .before .before .before .before .before .pre .1) (c .before .before .before .before .before .before .before .before .before .before .before .before .before .before .days-in .ensures)) (c .before .before .before .before .before .before .before .before .before .before .before .before .before .before .before .before .before .before .before .pre .2 .room))
 
 loop-less : tie.Need-loop-less Inv-loop μ-loop
-loop-less c = omega (arith, (c .before .before .before .before .before .before .before .before .before .loop-test .taken))
+loop-less c = omega (arith, (c .before .before .before .before .before .before .before .before .before .before .loop-test .taken))
 
 loop-again : tie.Need-loop-again Inv-loop μ-loop
-loop-again c = closing-on _ _ _ _ _ (piece-apart (holidayRule (holidaysIs (c .before .before .before .before .before .before .before .before .before .before .before .before .before .before .before .before .before .before .before .before .before .args .book .now) (c .before .before .before .before .before .before .before .before .before .before .before .before .before .before .before .before .before .before .before .before .before .args .pack .now) (c .before .before .before .before .before .before .before .before .before .before .before .before .before .before .before .before .before .before .before .before .before .args .c))) (nanos (c .before .before .before .before .before .before .before .before .before .before .before .before .before .before .before .before .before .before .before .before .before .args .lo)) (nanos (c .before .before .before .before .before .before .before .before .before .before .before .before .before .before .before .before .before .before .before .before .before .args .hi))) _ _ _ _ (c .before .before .before .before .before .before .before .before .before .before .before .before .before .before .before .before .before .before .before .before .before .pre .2 .normal) _ _ _ _ (c .before .before .before .before .before .before .before .before .before .before .loop .inv) (omega (arith, (c .before .before .before .before .before .before .before .before .before .loop-test .taken))) _ (c .before .before .before .before .before .before .date-at .ensures) (c .before .before .before .before .before .if2 .taken) (c .before .before .before .before .if3 .taken) _ _ (filled-same _ _ _ _ _ _ _ _ (piece-any (holidayRule (holidaysIs (c .before .before .before .before .before .before .before .before .before .before .before .before .before .before .before .before .before .before .before .before .before .args .book .now) (c .before .before .before .before .before .before .before .before .before .before .before .before .before .before .before .before .before .before .before .before .before .args .pack .now) (c .before .before .before .before .before .before .before .before .before .before .before .before .before .before .before .before .before .before .before .before .before .args .c))) _ _ _) (c .before .before .free-into .ensures))
+loop-again c = closing-on _ _ _ _ _ (piece-apart (holidayRule (holidaysIs (c .before .before .before .before .before .before .before .before .before .before .before .before .before .before .before .before .before .before .before .before .before .before .args .book .now) (c .before .before .before .before .before .before .before .before .before .before .before .before .before .before .before .before .before .before .before .before .before .before .args .pack .now) (c .before .before .before .before .before .before .before .before .before .before .before .before .before .before .before .before .before .before .before .before .before .before .args .c))) (nanos (c .before .before .before .before .before .before .before .before .before .before .before .before .before .before .before .before .before .before .before .before .before .before .args .lo)) (nanos (c .before .before .before .before .before .before .before .before .before .before .before .before .before .before .before .before .before .before .before .before .before .before .args .hi))) _ _ _ _ (c .before .before .before .before .before .before .before .before .before .before .before .before .before .before .before .before .before .before .before .before .before .before .pre .2 .normal) _ _ _ _ (c .before .before .before .before .before .before .before .before .before .before .before .loop .inv) (omega (arith, (c .before .before .before .before .before .before .before .before .before .before .loop-test .taken))) _ (c .before .before .before .before .before .before .day-by .ensures ∙ c .before .before .before .before .before .before .before .before .before .rank-at .ensures .1) (c .before .before .before .before .before .if2 .taken) (c .before .before .before .before .if3 .taken) _ _ (filled-same _ _ _ _ _ _ _ _ (piece-any (holidayRule (holidaysIs (c .before .before .before .before .before .before .before .before .before .before .before .before .before .before .before .before .before .before .before .before .before .before .args .book .now) (c .before .before .before .before .before .before .before .before .before .before .before .before .before .before .before .before .before .before .before .before .before .before .args .pack .now) (c .before .before .before .before .before .before .before .before .before .before .before .before .before .before .before .before .before .before .before .before .before .before .args .c))) _ _ _) (c .before .before .free-into .ensures))
 
 loop-less-2 : tie.Need-loop-less-2 Inv-loop μ-loop
-loop-less-2 c = omega (arith, (c .before .before .before .before .before .loop-test .taken))
+loop-less-2 c = omega (arith, (c .before .before .before .before .before .before .loop-test .taken))
 
 loop-again-2 : tie.Need-loop-again-2 Inv-loop μ-loop
-loop-again-2 c = closing-off _ _ _ _ _ (piece-apart (holidayRule (holidaysIs (c .before .before .before .before .before .before .before .before .before .before .before .before .before .before .before .before .before .args .book .now) (c .before .before .before .before .before .before .before .before .before .before .before .before .before .before .before .before .before .args .pack .now) (c .before .before .before .before .before .before .before .before .before .before .before .before .before .before .before .before .before .args .c))) (nanos (c .before .before .before .before .before .before .before .before .before .before .before .before .before .before .before .before .before .args .lo)) (nanos (c .before .before .before .before .before .before .before .before .before .before .before .before .before .before .before .before .before .args .hi))) _ _ _ _ (c .before .before .before .before .before .before .before .before .before .before .before .before .before .before .before .before .before .pre .2 .normal) _ _ _ _ (c .before .before .before .before .before .before .loop .inv) (omega (arith, (c .before .before .before .before .before .loop-test .taken))) _ (c .before .before .date-at .ensures) (inr (c .if3 .left))
+loop-again-2 c = closing-off _ _ _ _ _ (piece-apart (holidayRule (holidaysIs (c .before .before .before .before .before .before .before .before .before .before .before .before .before .before .before .before .before .before .args .book .now) (c .before .before .before .before .before .before .before .before .before .before .before .before .before .before .before .before .before .before .args .pack .now) (c .before .before .before .before .before .before .before .before .before .before .before .before .before .before .before .before .before .before .args .c))) (nanos (c .before .before .before .before .before .before .before .before .before .before .before .before .before .before .before .before .before .before .args .lo)) (nanos (c .before .before .before .before .before .before .before .before .before .before .before .before .before .before .before .before .before .before .args .hi))) _ _ _ _ (c .before .before .before .before .before .before .before .before .before .before .before .before .before .before .before .before .before .before .pre .2 .normal) _ _ _ _ (c .before .before .before .before .before .before .before .loop .inv) (omega (arith, (c .before .before .before .before .before .before .loop-test .taken))) _ (c .before .before .day-by .ensures ∙ c .before .before .before .before .before .rank-at .ensures .1) (inr (c .if3 .left))
 
 loop-less-3 : tie.Need-loop-less-3 Inv-loop μ-loop
-loop-less-3 c = omega (arith, (c .before .before .before .before .loop-test .taken))
+loop-less-3 c = omega (arith, (c .before .before .before .before .before .loop-test .taken))
 
 loop-again-3 : tie.Need-loop-again-3 Inv-loop μ-loop
-loop-again-3 c = closing-off _ _ _ _ _ (piece-apart (holidayRule (holidaysIs (c .before .before .before .before .before .before .before .before .before .before .before .before .before .before .before .before .args .book .now) (c .before .before .before .before .before .before .before .before .before .before .before .before .before .before .before .before .args .pack .now) (c .before .before .before .before .before .before .before .before .before .before .before .before .before .before .before .before .args .c))) (nanos (c .before .before .before .before .before .before .before .before .before .before .before .before .before .before .before .before .args .lo)) (nanos (c .before .before .before .before .before .before .before .before .before .before .before .before .before .before .before .before .args .hi))) _ _ _ _ (c .before .before .before .before .before .before .before .before .before .before .before .before .before .before .before .before .pre .2 .normal) _ _ _ _ (c .before .before .before .before .before .loop .inv) (omega (arith, (c .before .before .before .before .loop-test .taken))) _ (c .before .date-at .ensures) (inl (c .if2 .left))
+loop-again-3 c = closing-off _ _ _ _ _ (piece-apart (holidayRule (holidaysIs (c .before .before .before .before .before .before .before .before .before .before .before .before .before .before .before .before .before .args .book .now) (c .before .before .before .before .before .before .before .before .before .before .before .before .before .before .before .before .before .args .pack .now) (c .before .before .before .before .before .before .before .before .before .before .before .before .before .before .before .before .before .args .c))) (nanos (c .before .before .before .before .before .before .before .before .before .before .before .before .before .before .before .before .before .args .lo)) (nanos (c .before .before .before .before .before .before .before .before .before .before .before .before .before .before .before .before .before .args .hi))) _ _ _ _ (c .before .before .before .before .before .before .before .before .before .before .before .before .before .before .before .before .before .pre .2 .normal) _ _ _ _ (c .before .before .before .before .before .before .loop .inv) (omega (arith, (c .before .before .before .before .before .loop-test .taken))) _ (c .before .day-by .ensures ∙ c .before .before .before .before .rank-at .ensures .1) (inl (c .if2 .left))
 
 loop-less-4 : tie.Need-loop-less-4 Inv-loop μ-loop
-loop-less-4 c = omega (arith, (c .before .before .loop-test .taken))
+loop-less-4 c = omega (arith, (c .before .before .before .loop-test .taken))
 
 loop-again-4 : tie.Need-loop-again-4 Inv-loop μ-loop
-loop-again-4 c = closing-off _ _ _ _ _ (piece-apart (holidayRule (holidaysIs (c .before .before .before .before .before .before .before .before .before .before .before .before .before .before .args .book .now) (c .before .before .before .before .before .before .before .before .before .before .before .before .before .before .args .pack .now) (c .before .before .before .before .before .before .before .before .before .before .before .before .before .before .args .c))) (nanos (c .before .before .before .before .before .before .before .before .before .before .before .before .before .before .args .lo)) (nanos (c .before .before .before .before .before .before .before .before .before .before .before .before .before .before .args .hi))) _ _ _ _ (c .before .before .before .before .before .before .before .before .before .before .before .before .before .before .pre .2 .normal) _ _ _ _ (c .before .before .before .loop .inv) (omega (arith, (c .before .before .loop-test .taken))) _ refl (year-not _ _ _ _ _ _ _ (omega (arith, (c .before .before .before .before .before .before .before .before .before .days-in .ensures .low))) (c .before .before .before .before .before .before .before .year-from .ensures) (c .before .before .before .before .before .before .year-of .ensures) (c .before .in-years .ensures) (c .if1 .left))
+loop-again-4 c = closing-off _ _ _ _ _ (piece-apart (holidayRule (holidaysIs (c .before .before .before .before .before .before .before .before .before .before .before .before .before .before .before .args .book .now) (c .before .before .before .before .before .before .before .before .before .before .before .before .before .before .before .args .pack .now) (c .before .before .before .before .before .before .before .before .before .before .before .before .before .before .before .args .c))) (nanos (c .before .before .before .before .before .before .before .before .before .before .before .before .before .before .before .args .lo)) (nanos (c .before .before .before .before .before .before .before .before .before .before .before .before .before .before .before .args .hi))) _ _ _ _ (c .before .before .before .before .before .before .before .before .before .before .before .before .before .before .before .pre .2 .normal) _ _ _ _ (c .before .before .before .before .loop .inv) (omega (arith, (c .before .before .before .loop-test .taken))) _ refl (rank-not _ _ _ _ _ _ _ _ (omega (arith, (c .before .before .before .before .before .before .before .before .before .before .days-in .ensures .low))) (c .before .before .before .before .before .before .before .before .rank-from .ensures) (c .before .before .before .before .before .before .before .rank-of .ensures) (c .before .before .rank-at .ensures .0) (c .before .in-ranks .ensures) (c .if1 .left))
 
 same-length : tie.Need-same-length Inv-loop μ-loop
 same-length c = (c .before .loop .inv .long)
@@ -97,15 +101,16 @@ closed-into-spec =
     μ-loop
     days-in-requires
     frame-of-requires
-    year-from-requires
-    year-of-requires
+    rank-from-requires
+    rank-of-requires
     mul-at
     add-at
     loop-holds
     sub-left
     sub-at
-    in-years-requires
-    date-at-requires
+    rank-at-requires
+    in-ranks-requires
+    day-by-requires
     free-into-requires
     loop-less
     loop-again
