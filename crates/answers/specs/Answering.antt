@@ -16,9 +16,8 @@ use Rattle.schedule.specs.declared.TimeAnswer.{TimeAnswer}
 use Rattle.schedule.specs.declared.TimeAnswer.the-variants as T
 use Rattle.schedule.specs.declared.Moved.{Moved}
 use Rattle.schedule.specs.declared.Moved.the-variants as M
-use Rattle.period_calls.specs.declared.NextPeriod.{NextPeriod}
-use Rattle.period_calls.specs.declared.PreviousPeriod.{PreviousPeriod}
-use Rattle.period_calls.specs.Replies.{nextIs, previousIs}
+use Rattle.period_calls.specs.declared.PeriodAnswer.{PeriodAnswer}
+use Rattle.period_calls.specs.Replies.{periodIs}
 
 -- the line of an answer with its number of windows
 abbrev pub timeText : TimeAnswer → List ℕ
@@ -29,11 +28,8 @@ abbrev pub movedText : Moved → List ℕ
 movedText (M.At s n c) = printed (exactly c) (gives (record { values = s ∷ n ∷ []; windows = some (c, c) }))
 movedText (M.Refused n p) = printed leastOnly (refuses n p)
 
-abbrev pub nextText : NextPeriod → List ℕ
-nextText r = printed leastOnly (nextIs r)
-
-abbrev pub previousText : PreviousPeriod → List ℕ
-previousText r = printed leastOnly (previousIs r)
+abbrev pub periodText : PeriodAnswer → List ℕ
+periodText r = printed leastOnly (periodIs r)
 
 -- the line was no query
 abbrev pub isBad : Query → Bool

@@ -8,11 +8,10 @@ ghost use Rattle.model.specs.Lines.{replyIn, leastOnly};
 ghost use Rattle.rules.specs.Rules.{scheduleIs, ScheduleFits};
 ghost use Rattle.lines.specs.Reading.{queryIs};
 ghost use Rattle.reply.specs.Placed.{Placed};
-ghost use Rattle.answers.specs.Answering.{timeText, movedText, nextText, previousText, isBad, refusedText, Stands};
+ghost use Rattle.answers.specs.Answering.{timeText, movedText, periodText, isBad, refusedText, Stands};
 use build::Built;
 use lines::Query;
-use period_calls::NextPeriod;
-use period_calls::PreviousPeriod;
+use period_calls::PeriodAnswer;
 use rules::Schedule;
 use schedule::Moved;
 use schedule::TimeAnswer;
@@ -44,28 +43,13 @@ fn put_moved(out: &mut [u8], at: usize, r: Moved) -> usize
     }
 }
 
-fn put_next(out: &mut [u8], at: usize, r: NextPeriod) -> usize
+fn put_period(out: &mut [u8], at: usize, r: PeriodAnswer) -> usize
     requires { ⌜ at + 128 ≤ length (now out) ⌝ }
-    ensures { λ e. ⌜ Placed (now (out .entry)) (now (out .exit)) at e (nextText r) × (e ≤ at + 128) ⌝ }
+    ensures { λ e. ⌜ Placed (now (out .entry)) (now (out .exit)) at e (periodText r) × (e ≤ at + 128) ⌝ }
 {
     match r {
-        NextPeriod::Is(a, b, c, d) => reply::put_period(out, at, a, b, c, d),
-        NextPeriod::Refused(number, place) => reply::put_refused(
-            out,
-            at,
-            number as u64,
-            place as u64,
-        ),
-    }
-}
-
-fn put_previous(out: &mut [u8], at: usize, r: PreviousPeriod) -> usize
-    requires { ⌜ at + 128 ≤ length (now out) ⌝ }
-    ensures { λ e. ⌜ Placed (now (out .entry)) (now (out .exit)) at e (previousText r) × (e ≤ at + 128) ⌝ }
-{
-    match r {
-        PreviousPeriod::Is(a, b, c, d) => reply::put_period(out, at, a, b, c, d),
-        PreviousPeriod::Refused(number, place) => reply::put_refused(
+        PeriodAnswer::Is(a, b, c, d) => reply::put_period(out, at, a, b, c, d),
+        PeriodAnswer::Refused(number, place) => reply::put_refused(
             out,
             at,
             number as u64,
@@ -95,12 +79,12 @@ fn put_answer(book: &[u8], pack: &[u8], s: Schedule, q: Query, out: &mut [u8], a
             put_moved(out, at, r)
         }
         Query::Next(a, b) => {
-            let r = period_calls::next_in(book, pack, s, a, b);
-            put_next(out, at, r)
+            let r = period_calls::period_in(book, pack, s, false, a, b);
+            put_period(out, at, r)
         }
         Query::Previous(a, b) => {
-            let r = period_calls::previous_in(book, pack, s, a, b);
-            put_previous(out, at, r)
+            let r = period_calls::period_in(book, pack, s, true, a, b);
+            put_period(out, at, r)
         }
         Query::Bad => reply::put_bad(out, at),
     }

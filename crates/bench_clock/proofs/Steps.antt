@@ -1,5 +1,6 @@
 -- Laws of the functions that are timed: what each answer is, one turn of each loop, and the whole. Assumes nothing.
 use mathlib.Core.Path.{_≡_, refl, sym, ap, _∙_}
+use mathlib.Core.Bool.{not}
 use mathlib.Core.List.{List, [], _∷_}
 use Prim.Native.Nat.{ℕ, zero, suc, _+_, _*_, _-_, _/_, _≤_, _<_}
 use native.Mathlib.Omega.{arith}
@@ -16,7 +17,9 @@ use Rattle.model.specs.Calls.{Reply, betweenCall, moveCall, periodCall, listCal
 use Rattle.model.specs.Instant.{second}
 use Rattle.model.specs.Walk.{on, back}
 use Rattle.model.specs.Working.{Schedule}
+use Rattle.laws_base.specs.Test.{by-test}
 use Rattle.rules.specs.Rules.{scheduleIs}
+use Rattle.spend.specs.Spending.{wayOf}
 use Rattle.build.specs.Read.{answerIs}
 use Rattle.build.specs.declared.Built.{Built}
 use Rattle.schedule.specs.declared.TimeAnswer.{TimeAnswer}
@@ -24,11 +27,9 @@ use Rattle.schedule.specs.declared.TimeAnswer.the-variants as T
 use Rattle.schedule.specs.declared.Moved.{Moved}
 use Rattle.schedule.specs.declared.Moved.the-variants as M
 use Rattle.schedule.specs.Answers.{timeIs, movedIs}
-use Rattle.period_calls.specs.declared.NextPeriod.{NextPeriod}
-use Rattle.period_calls.specs.declared.NextPeriod.the-variants as N
-use Rattle.period_calls.specs.declared.PreviousPeriod.{PreviousPeriod}
-use Rattle.period_calls.specs.declared.PreviousPeriod.the-variants as P
-use Rattle.period_calls.specs.Replies.{nextIs, previousIs}
+use Rattle.period_calls.specs.declared.PeriodAnswer.{PeriodAnswer}
+use Rattle.period_calls.specs.declared.PeriodAnswer.the-variants as P
+use Rattle.period_calls.specs.Replies.{periodIs}
 use Rattle.bench_clock.specs.declared.Told.{Told}
 use Rattle.bench_clock.specs.declared.Told.the-variants as A
 use Rattle.bench_clock.specs.Asked.{toldIs, asked, written, writtenAt, answered, groupsFrom, groups, groupsOf, limitIn, limitOf, listed, listedOf}
@@ -47,19 +48,12 @@ moved-two k e u v p q = rw (p, q) (rw e at k)
 pub moved-no : {r : Moved} {d : Answer (List ℤ)} {n p : ℕ} → movedIs r ≡ d → r ≡ M.Refused n p → refuses n p ≡ d
 moved-no k e = rw e at k
 
-pub next-four : {r : NextPeriod} {d : Answer Reply} {x y z w : ℤ} → nextIs r ≡ d → r ≡ N.Is x y z w
+pub period-four : {r : PeriodAnswer} {d : Answer Reply} {x y z w : ℤ} → periodIs r ≡ d → r ≡ P.Is x y z w
     → (a b e f : ℤ) → a ≡ x → b ≡ y → e ≡ z → f ≡ w → gives (a ∷ b ∷ e ∷ f ∷ []) ≡ said d
-next-four k h a b e f p q u v = rw (p, q, u, v) (ap said (rw h at k))
+period-four k h a b e f p q u v = rw (p, q, u, v) (ap said (rw h at k))
 
-pub next-no : {r : NextPeriod} {d : Answer Reply} {n p : ℕ} → nextIs r ≡ d → r ≡ N.Refused n p → refuses n p ≡ said d
-next-no k h = ap said (rw h at k)
-
-pub previous-four : {r : PreviousPeriod} {d : Answer Reply} {x y z w : ℤ} → previousIs r ≡ d → r ≡ P.Is x y z w
-    → (a b e f : ℤ) → a ≡ x → b ≡ y → e ≡ z → f ≡ w → gives (a ∷ b ∷ e ∷ f ∷ []) ≡ said d
-previous-four k h a b e f p q u v = rw (p, q, u, v) (ap said (rw h at k))
-
-pub previous-no : {r : PreviousPeriod} {d : Answer Reply} {n p : ℕ} → previousIs r ≡ d → r ≡ P.Refused n p → refuses n p ≡ said d
-previous-no k h = ap said (rw h at k)
+pub period-no : {r : PeriodAnswer} {d : Answer Reply} {n p : ℕ} → periodIs r ≡ d → r ≡ P.Refused n p → refuses n p ≡ said d
+period-no k h = ap said (rw h at k)
 
 -- ---- by the kind of the question
 
@@ -76,13 +70,9 @@ module _ (k : ℕ) (s : Schedule) (a b c d : ℤ) {x : Answer (List ℤ)} where
   unfolding asked
   as-sub f g h e = rw (ne-eqb k 0 f, ne-eqb k 1 g, eq-eqb k 2 h) e
 
-  pub as-next : (k ≡ 0 → ⊥) → (k ≡ 1 → ⊥) → (k ≡ 2 → ⊥) → k ≡ 3 → x ≡ said (periodCall on s a b) → x ≡ asked k s a b c d
+  pub as-period : (k ≡ 0 → ⊥) → (k ≡ 1 → ⊥) → (k ≡ 2 → ⊥) → x ≡ said (periodCall (wayOf (not (eqb k 3))) s a b) → x ≡ asked k s a b c d
   unfolding asked
-  as-next f g i h e = rw (ne-eqb k 0 f, ne-eqb k 1 g, ne-eqb k 2 i, eq-eqb k 3 h) e
-
-  pub as-previous : (k ≡ 0 → ⊥) → (k ≡ 1 → ⊥) → (k ≡ 2 → ⊥) → (k ≡ 3 → ⊥) → x ≡ said (periodCall back s a b) → x ≡ asked k s a b c d
-  unfolding asked
-  as-previous f g i h e = rw (ne-eqb k 0 f, ne-eqb k 1 g, ne-eqb k 2 i, ne-eqb k 3 h) e
+  as-period f g i e = by-test (eqb k 3) (λ h. rw (ne-eqb k 0 f, ne-eqb k 1 g, ne-eqb k 2 i, h) (rw h at e)) (λ h. rw (ne-eqb k 0 f, ne-eqb k 1 g, ne-eqb k 2 i, h) (rw h at e))
 
 -- ---- writing
 

@@ -7,13 +7,11 @@ ghost use lib.ListN.{length, getD};
 ghost use lib.IntN.{ℤ};
 ghost use Rattle.model.specs.Build as definition;
 ghost use Rattle.model.specs.Calls.{betweenCall, moveCall, periodCall, said};
-ghost use Rattle.model.specs.Walk as way;
 ghost use Rattle.rules.specs.Rules.{scheduleIs, ScheduleFits};
 ghost use Rattle.spend.specs.Spending.{wayOf};
 ghost use Rattle.bench_week.specs.Weeks.{Each};
 ghost use Rattle.bench_clock.specs.Asked.{toldIs, asked, writtenAt, answered, groups, groupsOf, limitOf, listed, listedOf};
-use period_calls::NextPeriod;
-use period_calls::PreviousPeriod;
+use period_calls::PeriodAnswer;
 use rules::Schedule;
 use schedule::Moved;
 use schedule::TimeAnswer;
@@ -47,23 +45,13 @@ fn moved(book: &[u8], pack: &[u8], s: Schedule, back: bool, a: i64, b: i64, c: i
     }
 }
 
-fn next(book: &[u8], pack: &[u8], s: Schedule, a: i64, b: i64) -> Told
+fn period(book: &[u8], pack: &[u8], s: Schedule, back: bool, a: i64, b: i64) -> Told
     requires { ⌜ ScheduleFits (now book) (now pack) s ⌝ }
-    ensures { λ r. ⌜ toldIs r ≡ said (periodCall way.on (scheduleIs (now (book .entry)) (now (pack .entry)) s) «a» «b») ⌝ }
+    ensures { λ r. ⌜ toldIs r ≡ said (periodCall (wayOf back) (scheduleIs (now (book .entry)) (now (pack .entry)) s) «a» «b») ⌝ }
 {
-    match period_calls::next_in(book, pack, s, a, b) {
-        NextPeriod::Is(p, q, x, y) => Told::Four(p, q, x, y),
-        NextPeriod::Refused(number, place) => Told::Refused(number, place),
-    }
-}
-
-fn previous(book: &[u8], pack: &[u8], s: Schedule, a: i64, b: i64) -> Told
-    requires { ⌜ ScheduleFits (now book) (now pack) s ⌝ }
-    ensures { λ r. ⌜ toldIs r ≡ said (periodCall way.back (scheduleIs (now (book .entry)) (now (pack .entry)) s) «a» «b») ⌝ }
-{
-    match period_calls::previous_in(book, pack, s, a, b) {
-        PreviousPeriod::Is(p, q, x, y) => Told::Four(p, q, x, y),
-        PreviousPeriod::Refused(number, place) => Told::Refused(number, place),
+    match period_calls::period_in(book, pack, s, back, a, b) {
+        PeriodAnswer::Is(p, q, x, y) => Told::Four(p, q, x, y),
+        PeriodAnswer::Refused(number, place) => Told::Refused(number, place),
     }
 }
 
@@ -81,10 +69,7 @@ fn answer(book: &[u8], pack: &[u8], s: Schedule, kind: u8, a: i64, b: i64, c: i6
     if kind == 2 {
         return moved(book, pack, s, true, a, b, c, d);
     }
-    if kind == 3 {
-        return next(book, pack, s, a, b);
-    }
-    previous(book, pack, s, a, b)
+    period(book, pack, s, kind != 3, a, b)
 }
 
 // Writes an answer's two or four numbers from i on; of a refusal its number.

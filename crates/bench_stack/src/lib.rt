@@ -1,7 +1,6 @@
 // The public calls for a program that measures how much stack each needs (tools/stack.py). Each answers one number, so that the call is not left out.
 use listing::Listing;
-use period_calls::NextPeriod;
-use period_calls::PreviousPeriod;
+use period_calls::PeriodAnswer;
 use schedule::AddAnswer;
 use schedule::SubAnswer;
 use schedule::TimeAnswer;
@@ -42,16 +41,16 @@ pub extern "C" fn stack_sub(book: &[u8], pack: &[u8], a: i64, b: i64, c: i64, d:
 #[no_mangle]
 pub extern "C" fn stack_next_period(book: &[u8], pack: &[u8], a: i64, b: i64) -> i64 {
     match period_calls::next_period(book, pack, a, b) {
-        NextPeriod::Is(sec, _, _, _) => sec,
-        NextPeriod::Refused(number, _) => number as i64,
+        PeriodAnswer::Is(sec, _, _, _) => sec,
+        PeriodAnswer::Refused(number, _) => number as i64,
     }
 }
 
 #[no_mangle]
 pub extern "C" fn stack_previous_period(book: &[u8], pack: &[u8], a: i64, b: i64) -> i64 {
     match period_calls::previous_period(book, pack, a, b) {
-        PreviousPeriod::Is(sec, _, _, _) => sec,
-        PreviousPeriod::Refused(number, _) => number as i64,
+        PeriodAnswer::Is(sec, _, _, _) => sec,
+        PeriodAnswer::Refused(number, _) => number as i64,
     }
 }
 

@@ -1,7 +1,6 @@
 -- Each answer of the calls, from what the code has read, walked and written. Assumes nothing.
-use mathlib.Core.Path.{_≡_, sym, _∙_, ap}
-use mathlib.Core.Bool.{not, _&&_}
-use mathlib.Core.Option.{none}
+use mathlib.Core.Path.{_≡_, refl, sym, _∙_, ap}
+use mathlib.Core.Bool.{Bool, true, false, not, _&&_}
 use mathlib.Core.List.{List, [], _∷_, _++_}
 use Prim.Native.Nat.{ℕ, _+_, _*_, _-_, _/_, _%_, _≤_, _<_}
 use native.Mathlib.Omega.{arith}
@@ -13,7 +12,7 @@ use Rattle.model.specs.Answer.{Answer, gives, refuses, _>>=_}
 use Rattle.model.specs.Instant.{second, secondFrom, isBelow0, firstInstant, lastInstant, instantOf, instant}
 use Rattle.model.specs.Blocks.{block}
 use Rattle.model.specs.Working as model
-use Rattle.model.specs.Walk.{Way, on, back, reach, period}
+use Rattle.model.specs.Walk.{Way, on, back, at, reach, period}
 use Rattle.model.specs.Build.{build}
 use Rattle.model.specs.Calls.{Reply, ends, periodCall}
 use Rattle.laws_base.specs.Test.{by-test, and-both}
@@ -27,10 +26,11 @@ use Rattle.build.specs.Read.{answerIs}
 use Rattle.build.specs.declared.Built.{Built}
 use Rattle.blocks.specs.Counted.{size}
 use Rattle.blocks.specs.declared.Span.{Span}
+use Rattle.spend.specs.Spending.{wayOf}
 use Rattle.windows.specs.Distances.{Short}
 use Rattle.periods.specs.Found.{foundIs, PeriodFits}
 use Rattle.periods.specs.declared.Found.{Found}
-use Rattle.period_calls.specs.Replies.{fourValues}
+use Rattle.period_calls.specs.Replies.{periodGiven}
 
 -- ---- the instant given
 
@@ -91,7 +91,7 @@ module _ (w : Way) (s : model.Schedule) (sec ns : ℤ) where
   call-out e = rw (← (read-not sec ns e))
 
   -- what the walk answers is the call's refusal, or its period
-  walked : (t : Instant) → instantRead (instantOf sec ns) ≡ R.At t → periodCall w s sec ns ≡ (period w s (nanos t) >>= λ p. gives (record { values = ends w (nanos t) p; windows = none }))
+  walked : (t : Instant) → instantRead (instantOf sec ns) ≡ R.At t → periodCall w s sec ns ≡ (period w s (nanos t) >>= λ p. periodGiven (ends w (nanos t) p))
   unfolding periodCall
   walked t e = rw (read-is (instantOf sec ns) t e)
 
@@ -99,21 +99,23 @@ module _ (w : Way) (s : model.Schedule) (sec ns : ℤ) where
   call-refused t e p q n f = let z : period w s (nanos t) ≡ refuses n 0 = sym q ∙ ap foundIs p ∙ f in sym (walked t e ∙ rw z)
 
   pub call-found : (t : Instant) → instantRead (instantOf sec ns) ≡ R.At t → {r r′ : Found} → r ≡ r′ → foundIs r ≡ period w s (nanos t) → (f e : ℕ) → foundIs r′ ≡ gives (block f e)
-      → (x : Reply) → x ≡ record { values = ends w (nanos t) (block f e); windows = none } → gives x ≡ periodCall w s sec ns
-  call-found t i p q f e u x v = let z : period w s (nanos t) ≡ gives (block f e) = sym q ∙ ap foundIs p ∙ u in ap gives v ∙ sym (walked t i ∙ rw z)
+      → {x : Answer Reply} → x ≡ periodGiven (ends w (nanos t) (block f e)) → x ≡ periodCall w s sec ns
+  call-found t i p q f e u v = let z : period w s (nanos t) ≡ gives (block f e) = sym q ∙ ap foundIs p ∙ u in v ∙ sym (walked t i ∙ rw z)
 
 -- ---- a period written
 
-module _ (t f e : ℕ) (a b : Instant) (h : a .ns < second) (k : b .ns < second) (p q : ℤ) (u : p ≡ secondsFrom (a .sec)) (v : q ≡ secondsFrom (b .sec))
-    (x y : ℤ) (m : x ≡ pos (a .ns)) (n : y ≡ pos (b .ns)) where
-  four : (i j : ℕ) → nanos a ≡ i → nanos b ≡ j → p ∷ x ∷ q ∷ y ∷ [] ≡ instant i ++ instant j
-  four i j g o = rw (written-is a i h g, written-is b j k o, u, v, m, n)
+pub told-is : (a b : Instant) → a .ns < second → b .ns < second → (p x q y : ℤ) → p ≡ secondsFrom (a .sec) → x ≡ pos (a .ns) → q ≡ secondsFrom (b .sec) → y ≡ pos (b .ns)
+    → periodGiven (p ∷ x ∷ q ∷ y ∷ []) ≡ periodGiven (instant (nanos a) ++ instant (nanos b))
+told-is a b h k p x q y u m v n = rw (written-is a (nanos a) h refl, written-is b (nanos b) k refl, u, v, m, n)
 
-  pub next-written : nanos a ≡ t + f → nanos b ≡ t + e → fourValues p x q y ≡ record { values = ends on t (block f e); windows = none }
-  next-written g o = ap (λ (l : List ℤ). record { values = l; windows = none }) (four (t + f) (t + e) g o)
+module _ (z : Bool) (t f e : ℕ) (a b : ℕ) {r : Answer Reply} where
+  -- going on, from the nearer border to the further one
+  pub placed-on : z ≡ false → a ≡ at (wayOf z) t f → b ≡ at (wayOf z) t e → r ≡ periodGiven (instant a ++ instant b) → r ≡ periodGiven (ends (wayOf z) t (block f e))
+  placed-on h p q u = let x : a ≡ t + f = rw h at p in let y : b ≡ t + e = rw h at q in rw h (rw (x, y) at u)
 
-  pub previous-written : nanos a ≡ t - e → nanos b ≡ t - f → fourValues p x q y ≡ record { values = ends back t (block f e); windows = none }
-  previous-written g o = ap (λ (l : List ℤ). record { values = l; windows = none }) (four (t - e) (t - f) g o)
+  -- going back, from the further border to the nearer one
+  pub placed-back : z ≡ true → a ≡ at (wayOf z) t e → b ≡ at (wayOf z) t f → r ≡ periodGiven (instant a ++ instant b) → r ≡ periodGiven (ends (wayOf z) t (block f e))
+  placed-back h p q u = let x : a ≡ t - e = rw h at p in let y : b ≡ t - f = rw h at q in rw h (rw (x, y) at u)
 
 -- ---- from the bytes
 

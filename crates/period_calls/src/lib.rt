@@ -1,90 +1,98 @@
 // The calls `next_period` and `previous_period`, on the bytes of a rule book and a zone pack and on an instant as signed numbers: the period's
 // start and end, or a refusal.
 ghost use mathlib.Core.Path.{_≡_};
-ghost use mathlib.Core.List.{List};
-ghost use Prim.Native.Nat.{ℕ};
-ghost use Rattle.model.specs.Walk.{on, back};
-ghost use Rattle.model.specs.Calls.{periodCall, nextPeriod, previousPeriod};
+ghost use mathlib.Core.List.{List, _++_};
+ghost use Prim.Native.Nat.{ℕ, _^_, _<_};
+ghost use Rattle.model.specs.Instant.{instant};
+ghost use Rattle.model.specs.Blocks.{block};
+ghost use Rattle.model.specs.Calls.{ends, periodCall, nextPeriod, previousPeriod};
+ghost use Rattle.instant.specs.Instant.{nanos};
+ghost use Rattle.blocks.specs.Counted.{size};
+ghost use Rattle.dates.specs.Dates.{InRange};
 ghost use Rattle.rules.specs.Rules.{scheduleIs, ScheduleFits};
-ghost use Rattle.period_calls.specs.Replies.{nextIs, previousIs};
+ghost use Rattle.spend.specs.Spending.{wayOf};
+ghost use Rattle.windows.specs.Distances.{Short};
+ghost use Rattle.period_calls.specs.Replies.{periodIs, periodGiven, periodOf};
+use blocks::Span;
 use edge::InstantRead;
+use instant::Instant;
 use periods::Found;
 use rules::Schedule;
 
-// What `next_period` answers: the start's and the end's seconds from 1970 and nanoseconds, or a refusal's number and place.
-pub enum NextPeriod {
+// What `next_period` and `previous_period` answer: the start's and the end's seconds from 1970 and nanoseconds, or a refusal's number and place.
+pub enum PeriodAnswer {
     Is(i64, i64, i64, i64),
     Refused(u32, usize),
 }
 
-// What `previous_period` answers, in the same way.
-pub enum PreviousPeriod {
-    Is(i64, i64, i64, i64),
-    Refused(u32, usize),
+// The period between two instants, as signed numbers.
+fn told(start: Instant, end: Instant) -> PeriodAnswer
+    requires { ⌜ (start .sec < 2 ^ 63) × (start .ns < 1000000000) × (end .sec < 2 ^ 63) × (end .ns < 1000000000) ⌝ }
+    ensures { λ r. ⌜ periodIs r ≡ periodGiven (instant (nanos start) ++ instant (nanos end)) ⌝ }
+{
+    let a = edge::seconds_of(start.sec);
+    let b = edge::seconds_of(end.sec);
+    PeriodAnswer::Is(a, start.ns as i64, b, end.ns as i64)
 }
 
-// The period at an instant or the first one after it, on a built schedule.
-pub fn next_in(book: &[u8], pack: &[u8], s: Schedule, sec: i64, ns: i64) -> NextPeriod
+// The period whose nearer border is at the distance f from t, on or back, and its further one at e. Going on the nearer border is its start, going
+// back it is its end.
+fn placed(t: Instant, back: bool, f: Span, e: Span) -> PeriodAnswer
+    requires { ⌜ InRange t × Short f × Short e ⌝ }
+    ensures { λ r. ⌜ periodIs r ≡ periodGiven (ends (wayOf back) (nanos t) (block (size f) (size e))) ⌝ }
+{
+    let near = windows::away(t, back, f);
+    let far = windows::away(t, back, e);
+    if back {
+        return told(far, near);
+    }
+    told(near, far)
+}
+
+// On a built schedule: going on, the period at an instant or the first one after it; going back, the last period that begins before it, up to it.
+pub fn period_in(
+    book: &[u8],
+    pack: &[u8],
+    s: Schedule,
+    back: bool,
+    sec: i64,
+    ns: i64,
+) -> PeriodAnswer
     requires { ⌜ ScheduleFits (now book) (now pack) s ⌝ }
-    ensures { λ r. ⌜ nextIs r ≡ periodCall on (scheduleIs (now (book .entry)) (now (pack .entry)) s) sec ns ⌝ }
+    ensures { λ r. ⌜ periodIs r ≡ periodCall (wayOf back) (scheduleIs (now (book .entry)) (now (pack .entry)) s) sec ns ⌝ }
 {
     let InstantRead::At(t) = edge::instant_of(sec, ns) else {
-        return NextPeriod::Refused(8, 0);
+        return PeriodAnswer::Refused(8, 0);
     };
-    match periods::period_walk(book, pack, s, t, false) {
-        Found::NoWork => NextPeriod::Refused(6, 0),
-        Found::OutOfRange => NextPeriod::Refused(7, 0),
-        Found::Period(f, e) => {
-            let a = windows::away(t, false, f);
-            let b = windows::away(t, false, e);
-            let start = edge::seconds_of(a.sec);
-            let end = edge::seconds_of(b.sec);
-            NextPeriod::Is(start, a.ns as i64, end, b.ns as i64)
-        },
+    match periods::period_walk(book, pack, s, t, back) {
+        Found::NoWork => PeriodAnswer::Refused(6, 0),
+        Found::OutOfRange => PeriodAnswer::Refused(7, 0),
+        Found::Period(f, e) => placed(t, back, f, e),
     }
 }
 
-// The last period that begins before an instant, up to it, on a built schedule.
-pub fn previous_in(book: &[u8], pack: &[u8], s: Schedule, sec: i64, ns: i64) -> PreviousPeriod
-    requires { ⌜ ScheduleFits (now book) (now pack) s ⌝ }
-    ensures { λ r. ⌜ previousIs r ≡ periodCall back (scheduleIs (now (book .entry)) (now (pack .entry)) s) sec ns ⌝ }
+// The same from the bytes of book and pack: what `build` refuses comes first.
+fn period(book: &[u8], pack: &[u8], back: bool, sec: i64, ns: i64) -> PeriodAnswer
+    ensures { λ r. ⌜ periodIs r ≡ periodOf (wayOf back) (now (book .entry)) (now (pack .entry)) sec ns ⌝ }
 {
-    let InstantRead::At(t) = edge::instant_of(sec, ns) else {
-        return PreviousPeriod::Refused(8, 0);
-    };
-    match periods::period_walk(book, pack, s, t, true) {
-        Found::NoWork => PreviousPeriod::Refused(6, 0),
-        Found::OutOfRange => PreviousPeriod::Refused(7, 0),
-        Found::Period(f, e) => {
-            let a = windows::away(t, true, e);
-            let b = windows::away(t, true, f);
-            let start = edge::seconds_of(a.sec);
-            let end = edge::seconds_of(b.sec);
-            PreviousPeriod::Is(start, a.ns as i64, end, b.ns as i64)
-        },
+    let r = build::build(book, pack);
+    if r.number != 0 {
+        return PeriodAnswer::Refused(r.number, r.place);
     }
+    let s = r.schedule;
+    period_in(book, pack, s, back, sec, ns)
 }
 
 // The period at an instant or the first one after it. It starts at the instant if that lies inside, and is cut to the search limit.
-pub fn next_period(book: &[u8], pack: &[u8], sec: i64, ns: i64) -> NextPeriod
-    ensures { λ r. ⌜ nextIs r ≡ nextPeriod (now (book .entry)) (now (pack .entry)) sec ns ⌝ }
+pub fn next_period(book: &[u8], pack: &[u8], sec: i64, ns: i64) -> PeriodAnswer
+    ensures { λ r. ⌜ periodIs r ≡ nextPeriod (now (book .entry)) (now (pack .entry)) sec ns ⌝ }
 {
-    let r = build::build(book, pack);
-    if r.number != 0 {
-        return NextPeriod::Refused(r.number, r.place);
-    }
-    let s = r.schedule;
-    next_in(book, pack, s, sec, ns)
+    period(book, pack, false, sec, ns)
 }
 
 // The last period that begins before an instant. It ends at the instant if that lies inside, and is cut to the search limit.
-pub fn previous_period(book: &[u8], pack: &[u8], sec: i64, ns: i64) -> PreviousPeriod
-    ensures { λ r. ⌜ previousIs r ≡ previousPeriod (now (book .entry)) (now (pack .entry)) sec ns ⌝ }
+pub fn previous_period(book: &[u8], pack: &[u8], sec: i64, ns: i64) -> PeriodAnswer
+    ensures { λ r. ⌜ periodIs r ≡ previousPeriod (now (book .entry)) (now (pack .entry)) sec ns ⌝ }
 {
-    let r = build::build(book, pack);
-    if r.number != 0 {
-        return PreviousPeriod::Refused(r.number, r.place);
-    }
-    let s = r.schedule;
-    previous_in(book, pack, s, sec, ns)
+    period(book, pack, true, sec, ns)
 }

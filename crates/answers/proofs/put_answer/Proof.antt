@@ -36,20 +36,20 @@ put-moved-requires-2 c κs = search needs
 enum-known-q-4 : tie.Need-enum-known-q-4
 enum-known-q-4 c = search needs
 
-next-in-requires : tie.Need-next-in-requires
-next-in-requires c κs = search needs
+period-in-requires : tie.Need-period-in-requires
+period-in-requires c κs = search needs
 
-put-next-requires : tie.Need-put-next-requires
-put-next-requires c κs = search needs
+put-period-requires : tie.Need-put-period-requires
+put-period-requires c κs = search needs
 
 enum-known-q-5 : tie.Need-enum-known-q-5
 enum-known-q-5 c = search needs
 
-previous-in-requires : tie.Need-previous-in-requires
-previous-in-requires c κs = search needs
+period-in-requires-2 : tie.Need-period-in-requires-2
+period-in-requires-2 c κs = search needs
 
-put-previous-requires : tie.Need-put-previous-requires
-put-previous-requires c κs = search needs
+put-period-requires-2 : tie.Need-put-period-requires-2
+put-period-requires-2 c κs = search needs
 
 enum-told : tie.Need-enum-told
 enum-told c = search needs
@@ -79,13 +79,13 @@ same-length-4 : tie.Need-same-length-4
 same-length-4 c = search needs
 
 returns-4 : tie.Need-returns-4
-returns-4 c = (line-next _ _ _ _ _ _ _ (c .before .before .before .before .before .before .q4 .given .1) (toZ-ofZ {w = w64} (record { sfits = (c .before .before .before .before .before .known-told4 .given .0 .1) })) (toZ-ofZ {w = w64} (record { sfits = (c .before .before .before .before .before .known-told4 .given .1 .0 .1) })) (c .before .before .before .before .next-in .ensures) (c .before .before .put-next .ensures .0), (c .before .before .put-next .ensures .1))
+returns-4 c = (line-next _ _ _ _ _ _ _ (c .before .before .before .before .before .before .q4 .given .1) (toZ-ofZ {w = w64} (record { sfits = (c .before .before .before .before .before .known-told4 .given .0 .1) })) (toZ-ofZ {w = w64} (record { sfits = (c .before .before .before .before .before .known-told4 .given .1 .0 .1) })) (c .before .before .before .before .period-in .ensures) (c .before .before .put-period .ensures .0), (c .before .before .put-period .ensures .1))
 
 same-length-5 : tie.Need-same-length-5
 same-length-5 c = search needs
 
 returns-5 : tie.Need-returns-5
-returns-5 c = (line-previous _ _ _ _ _ _ _ (c .before .before .before .before .before .before .q5 .given .1) (toZ-ofZ {w = w64} (record { sfits = (c .before .before .before .before .before .known-told5 .given .0 .1) })) (toZ-ofZ {w = w64} (record { sfits = (c .before .before .before .before .before .known-told5 .given .1 .0 .1) })) (c .before .before .before .before .previous-in .ensures) (c .before .before .put-previous .ensures .0), (c .before .before .put-previous .ensures .1))
+returns-5 c = (line-previous _ _ _ _ _ _ _ (c .before .before .before .before .before .before .q5 .given .1) (toZ-ofZ {w = w64} (record { sfits = (c .before .before .before .before .before .known-told5 .given .0 .1) })) (toZ-ofZ {w = w64} (record { sfits = (c .before .before .before .before .before .known-told5 .given .1 .0 .1) })) (c .before .before .before .before .period-in2 .ensures) (c .before .before .put-period2 .ensures .0), (c .before .before .put-period2 .ensures .1))
 
 same-length-6 : tie.Need-same-length-6
 same-length-6 c = search needs
@@ -107,11 +107,11 @@ put-answer-spec =
     move-in-requires-2
     put-moved-requires-2
     enum-known-q-4
-    next-in-requires
-    put-next-requires
+    period-in-requires
+    put-period-requires
     enum-known-q-5
-    previous-in-requires
-    put-previous-requires
+    period-in-requires-2
+    put-period-requires-2
     enum-told
     put-bad-requires
     same-length

@@ -1,6 +1,6 @@
 -- `answer` asks the call of the kind.
 use mir.Facts.{toZ-ofZ}
-use Rattle.bench_clock.proofs.Steps.{as-time, as-add, as-sub, as-next, as-previous}
+use Rattle.bench_clock.proofs.Steps.{as-time, as-add, as-sub, as-period}
 use borrow.Author.Needs.{needs}
 use Rattle.bench_clock.proofs.answer.Statement.{statement}
 use Rattle.bench_clock.proofs.answer.Tie as tie
@@ -23,17 +23,11 @@ moved-requires-2 c κs = search needs
 returns-3 : tie.Need-returns-3
 returns-3 c = as-sub _ _ _ _ _ _ (c .before .before .before .if1 .left) (c .before .before .if2 .left) (c .before .if3 .taken) (rw (toZ-ofZ (c .before .before .before .before .before .before .fits .a), toZ-ofZ (c .before .before .before .before .before .before .fits .b), toZ-ofZ (c .before .before .before .before .before .before .fits .c), toZ-ofZ (c .before .before .before .before .before .before .fits .d)) at (c .moved2 .ensures))
 
-next-requires : tie.Need-next-requires
-next-requires c κs = search needs
+period-requires : tie.Need-period-requires
+period-requires c κs = search needs
 
 returns-4 : tie.Need-returns-4
-returns-4 c = as-next _ _ _ _ _ _ (c .before .before .before .before .if1 .left) (c .before .before .before .if2 .left) (c .before .before .if3 .left) (c .before .if4 .taken) (rw (toZ-ofZ (c .before .before .before .before .before .before .before .fits .a), toZ-ofZ (c .before .before .before .before .before .before .before .fits .b)) at (c .next .ensures))
-
-previous-requires : tie.Need-previous-requires
-previous-requires c κs = search needs
-
-returns-5 : tie.Need-returns-5
-returns-5 c = as-previous _ _ _ _ _ _ (c .before .before .before .before .if1 .left) (c .before .before .before .if2 .left) (c .before .before .if3 .left) (c .before .if4 .left) (rw (toZ-ofZ (c .before .before .before .before .before .before .before .fits .a), toZ-ofZ (c .before .before .before .before .before .before .before .fits .b)) at (c .previous .ensures))
+returns-4 c = as-period _ _ _ _ _ _ (c .before .before .before .if1 .left) (c .before .before .if2 .left) (c .before .if3 .left) (rw (toZ-ofZ (c .before .before .before .before .before .before .fits .a), toZ-ofZ (c .before .before .before .before .before .before .fits .b)) at (c .period .ensures))
 
 pub answer-spec : {M : Type 1} → statement M
 answer-spec =
@@ -45,7 +39,5 @@ answer-spec =
     returns-2
     moved-requires-2
     returns-3
-    next-requires
-    returns-4
-    previous-requires
-    returns-5)
+    period-requires
+    returns-4)

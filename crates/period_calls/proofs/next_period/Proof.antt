@@ -1,21 +1,14 @@
--- `period_calls::next_period` meets its contract: what `build` refuses comes first. Assumes nothing.
+-- `period_calls::next_period` meets its contract: it is `period` in its way. Assumes nothing.
 use mir.Facts.{toZ-ofZ}
-use Rattle.period_calls.proofs.Answers.{not-built, is-built}
 use borrow.Author.Needs.{needs}
 use Rattle.period_calls.proofs.next_period.Statement.{statement}
 use Rattle.period_calls.proofs.next_period.Tie as tie
 
-build-requires : tie.Need-build-requires
-build-requires c κs = search needs
+period-requires : tie.Need-period-requires
+period-requires c κs = search needs
 
 returns : tie.Need-returns
-returns c = not-built _ _ (c .before .before .build .result) _ (c .before .before .build .ensures .means) (c .if1 .taken)
-
-next-in-requires : tie.Need-next-in-requires
-next-in-requires c κs = (c .before .before .before .build .ensures .fits) (c .before .if1 .left)
-
-returns-2 : tie.Need-returns-2
-returns-2 c = let u = toZ-ofZ (c .before .before .before .before .before .before .before .fits .sec) in let v = toZ-ofZ (c .before .before .before .before .before .before .before .fits .ns) in is-built _ _ (c .before .before .before .before .build .result) _ (c .before .before .before .before .build .ensures .means) (c .before .before .if1 .left) (rw (u, v) at (c .next-in .ensures))
+returns c = rw (toZ-ofZ (c .before .before .before .fits .sec), toZ-ofZ (c .before .before .before .fits .ns)) at (c .period .ensures)
 
 pub next-period-spec : {M : Type 1} → statement M
-next-period-spec = tie.close (tie.spec build-requires returns next-in-requires returns-2)
+next-period-spec = tie.close (tie.spec period-requires returns)
