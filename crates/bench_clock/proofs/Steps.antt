@@ -1,6 +1,6 @@
 -- Laws of the functions that are timed: what each answer is, one turn of each loop, and the whole. Assumes nothing.
 use mathlib.Core.Path.{_≡_, refl, sym, ap, _∙_}
-use mathlib.Core.Bool.{not}
+use mathlib.Core.Bool.{not, true, false}
 use mathlib.Core.List.{List, [], _∷_}
 use Prim.Native.Nat.{ℕ, zero, suc, _+_, _*_, _-_, _/_, _≤_, _<_}
 use native.Mathlib.Omega.{arith}
@@ -17,7 +17,7 @@ use Rattle.model.specs.Calls.{Reply, betweenCall, moveCall, periodCall, listCal
 use Rattle.model.specs.Instant.{second}
 use Rattle.model.specs.Walk.{on, back}
 use Rattle.model.specs.Working.{Schedule}
-use Rattle.laws_base.specs.Test.{by-test}
+use Rattle.laws_base.specs.Test.{by-test, clash}
 use Rattle.rules.specs.Rules.{scheduleIs}
 use Rattle.spend.specs.Spending.{wayOf}
 use Rattle.build.specs.Read.{answerIs}
@@ -57,22 +57,28 @@ period-no k h = ap said (rw h at k)
 
 -- ---- by the kind of the question
 
+two : {k : ℕ} → (k ≡ 0 → ⊥) → k < 3 → (k ≡ 1 → ⊥) → k ≡ 2
+two f l g = omega arith
+
 module _ (k : ℕ) (s : Schedule) (a b c d : ℤ) {x : Answer (List ℤ)} where
   pub as-time : k ≡ 0 → x ≡ said (betweenCall s a b c d) → x ≡ asked k s a b c d
   unfolding asked
   as-time h e = rw (eq-eqb k 0 h) e
 
-  pub as-add : (k ≡ 0 → ⊥) → k ≡ 1 → x ≡ said (moveCall on s a b c d) → x ≡ asked k s a b c d
+  pub as-move : (k ≡ 0 → ⊥) → k < 3 → x ≡ said (moveCall (wayOf (not (eqb k 1))) s a b c d) → x ≡ asked k s a b c d
   unfolding asked
-  as-add f h e = rw (ne-eqb k 0 f, eq-eqb k 1 h) e
+  as-move f l e =
+      by-test (eqb k 1)
+      (λ h. rw (ne-eqb k 0 f, h) (rw h at e))
+      (λ h. rw (ne-eqb k 0 f, h, eq-eqb k 2 (two f l (λ i. clash (eqb k 1) (eq-eqb k 1 i) h))) (rw h at e))
 
-  pub as-sub : (k ≡ 0 → ⊥) → (k ≡ 1 → ⊥) → k ≡ 2 → x ≡ said (moveCall back s a b c d) → x ≡ asked k s a b c d
+  pub as-period : 3 ≤ k → x ≡ said (periodCall (wayOf (not (eqb k 3))) s a b) → x ≡ asked k s a b c d
   unfolding asked
-  as-sub f g h e = rw (ne-eqb k 0 f, ne-eqb k 1 g, eq-eqb k 2 h) e
-
-  pub as-period : (k ≡ 0 → ⊥) → (k ≡ 1 → ⊥) → (k ≡ 2 → ⊥) → x ≡ said (periodCall (wayOf (not (eqb k 3))) s a b) → x ≡ asked k s a b c d
-  unfolding asked
-  as-period f g i e = by-test (eqb k 3) (λ h. rw (ne-eqb k 0 f, ne-eqb k 1 g, ne-eqb k 2 i, h) (rw h at e)) (λ h. rw (ne-eqb k 0 f, ne-eqb k 1 g, ne-eqb k 2 i, h) (rw h at e))
+  as-period l e =
+      let f : eqb k 0 ≡ false = ne-eqb k 0 (λ h. omega arith) in
+      let g : eqb k 1 ≡ false = ne-eqb k 1 (λ h. omega arith) in
+      let i : eqb k 2 ≡ false = ne-eqb k 2 (λ h. omega arith) in
+      by-test (eqb k 3) (λ h. rw (f, g, i, h) (rw h at e)) (λ h. rw (f, g, i, h) (rw h at e))
 
 -- ---- writing
 

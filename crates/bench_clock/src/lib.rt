@@ -63,11 +63,8 @@ fn answer(book: &[u8], pack: &[u8], s: Schedule, kind: u8, a: i64, b: i64, c: i6
     if kind == 0 {
         return time(book, pack, s, a, b, c, d);
     }
-    if kind == 1 {
-        return moved(book, pack, s, false, a, b, c, d);
-    }
-    if kind == 2 {
-        return moved(book, pack, s, true, a, b, c, d);
+    if kind < 3 {
+        return moved(book, pack, s, kind != 1, a, b, c, d);
     }
     period(book, pack, s, kind != 3, a, b)
 }
