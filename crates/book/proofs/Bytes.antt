@@ -1,28 +1,26 @@
 -- The layout of a record's bytes, l, as tests and values at places of l, and that they are those of the crate `model`.
 -- Each parser of `model` gives its value where its test passes.
-use mathlib.Core.Path.{_≡_, refl, sym, ap, _∙_}
+use mathlib.Core.Path.{_≡_, refl, sym, _∙_}
 use mathlib.Core.Bool.{Bool, true, false, _&&_}
-use mathlib.Core.Option.{Option, none, some}
+use mathlib.Core.Option.{none, some}
 use mathlib.Core.List.{List, _∷_}
-use Prim.Native.Nat.{ℕ, zero, suc, _+_, _*_, _-_, _%_, _≤_, _<_}
+use Prim.Native.Nat.{ℕ, suc, _+_, _*_, _-_, _≤_, _<_}
 use native.Mathlib.Numerals.{add-one}
 use native.Mathlib.Omega.{arith}
 use lib.Dec.{leb, ltb, eqb}
 use lib.ListN.{length, getD, take, drop, length-drop, drop-of-length-le}
-use lib.Seq.{drop-cons, drop-drop, take-take, getD-take, getD-drop}
+use lib.Seq.{drop-cons, drop-drop}
 use borrow.Author.Tests.{le-leb, lt-leb, eq-eqb, ne-eqb, eqb-true, eqb-false, leb-true, leb-false}
 use native.Mathlib.Decide.{decLe}
 use Rattle.be.specs.Be.{be16, be32}
 use Rattle.be.proofs.Lists.{at-2, at-4}
 use Rattle.dates_of.proofs.Reading.{is-given, days-is}
 use Rattle.laws_base.specs.Test.{by-test}
-use Rattle.model.specs.Basic.{if_then_else_, _>>=_, given, need, each}
-use Rattle.model.specs.Bytes.{be, pieces}
-use Rattle.model.specs.Calendar.{isDate, dayNumber}
+use Rattle.model.specs.Basic.{if_then_else_, _>>=_, given, need}
+use Rattle.model.specs.Bytes.{be}
 use Rattle.model.specs.Directory.{Part}
 use Rattle.model.specs.Book as model
-use Rattle.model.specs.Book.{Hours, Body, default, work, pause, holidays, timeOf, hoursOf, dateIn, datesOf, bodyOf, entryOf}
-use Rattle.be.specs.Maybe.{isSome}
+use Rattle.model.specs.Book.{Hours, Body, default, work, pause, holidays, timeOf, hoursOf, datesOf, bodyOf, entryOf}
 use Rattle.book.specs.Meaning.{datesAt}
 use Rattle.book.specs.Accepts.{isTime, isHours, areDays, isDates, isBody, isRecord}
 

@@ -1,13 +1,13 @@
 -- What the code's records stand for: from an `Entry` of the code and the bytes of the book to an `Entry` of the crate `model`.
+use Rattle.model.specs.Basic.{if_then_else_}
 use mathlib.Core.Path.{_≡_}
-use mathlib.Core.List.{List, [], _∷_}
+use mathlib.Core.List.{List, []}
 use Prim.Native.Nat.{ℕ, _+_, _*_, _≤_, _<_}
 use lib.Dec.{eqb}
 use lib.ListN.{length, getD, take, drop}
 use Rattle.be.specs.Be.{be16, be32}
 use Rattle.be.specs.Maybe.{orEmpty}
 use Rattle.pack.specs.Directory.{startAt, lenAt}
-use Rattle.model.specs.Basic.{if_then_else_}
 use Rattle.model.specs.Instant.{second}
 unfoldable pub use Rattle.dates_of.specs.Days.{yearAt, dayAt, datesAt}
 use Rattle.model.specs.Book as model

@@ -7,7 +7,7 @@ ghost use lib.ListN.{length, getElem?};
 ghost use Rattle.model.specs.Basic.{distinct};
 ghost use Rattle.model.specs.Book.{withinLimits, lastDefault};
 ghost use Rattle.be.specs.Walk.{allFrom};
-ghost use Rattle.book.specs.Meaning.{recordsOf, yearAt, dayAt, datesAt, timeFrom, entryFrom, bytesAt, IsEntry, kindAt, datesIn, talliesOf};
+ghost use Rattle.book.specs.Meaning.{recordsOf, dayAt, datesAt, timeFrom, entryFrom, bytesAt, IsEntry, kindAt, datesIn, talliesOf};
 ghost use Rattle.book.specs.Accepts.{isTime, isHours, isDates, isBody, isRecord, isRecordAt, isBook};
 
 // A time of day.
@@ -114,13 +114,6 @@ fn record_ok(l: &[u8]) -> bool
 }
 
 // ---- the dates of a record, which stay in the book b (crate `dates_of`)
-
-// The year of the date at p, counted from -10400; 0 for the years before.
-pub fn year_at(b: &[u8], p: usize) -> u32
-    ensures { λ r. ⌜ r ≡ yearAt (now (b .entry)) p ⌝ }
-{
-    dates_of::year_at(b, p)
-}
 
 // The number of the day that is written at p, 0 where that is no date.
 pub fn date_at(b: &[u8], p: usize) -> u32

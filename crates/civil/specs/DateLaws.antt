@@ -1,24 +1,20 @@
 -- Each answer of the functions on dates, times of day and weekday sets, from what the code has tested.
-use mathlib.Core.Path.{_≡_, refl, sym, ap, _∙_}
+use mathlib.Core.Path.{_≡_, sym, ap, _∙_}
 use mathlib.Core.Bool.{Bool, true, false, not}
 use Prim.Native.Nat.{ℕ, zero, suc, _+_, _-_, _*_, _/_, _%_, _^_, _≤_, _<_}
 use native.Mathlib.Omega.{arith}
 use native.Mathlib.Nat.{div-eq-of-lt, zero-mul, one-mul}
-use lib.Dec.{T, eqb, ltb}
+use lib.Dec.{T, eqb}
 use lib.Bits.{bitAnd}
 use lib.Pow.{pow-pos, pow-mono}
-use borrow.Author.Tests.{lt-ltb, le-ltb, le-leb, lt-leb, eq-eqb, ne-eqb}
-use Rattle.model.specs.Basic.{if_then_else_, isIn}
-use Rattle.model.specs.Calendar.{isLeap, daysInMonth, isDate, dayNumber, dateOf, firstDay, lastDay, contains}
+use borrow.Author.Tests.{lt-ltb, le-ltb, eq-eqb, ne-eqb}
+use Rattle.model.specs.Calendar.{isLeap, daysInMonth, isDate, dayNumber, firstDay, lastDay, contains}
 use Rattle.model.specs.Instant.{second}
-use Rattle.laws_base.specs.Test.{by-test, clash}
+use Rattle.laws_base.specs.Test.{by-test}
 use Rattle.laws_base.specs.Claim.{Claim, le, eq, if, all, at-each, all₂, at-each₂}
 use Rattle.laws_calendar.specs.Dates.{Has, is-had, date-facts, date-test, day-from, day-to}
-use Rattle.civil.specs.Dates.{dated, dayRead, dateRead, nextRead, previousRead, timeRead}
+use Rattle.civil.specs.Dates.{dayRead, timeRead}
 use Rattle.civil.specs.declared.Date.{Date}
-use Rattle.civil.specs.declared.DateRead.{DateRead}
-use Rattle.civil.specs.declared.DateRead.the-variants.{On, OutOfRange}
-use Rattle.civil.specs.declared.DayRead.{DayRead}
 use Rattle.civil.specs.declared.DayRead.the-variants.{Day, NoDate}
 use Rattle.civil.specs.declared.TimeRead.the-variants.{Nanoseconds, NoTime}
 
@@ -54,18 +50,6 @@ pub day-no : (d : Date) → isDate (d .year) (d .month) (d .day) ≡ false → N
 unfolding dayRead
 day-no d e = rw e
 
-pub date-early : (n : ℕ) → n < firstDay → OutOfRange ≡ dateRead n
-unfolding dateRead
-date-early n h = simp (lt-leb firstDay n h)
-
-pub date-late : (n : ℕ) → lastDay < n → OutOfRange ≡ dateRead n
-unfolding dateRead
-date-late n h = simp (le-leb firstDay n (omega arith), lt-leb n lastDay h)
-
-pub date-on : (n : ℕ) (d : Date) → firstDay ≤ n → n ≤ lastDay → d ≡ dated (dateOf n) → On d ≡ dateRead n
-unfolding dateRead
-date-on n d h k e = simp (le-leb firstDay n h, le-leb n lastDay k) (ap On e)
-
 -- a date's day is in the range
 pub day-in : (d : Date) (n : ℕ) → dayRead d ≡ Day n → (firstDay ≤ n) × (n ≤ lastDay)
 unfolding dayRead
@@ -77,22 +61,6 @@ day-in d n e =
     let p : dayNumber (d .year) (d .month) (d .day) ≡ n = cc in
     (omega (arith, day-from v), omega (arith, day-to v)))
     (λ t. let q : NoDate ≡ Day n = rw t at e in absurd (let z : _≡_ {A = ℕ} 0 1 = cc in omega arith))
-
-pub next-none : (d : Date) → dayRead d ≡ NoDate → OutOfRange ≡ nextRead d
-unfolding nextRead
-next-none d e = simp e
-
-pub next-on : (d : Date) (n : ℕ) (r : DateRead) → dayRead d ≡ Day n → r ≡ dateRead (n + 1) → r ≡ nextRead d
-unfolding nextRead
-next-on d n r e h = simp e h
-
-pub previous-none : (d : Date) → dayRead d ≡ NoDate → OutOfRange ≡ previousRead d
-unfolding previousRead
-previous-none d e = simp e
-
-pub previous-on : (d : Date) (n : ℕ) (r : DateRead) → dayRead d ≡ Day n → r ≡ dateRead (n - 1) → r ≡ previousRead d
-unfolding previousRead
-previous-on d n r e h = simp e h
 
 -- ---- times of day
 

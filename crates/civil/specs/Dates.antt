@@ -1,14 +1,12 @@
 -- What the code's dates mean: the definitions' dates, with an answer where there is none.
-use mathlib.Core.Bool.{Bool, true, false, _&&_}
-use Prim.Native.Nat.{ℕ, _+_, _-_, _*_}
+use Rattle.model.specs.Basic.{if_then_else_}
+use mathlib.Core.Bool.{_&&_}
+use Prim.Native.Nat.{ℕ, _+_, _*_}
 use lib.Dec.{ltb}
-use Rattle.model.specs.Basic.{if_then_else_, isIn}
 use Rattle.model.specs.Calendar as M
-use Rattle.model.specs.Calendar.{isDate, dayNumber, dateOf, firstDay, lastDay}
+use Rattle.model.specs.Calendar.{isDate, dayNumber}
 use Rattle.model.specs.Instant.{second}
 use Rattle.civil.specs.declared.Date.{Date}
-use Rattle.civil.specs.declared.DateRead.{DateRead}
-use Rattle.civil.specs.declared.DateRead.the-variants.{On, OutOfRange}
 use Rattle.civil.specs.declared.DayRead.{DayRead}
 use Rattle.civil.specs.declared.DayRead.the-variants.{Day, NoDate}
 use Rattle.civil.specs.declared.TimeRead.{TimeRead}
@@ -21,21 +19,6 @@ dated d = record { year = d .year; month = d .month; day = d .day }
 -- the day of a date
 unfoldable pub dayRead : Date → DayRead
 dayRead d = if isDate (d .year) (d .month) (d .day) then Day (dayNumber (d .year) (d .month) (d .day)) else NoDate
-
--- the date of a day
-unfoldable pub dateRead : ℕ → DateRead
-dateRead n = if isIn firstDay lastDay n then On (dated (dateOf n)) else OutOfRange
-
--- the date of the day that f makes of a date's day
-abbrev pub dateFrom : DayRead → (ℕ → ℕ) → DateRead
-dateFrom (Day n) f = dateRead (f n)
-dateFrom NoDate f = OutOfRange
-
-unfoldable pub nextRead : Date → DateRead
-nextRead d = dateFrom (dayRead d) (λ n. n + 1)
-
-unfoldable pub previousRead : Date → DateRead
-previousRead d = dateFrom (dayRead d) (λ n. n - 1)
 
 -- a time of day in nanoseconds. Document 01: "Time of day: second 0 to 86,399 and nanoseconds."
 unfoldable pub timeRead : ℕ → ℕ → TimeRead

@@ -1,10 +1,9 @@
 // The calendar over unsigned numbers: years counted from -10400 and days from its first of January. Times of day and weekday sets.
 ghost use mathlib.Core.Path.{_≡_};
 ghost use Prim.Native.Nat.{_+_, _-_, _≤_, _<_, _^_};
-ghost use lib.Dec.{eqb};
-ghost use Rattle.model.specs.Calendar.{isLeap, daysBeforeYear, daysInMonth, daysBeforeMonth, isDate, dayNumber, weekday, monthOf, yearOf, dateIn, dateOf, isSet, contains};
+ghost use Rattle.model.specs.Calendar.{isLeap, daysBeforeYear, daysInMonth, daysBeforeMonth, isDate, dayNumber, weekday, monthOf, yearOf, dateIn, dateOf, contains};
 ghost use Rattle.laws_calendar.specs.Dates.{leapDay, Has};
-ghost use Rattle.civil.specs.Dates.{dated, dayRead, dateRead, nextRead, previousRead, timeRead};
+ghost use Rattle.civil.specs.Dates.{dated, dayRead, timeRead};
 
 pub struct Date {
     pub year: u32,
@@ -173,43 +172,6 @@ pub fn day_of(date: Date) -> DayRead
     DayRead::NoDate
 }
 
-pub enum DateRead {
-    On(Date),
-    OutOfRange,
-}
-
-pub fn date_at(day: u32) -> DateRead
-    ensures { λ r. ⌜ r ≡ dateRead day ⌝ }
-{
-    if day < 146463 {
-        return DateRead::OutOfRange;
-    }
-    if 7450946 < day {
-        return DateRead::OutOfRange;
-    }
-    DateRead::On(date_of(day))
-}
-
-// The date after a date. Of what is no date it gives OutOfRange.
-pub fn next_date(date: Date) -> DateRead
-    ensures { λ r. ⌜ r ≡ nextRead date ⌝ }
-{
-    let DayRead::Day(n) = day_of(date) else {
-        return DateRead::OutOfRange;
-    };
-    date_at(n + 1)
-}
-
-// The date before a date. Of what is no date it gives OutOfRange.
-pub fn previous_date(date: Date) -> DateRead
-    ensures { λ r. ⌜ r ≡ previousRead date ⌝ }
-{
-    let DayRead::Day(n) = day_of(date) else {
-        return DateRead::OutOfRange;
-    };
-    date_at(n - 1)
-}
-
 pub enum TimeRead {
     Nanoseconds(u64),
     NoTime,
@@ -226,13 +188,6 @@ pub fn time_of(sec: u32, ns: u32) -> TimeRead
         return TimeRead::NoTime;
     }
     TimeRead::Nanoseconds(sec as u64 * 1000000000 + ns as u64)
-}
-
-// A set of weekdays is a byte whose bit 7 is clear.
-pub fn is_set(set: u8) -> bool
-    ensures { λ r. ⌜ r ≡ isSet set ⌝ }
-{
-    set < 128
 }
 
 const MONDAY: u32 = 0;
@@ -252,10 +207,4 @@ pub fn contains(set: u8, day: u32) -> bool
         return false;
     }
     set & bit(day) != 0
-}
-
-pub fn is_empty(set: u8) -> bool
-    ensures { λ r. ⌜ r ≡ eqb set 0 ⌝ }
-{
-    set == 0
 }

@@ -1,7 +1,7 @@
 -- Dates have the same four bytes where they are the same day.
 use mathlib.Core.Path.{_≡_, refl, sym, ap, _∙_}
-use mathlib.Core.Bool.{Bool, true, false, _&&_}
-use mathlib.Core.List.{List, [], _∷_}
+use mathlib.Core.Bool.{Bool, true}
+use mathlib.Core.List.{List}
 use Prim.Native.Nat.{ℕ, zero, suc, _+_, _*_, _-_, _%_, _≤_, _<_}
 use native.Mathlib.Omega.{arith}
 use lib.Dec.{eqb}
@@ -10,8 +10,8 @@ use borrow.Author.Tests.{eq-eqb, ne-eqb, eqb-true, eqb-false}
 use Rattle.be.specs.Be.{be16, be32}
 use Rattle.laws_base.specs.Test.{by-test, and-both}
 use Rattle.laws_calendar.specs.Dates.{IsDate, date-facts, is-had, date-of-day}
-use Rattle.model.specs.Basic.{if_then_else_, any, among, distinct}
-use Rattle.model.specs.Calendar.{Date, date, isDate, dayNumber, dateOf}
+use Rattle.model.specs.Basic.{any, among, distinct}
+use Rattle.model.specs.Calendar.{Date, date, isDate, dateOf}
 use Rattle.words.specs.Words.{wordsAt}
 use Rattle.dates_of.specs.Days.{yearAt, dayAt, datesAt, isDay, areDays}
 use Rattle.dates_of.proofs.Reading.{dateTest, day-says, datesTest, days-says}

@@ -3,7 +3,7 @@ ghost use mathlib.Core.Path.{_≡_};
 ghost use Prim.Native.Nat.{_+_, _*_, _≤_, _<_};
 ghost use lib.ListN.{length};
 ghost use Rattle.model.specs.Basic.{among, distinct};
-ghost use Rattle.dates_of.specs.Days.{yearOf, yearAt, IsWritten, dayAt, datesAt, isDay, areDays};
+ghost use Rattle.dates_of.specs.Days.{yearOf, IsWritten, dayAt, datesAt, isDay, areDays};
 use civil::Date;
 
 // A byte as a wider number.
@@ -23,13 +23,6 @@ fn year_of(n: u32) -> u32
         return 0;
     }
     y - 22368
-}
-
-// The year of the date at p, counted from -10400; 0 for the years before.
-pub fn year_at(b: &[u8], p: usize) -> u32
-    ensures { λ r. ⌜ r ≡ yearAt (now (b .entry)) p ⌝ }
-{
-    year_of(be::be16_at(b, p))
 }
 
 // The year, month and day that are written at p, whether or not they are a date.

@@ -1,31 +1,23 @@
 -- Each answer of the functions on durations, from what the code has tested, and what is written of an instant or a duration.
 use mathlib.Core.Path.{_≡_, refl, sym, ap, _∙_}
 use mathlib.Core.Bool.{Bool, true, false, not, _&&_, _||_}
-use mathlib.Core.List.{List, [], _∷_}
-use mathlib.Core.Option.{Option, none, some}
+use mathlib.Core.List.{[], _∷_}
 use Prim.Native.Nat.{ℕ, zero, suc, _+_, _-_, _*_, _/_, _%_, _^_, _≤_, _<_}
 use native.Mathlib.Omega.{arith}
 use lib.Dec.{leb, ltb, eqb}
 use lib.IntN.{ℤ, pos, negsuc, negℤ, natAbs}
-use lib.Signed.{ltZ}
 use mir.Syntax.{w64}
 use mir.Val.{SFits}
 use borrow.Author.Tests.{leb-true, leb-false, ltb-true, ltb-false, le-leb, lt-leb, lt-ltb, le-ltb, eq-eqb, ne-eqb}
-use Rattle.model.specs.Basic.{if_then_else_, given, isIn}
-use Rattle.model.specs.Answer.{Answer, gives, refuses, orRefuse, _>>=_}
+use Rattle.model.specs.Basic.{isIn}
 use Rattle.model.specs.Instant as M
-use Rattle.model.specs.Instant.{epoch, second, firstInstant, lastInstant, isBelow0, signed, areOpposite, durationOf, duration, negated, instant}
+use Rattle.model.specs.Instant.{epoch, second, firstInstant, lastInstant, isBelow0, signed, areOpposite, durationOf, duration, negated}
 use Rattle.laws_base.specs.Test.{by-test, and-both, clash, not-true}
-use Rattle.instant.specs.declared.Instant.{Instant}
 use Rattle.edge.specs.Signed.{off, unoff, off-plus, off-minus, unoff-low, unoff-high}
-use Rattle.edge.specs.Reads.{ofNanos, within, secondsFrom, values}
-use Rattle.edge.specs.Durations.{signedPair, spanRead, durationRead, fittingPair, negatedRead, negation}
-use Rattle.edge.specs.declared.InstantRead.the-variants as R
-use Rattle.edge.specs.declared.InstantWritten.the-variants as W
+use Rattle.edge.specs.Reads.{secondsFrom}
+use Rattle.edge.specs.Durations.{signedPair, spanRead, fittingPair, negatedRead, negation}
 use Rattle.edge.specs.declared.Duration.{Duration}
-use Rattle.edge.specs.declared.SpanRead.{SpanRead}
 use Rattle.edge.specs.declared.SpanRead.the-variants as S
-use Rattle.edge.specs.declared.DurationRead.the-variants as D
 use Rattle.edge.specs.declared.DurationMade.{DurationMade}
 use Rattle.edge.specs.declared.DurationMade.the-variants.{Is, OutOfRange, Malformed}
 
@@ -33,10 +25,6 @@ never : {P : Type 0} → _≡_ {A = ℕ} 0 1 → P
 never z = absurd (omega arith)
 
 -- ---- signs
-
-pub below-is : (z : ℤ) → ltZ z (pos 0) ≡ isBelow0 z
-below-is (pos n) = le-ltb n 0 (omega arith)
-below-is (negsuc n) = refl
 
 -- the sign and the size of a number, from its offset
 neg-parts : (z : ℤ) → SFits w64 z → off z < 2 ^ 63 → (isBelow0 z ≡ true) × (natAbs z + off z ≡ 2 ^ 63)
@@ -145,16 +133,6 @@ module _ (s n : ℤ) (f : SFits w64 s) (g : SFits w64 n) where
 
 -- ---- the pair itself
 
-pub duration-no : (s n : ℤ) (x : Answer M.Duration) → spanRead x ≡ S.Malformed → D.Malformed ≡ durationRead s n x
-unfolding spanRead durationRead
-duration-no s n (gives d) e = never (cc)
-duration-no s n (refuses m p) e = refl
-
-pub duration-yes : (s n : ℤ) (x : Answer M.Duration) (m : Bool) (a b : ℕ) → spanRead x ≡ S.Signed m a b → D.Is (record { secs = s; nanos = n }) ≡ durationRead s n x
-unfolding spanRead durationRead
-duration-yes s n (gives d) m a b e = refl
-duration-yes s n (refuses k p) m a b e = never (cc)
-
 -- ---- from a sign and a size
 
 pub unoff-less : (k : ℕ) → k ≤ 2 ^ 63 → unoff (2 ^ 63 - k) ≡ negℤ (pos k)
@@ -251,31 +229,6 @@ seconds-is k h =
 abbrev isInstant : ℕ → Bool
 isInstant n = isIn firstInstant lastInstant n
 
-pub written-no : (n : ℕ) → within n ≡ R.OutOfRange → values W.OutOfRange ≡ given (isInstant n) (instant n)
-unfolding within
-written-no n e = by-test (isInstant n) (λ t. let q : R.At (ofNanos n) ≡ R.OutOfRange = simp t at e in never (cc)) (λ t. simp t)
-
-pub within-is : (n : ℕ) (i : Instant) → within n ≡ R.At i → (ofNanos n ≡ i) × (isInstant n ≡ true)
-unfolding within
-within-is n i e =
-    by-test (isInstant n)
-    (λ t. let q : R.At (ofNanos n) ≡ R.At i = simp t at e in (cc, t))
-    (λ t. let q : R.OutOfRange ≡ R.At i = simp t at e in never (cc))
-
-pub within-small : (n : ℕ) (i : Instant) → within n ≡ R.At i → (i .sec < 2 ^ 62) × (i .ns < second)
-within-small n i e =
-    let p = within-is n i e in
-    let x : n / second ≡ i .sec = ap (λ (j : Instant). j .sec) (p .0) in
-    let y : n % second ≡ i .ns = ap (λ (j : Instant). j .ns) (p .0) in
-    let l : n ≤ lastInstant = leb-true _ _ (and-both (leb firstInstant n) (leb n lastInstant) (p .1) .1) in
-    (omega arith, omega arith)
-
-pub written-yes : (n : ℕ) (i : Instant) (a b : ℤ) → within n ≡ R.At i → a ≡ secondsFrom (i .sec) → b ≡ pos (i .ns) → values (W.Pair a b) ≡ given (isInstant n) (instant n)
-unfolding instant secondsFrom
-written-yes n i a b e x y =
-    let p = within-is n i e in
-    simp (p .1) (λ j. some ((x ∙ ap (λ (k : Instant). secondsFrom (k .sec)) (sym (p .0))) j ∷ (y ∙ ap (λ (k : Instant). pos (k .ns)) (sym (p .0))) j ∷ []))
-
 -- a duration's pair is the one that it was made from
 back-s : (s n : ℤ) → areOpposite s n ≡ false → signed (isBelow0 s || isBelow0 n) (natAbs s) ≡ s
 back-s (pos s) (pos n) o = refl
@@ -301,13 +254,3 @@ made s n t =
     let x : (natAbs s * second + natAbs n) / second ≡ natAbs s = omega arith in
     let y : (natAbs s * second + natAbs n) % second ≡ natAbs n = omega arith in
     rw (x, y) (λ i. back-s s n o i ∷ back-n s n o i ∷ [])
-
-pub duration-back : (s n : ℤ) (d : M.Duration) → durationOf s n ≡ gives d → duration d ≡ s ∷ n ∷ []
-unfolding durationOf
-duration-back s n d e =
-    by-test (isDuration s n)
-    (λ t.
-    let q : gives (dur (isBelow0 s || isBelow0 n) (natAbs s * second + natAbs n)) ≡ gives d = simp t at e in
-    let r : dur (isBelow0 s || isBelow0 n) (natAbs s * second + natAbs n) ≡ d = cc in
-    rw (← r) (made s n t))
-    (λ t. let q : refuses 9 0 ≡ gives d = simp t at e in never (cc))

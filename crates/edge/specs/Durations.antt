@@ -1,17 +1,15 @@
 -- What the code's durations mean: a sign and a number of nanoseconds, as the definitions have them. Refusal 7 is out of range.
-use mathlib.Core.Bool.{Bool, true, false, _&&_}
+use Rattle.model.specs.Basic.{if_then_else_}
+use mathlib.Core.Bool.{Bool}
 use Prim.Native.Nat.{ℕ, _/_, _%_, _^_}
 use lib.Dec.{leb, ltb, eqb}
 use lib.IntN.{ℤ}
-use Rattle.model.specs.Basic.{if_then_else_}
 use Rattle.model.specs.Answer.{Answer, gives, refuses, _>>=_}
 use Rattle.model.specs.Instant as M
 use Rattle.model.specs.Instant.{second, signed, durationOf, negated}
 use Rattle.edge.specs.declared.Duration.{Duration}
 use Rattle.edge.specs.declared.SpanRead.{SpanRead}
 use Rattle.edge.specs.declared.SpanRead.the-variants as S
-use Rattle.edge.specs.declared.DurationRead.{DurationRead}
-use Rattle.edge.specs.declared.DurationRead.the-variants as D
 use Rattle.edge.specs.declared.DurationMade.{DurationMade}
 use Rattle.edge.specs.declared.DurationMade.the-variants.{Is, OutOfRange, Malformed}
 
@@ -23,11 +21,6 @@ signedPair minus s n = record { secs = signed minus s; nanos = signed minus n }
 unfoldable pub spanRead : Answer M.Duration → SpanRead
 spanRead (gives d) = S.Signed (d .minus) (d .size / second) (d .size % second)
 spanRead (refuses n p) = S.Malformed
-
--- the pair itself, where it is a duration
-unfoldable pub durationRead : ℤ → ℤ → Answer M.Duration → DurationRead
-durationRead s n (gives d) = D.Is (record { secs = s; nanos = n })
-durationRead s n (refuses m p) = D.Malformed
 
 -- the pair of a sign, seconds and nanoseconds, where both fit
 unfoldable pub fittingPair : Bool → ℕ → ℕ → DurationMade

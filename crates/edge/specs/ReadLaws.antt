@@ -1,21 +1,19 @@
 -- Each answer of the functions on instants, from what the code has tested.
-use mathlib.Core.Path.{_≡_, refl, sym, ap, _∙_}
+use mathlib.Core.Path.{_≡_, refl, ap}
 use mathlib.Core.Bool.{Bool, true, false, not, _&&_}
-use Prim.Native.Nat.{ℕ, suc, _+_, _-_, _*_, _/_, _%_, _^_, _≤_, _<_}
+use Prim.Native.Nat.{ℕ, _+_, _-_, _*_, _/_, _%_, _^_, _≤_, _<_}
 use native.Mathlib.Omega.{arith}
 use lib.Dec.{leb, ltb}
 use lib.IntN.{ℤ, pos, negsuc, natAbs}
 use mir.Syntax.{w64}
 use mir.Val.{SFits}
-use borrow.Author.Tests.{leb-true, ltb-true, le-leb, lt-leb, lt-ltb}
-use Rattle.model.specs.Basic.{if_then_else_, given, isIn}
-use Rattle.model.specs.Answer.{Answer, gives, refuses, orRefuse}
+use borrow.Author.Tests.{leb-true, ltb-true, le-leb, lt-ltb}
+use Rattle.model.specs.Basic.{isIn}
 use Rattle.model.specs.Instant.{epoch, second, firstInstant, lastInstant, isBelow0, secondFrom, instantOf}
 use Rattle.laws_base.specs.Test.{by-test, and-both, both-and, not-true, true-not, clash}
 use Rattle.instant.specs.declared.Instant.{Instant}
 use Rattle.edge.specs.Signed.{off, off-plus, off-minus}
-use Rattle.edge.specs.Reads.{ofNanos, instantRead, within}
-use Rattle.edge.specs.declared.InstantRead.{InstantRead}
+use Rattle.edge.specs.Reads.{ofNanos, instantRead}
 use Rattle.edge.specs.declared.InstantRead.the-variants.{At, OutOfRange}
 
 -- an instant is known by its seconds and the rest
@@ -29,18 +27,6 @@ parts n s t h e = λ i. record { sec = p i; ns = q i }
     q = omega arith
 
 -- ---- in the range, or not
-
-pub early : (n : ℕ) → n < firstInstant → OutOfRange ≡ within n
-unfolding within
-early n h = simp (lt-leb firstInstant n h)
-
-pub late : (n : ℕ) → lastInstant < n → OutOfRange ≡ within n
-unfolding within
-late n h = simp (le-leb firstInstant n (omega arith), lt-leb n lastInstant h)
-
-pub inside : (n s t : ℕ) → t < 1000000000 → s * 1000000000 + t ≡ n → firstInstant ≤ n → n ≤ lastInstant → At (record { sec = s; ns = t }) ≡ within n
-unfolding within
-inside n s t h e l k = simp (le-leb firstInstant n l, le-leb n lastInstant k) (ap At (parts n s t h e))
 
 -- ---- from signed numbers
 

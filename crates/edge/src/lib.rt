@@ -2,14 +2,13 @@
 // as the unsigned one that is 2^63 more, compared and moved as that, and written back.
 use instant::Instant;
 ghost use mathlib.Core.Path.{_≡_};
-ghost use Prim.Native.Nat.{_+_, _-_, _*_, _≤_, _<_, _^_};
-ghost use mathlib.Core.Bool.{_||_, false};
-ghost use Rattle.model.specs.Basic.{given, isIn};
-ghost use Rattle.model.specs.Instant.{instantOf, instant, firstInstant, lastInstant, isBelow0, durationOf};
+ghost use Prim.Native.Nat.{_+_, _-_, _≤_, _<_, _^_};
+ghost use mathlib.Core.Bool.{false};
+ghost use Rattle.model.specs.Instant.{instantOf, durationOf};
 ghost use Rattle.instant.specs.Instant.{nanos};
 ghost use Rattle.edge.specs.Signed.{off, unoff};
-ghost use Rattle.edge.specs.Reads.{instantRead, within, secondsFrom, values};
-ghost use Rattle.edge.specs.Durations.{signedPair, spanRead, durationRead, fittingPair, negation};
+ghost use Rattle.edge.specs.Reads.{instantRead, secondsFrom};
+ghost use Rattle.edge.specs.Durations.{signedPair, spanRead, fittingPair, negation};
 
 const HALF: u64 = 9223372036854775808;
 
@@ -70,111 +69,12 @@ pub fn instant_of(sec: i64, ns: i64) -> InstantRead
     })
 }
 
-// The instant of a pair, where it is in the range; the nanoseconds carry.
-fn settled(a: Instant) -> InstantRead
-    ensures { λ r. ⌜ r ≡ within (nanos a) ⌝ }
-{
-    if EPOCH + AFTER < a.sec {
-        return InstantRead::OutOfRange;
-    }
-    let sec = a.sec + (a.ns / 1000000000) as u64;
-    if sec < EPOCH - BEFORE {
-        return InstantRead::OutOfRange;
-    }
-    if EPOCH + AFTER < sec {
-        return InstantRead::OutOfRange;
-    }
-    InstantRead::At(Instant {
-        sec,
-        ns: a.ns % 1000000000,
-    })
-}
-
-// a less b, where b is not after a. What b has more of nanoseconds is taken from the seconds, what a has more carries.
-fn less(a: Instant, b: Instant) -> Instant
-    requires { ⌜ nanos b ≤ nanos a ⌝ }
-    ensures { λ r. ⌜ (nanos r + nanos b ≡ nanos a) × (a .ns < 1000000000 → r .ns < 1000000000) ⌝ }
-{
-    if b.ns <= a.ns {
-        let n = a.ns - b.ns;
-        if b.sec <= a.sec {
-            return Instant {
-                sec: a.sec - b.sec,
-                ns: n,
-            };
-        }
-        let d = b.sec - a.sec;
-        return Instant {
-            sec: 0,
-            ns: (n as u64 - d * 1000000000) as u32,
-        };
-    }
-    let n = b.ns - a.ns;
-    let k = (n - 1) / 1000000000 + 1;
-    Instant {
-        sec: a.sec - b.sec - k as u64,
-        ns: (k as u64 * 1000000000 - n as u64) as u32,
-    }
-}
-
-// The time from the earlier of two instants to the later. Its nanoseconds are below 10^9 where those of both are.
-pub fn distance(a: Instant, b: Instant) -> Instant
-    ensures { λ r. ⌜ (nanos r ≡ (nanos a - nanos b) + (nanos b - nanos a)) × (a .ns < 1000000000 → b .ns < 1000000000 → r .ns < 1000000000) ⌝ }
-{
-    if instant::precedes(a, b) {
-        return less(b, a);
-    }
-    less(a, b)
-}
-
-// The instant that is a span after t.
-pub fn plus(t: Instant, span: Instant) -> InstantRead
-    ensures { λ r. ⌜ r ≡ within (nanos t + nanos span) ⌝ }
-{
-    if EPOCH + AFTER < t.sec {
-        return InstantRead::OutOfRange;
-    }
-    if EPOCH + AFTER < span.sec {
-        return InstantRead::OutOfRange;
-    }
-    let n = t.ns as u64 + span.ns as u64;
-    settled(Instant {
-        sec: t.sec + span.sec + n / 1000000000,
-        ns: (n % 1000000000) as u32,
-    })
-}
-
-// The instant that is a span before t. No instant is 0, so none is as long as the span before the first.
-pub fn minus(t: Instant, span: Instant) -> InstantRead
-    ensures { λ r. ⌜ r ≡ within (nanos t - nanos span) ⌝ }
-{
-    if instant::precedes(t, span) {
-        return InstantRead::OutOfRange;
-    }
-    settled(less(t, span))
-}
-
 // The seconds from 1970 of a second that is counted from -10400.
 pub fn seconds_of(sec: u64) -> i64
     requires { ⌜ sec < 2 ^ 63 ⌝ }
     ensures { λ r. ⌜ r ≡ secondsFrom sec ⌝ }
 {
     lower(sec + (HALF - EPOCH))
-}
-
-pub enum InstantWritten {
-    Pair(i64, i64),
-    OutOfRange,
-}
-
-// An instant's seconds from 1970 and its nanoseconds.
-pub fn written(t: Instant) -> InstantWritten
-    ensures { λ r. ⌜ values r ≡ given (isIn firstInstant lastInstant (nanos t)) (instant (nanos t)) ⌝ }
-{
-    let InstantRead::At(i) = settled(t) else {
-        return InstantWritten::OutOfRange;
-    };
-    InstantWritten::Pair(seconds_of(i.sec), i.ns as i64)
 }
 
 // Seconds and nanoseconds that never have opposite signs, the nanoseconds below 10^9 in size.
@@ -214,29 +114,6 @@ pub fn span_of(secs: i64, nanos: i64) -> SpanRead
         return SpanRead::Signed(true, 0, (HALF - n) as u32);
     }
     SpanRead::Signed(false, s - HALF, (n - HALF) as u32)
-}
-
-pub enum DurationRead {
-    Is(Duration),
-    Malformed,
-}
-
-pub fn duration_of(secs: i64, nanos: i64) -> DurationRead
-    ensures { λ r. ⌜ r ≡ durationRead secs nanos (durationOf secs nanos) ⌝ }
-{
-    match span_of(secs, nanos) {
-        SpanRead::Malformed => DurationRead::Malformed,
-        SpanRead::Signed(_, _, _) => DurationRead::Is(Duration { secs, nanos }),
-    }
-}
-
-pub fn is_negative(d: Duration) -> bool
-    ensures { λ r. ⌜ r ≡ (isBelow0 (d .secs) || isBelow0 (d .nanos)) ⌝ }
-{
-    if d.secs < 0 {
-        return true;
-    }
-    d.nanos < 0
 }
 
 // The duration of a sign and a size that fits.

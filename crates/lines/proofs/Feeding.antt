@@ -7,7 +7,7 @@ use Prim.Native.Nat.{ℕ, zero, suc, _+_, _*_, _-_, _^_, _≤_, _<_}
 use native.Mathlib.Omega.{arith}
 use native.Mathlib.Numerals.{add-one}
 use lib.Dec.{leb, ltb, eqb}
-use lib.ListN.{length, getD, drop, drop-of-length-le}
+use lib.ListN.{length, getD, drop}
 use lib.Seq.{drop-cons}
 use lib.IntN.{ℤ, pos, negsuc}
 use borrow.Author.Tests.{lt-ltb, le-leb, lt-leb, ne-eqb, leb-true, ltb-true, ltb-false}
@@ -488,6 +488,3 @@ pub line-next : (l m : Line) (line : List ℕ) (i : ℕ) (q : Option model.Query
 line-next l m line i q h step known =
     let d : drop i line ≡ getD line i 0 ∷ drop (i + 1) line = drop-cons line i 0 h ∙ rw (add-one i) in
     step (drop (i + 1) line) ∙ ap (yet l) (sym d) ∙ known
-
-pub line-ended : (l : Line) (line : List ℕ) (i : ℕ) (x q : Option model.Query) → length line ≤ i → x ≡ yet l [] → yet l (drop i line) ≡ q → x ≡ q
-line-ended l line i x q h e known = e ∙ ap (yet l) (sym (drop-of-length-le line h)) ∙ known

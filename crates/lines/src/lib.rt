@@ -321,16 +321,3 @@ pub fn finish(l: Line) -> Query
         Line::Broken => Query::Bad,
     }
 }
-
-// The query of a line, without its newline.
-pub fn parse(line: &[u8]) -> Query
-    ensures { λ r. ⌜ queryIs r ≡ queryOf (now (line .entry)) ⌝ }
-{
-    let mut l = start();
-    let mut i: usize = 0;
-    while i < line.len() {
-        l = fed(l, line[i]);
-        i += 1;
-    }
-    finish(l)
-}

@@ -2,15 +2,14 @@
 use mathlib.Core.Path.{_≡_, refl, sym, ap, _∙_}
 use mathlib.Core.List.{List, [], _∷_, map}
 use mathlib.Core.Bool.{Bool, true, false}
-use mathlib.Core.Option.{Option, none, some}
+use mathlib.Core.Option.{none, some}
 use Prim.Native.Nat.{ℕ, zero, suc, _+_, _*_, _-_, _≤_, _<_}
 use native.Mathlib.Omega.{arith}
 use borrow.Author.Tests.{le-leb, lt-leb}
 use lib.ListN.{length, getD, take, drop}
-use Rattle.model.specs.Basic.{_>>=_, run}
+use Rattle.model.specs.Basic.{run}
 use Rattle.model.specs.Directory.{partsOf}
 use Rattle.model.specs.Pack.{sameName, packOf, find}
-use Rattle.laws_base.specs.Test.{clash}
 use Rattle.be.specs.Maybe.{isSome}
 use Rattle.be.specs.Walk.{allFrom}
 use Rattle.pack.specs.Directory.{countAt, startAt, lenAt, entriesOk, dirOk}
@@ -81,14 +80,6 @@ module _ (p nm : List ℕ) where
   -- no such name, where `at` stands for no part
   nothing : (at : ℕ) → zoneFile p nm ≡ none → Finds p nm false at []
   nothing at e = record { file = rw e; found = rw e; part = refl }
-
-  pub look-broken : (at : ℕ) {r : Bool} → r ≡ isSome (packOf p) → r ≡ false → Finds p nm false at []
-  unfolding zoneFile
-  look-broken at e q = nothing at (none-there (find nm) (packOf p) (sym e ∙ q))
-    where
-      none-there : {A : Type 0} (f : A → Option (List ℕ)) (o : Option A) → isSome o ≡ false → (o >>= f) ≡ none
-      none-there f none e = refl
-      none-there f (some a) e = clash true refl e
 
   module _ (r : Place) {n : ℕ} (ok : isSome (packOf p) ≡ true) (en : n ≡ countAt p) (er : bytesOf p r ≡ find nm (map (namedAt p) (run 0 n))) where
     place-is : zoneFile p nm ≡ bytesOf p r

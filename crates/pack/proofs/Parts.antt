@@ -1,13 +1,13 @@
 -- The directory by index is the directory of the crate `model`, which reads it from the front.
 use mathlib.Core.Path.{_≡_, refl, sym, ap, _∙_}
 use mathlib.Core.Bool.{Bool, true, false, _&&_}
-use mathlib.Core.List.{List, [], _∷_, map}
+use mathlib.Core.List.{List, _∷_, map}
 use mathlib.Core.Option.{Option, none, some}
 use Prim.Native.Nat.{ℕ, zero, suc, _+_, _*_, _-_, _≤_, _<_}
-use native.Mathlib.Nat.{le-of-suc-le-suc, not-suc-le-zero, add-zero, zero-add}
+use native.Mathlib.Nat.{le-of-suc-le-suc, not-suc-le-zero, add-zero}
 use native.Mathlib.Omega.{arith}
 use native.Mathlib.Numerals.{add-one}
-use borrow.Author.Tests.{leb-true, le-leb, lt-leb}
+use borrow.Author.Tests.{leb-true}
 use lib.Dec.{leb}
 use lib.ListN.{length, getD, take, drop}
 use lib.Seq.{drop-drop}
@@ -16,7 +16,6 @@ use Rattle.model.specs.Bytes.{be}
 use Rattle.model.specs.Directory.{Part, partsFrom, partsOf}
 use Rattle.laws_base.specs.Test.{by-test, and-both}
 use Rattle.be.proofs.Lists.{at-4}
-use Rattle.be.specs.Be.{be32}
 use Rattle.be.specs.Maybe.{isSome}
 use Rattle.pack.specs.Directory.{countAt, startAt, lenAt, partAt, recordOk, entriesOk, dirOk}
 
@@ -129,26 +128,6 @@ run-at f d (suc n) a zero h = ap f (sym (add-zero a))
 run-at f d (suc n) a (suc i) h = run-at f d n (suc a) i (le-of-suc-le-suc h) ∙ ap f (omega arith)
 
 module _ (s : List ℕ) where
-  pub parts-some : (l : List Part) → partsOf s ≡ some l → l ≡ map (partAt s) (run 0 (countAt s))
-  parts-some l e = same (dirOk s) (sym (parts-index s) ∙ e)
-    where
-      same : {A : Type 0} {a b : A} (t : Bool) → given t a ≡ some b → b ≡ a
-      same true q = cc
-      same false q = cc
-
-  pub part-at : (l : List Part) (d : Part) (i : ℕ) → partsOf s ≡ some l → i < countAt s → getD l i d ≡ partAt s i
-  part-at l d i e h = rw (parts-some l e) (run-at (partAt s) d (countAt s) 0 i h ∙ ap (partAt s) (zero-add i))
-
-  dir-holds : isSome (partsOf s) ≡ true → dirOk s ≡ true
-  dir-holds e = as-dir s refl ∙ e
-
-  pub dir-fits : isSome (partsOf s) ≡ true → 4 + 8 * countAt s ≤ length s
-  unfolding dirOk
-  dir-fits e =
-      let m = 4 + 8 * countAt s in
-      let p = and-both (leb 4 (length s)) (leb m (length s) && entriesOk s m 0 (countAt s)) (dir-holds e) in
-      leb-true m (length s) (and-both (leb m (length s)) (entriesOk s m 0 (countAt s)) (p .1) .0)
-
   inside-from : (k lo i j : ℕ) → entriesOk s lo i k ≡ true → j < k → startAt s (i + j) + lenAt s (i + j) ≤ length s
   unfolding entriesOk recordOk
   inside-from zero lo i j e h = absurd (not-suc-le-zero h)
@@ -163,12 +142,3 @@ module _ (s : List ℕ) where
       let p = and-both (leb lo o && leb (o + n) (length s)) (entriesOk s (o + n) (i + 1) k) e in
       let x : i + suc j ≡ (i + 1) + j = omega arith in
       rw x (inside-from k (o + n) (i + 1) j (p .1) (le-of-suc-le-suc h))
-
-  pub part-inside : (i : ℕ) → isSome (partsOf s) ≡ true → i < countAt s → startAt s i + lenAt s i ≤ length s
-  unfolding dirOk
-  part-inside i e h =
-      let m = 4 + 8 * countAt s in
-      let p = and-both (leb 4 (length s)) (leb m (length s) && entriesOk s m 0 (countAt s)) (dir-holds e) in
-      let q : startAt s (0 + i) + lenAt s (0 + i) ≤ length s =
-      inside-from (countAt s) m 0 i (and-both (leb m (length s)) (entriesOk s m 0 (countAt s)) (p .1) .1) h in
-      rw zero-add at q

@@ -229,15 +229,3 @@ pub fn look_in<'a>(p: &'a [u8], name: &[u8], found: &mut bool, at: &mut usize) -
         }
     }
 }
-
-// The same of any pack: one that breaks its layout has no zone.
-pub fn look_up<'a>(p: &'a [u8], name: &[u8], found: &mut bool, at: &mut usize) -> &'a [u8]
-    ensures { λ r. ⌜ Finds (now (p .entry)) (now (name .entry)) (now (found .exit)) (now (at .exit)) (now r) ⌝ }
-{
-    if pack_ok(p) {
-        return look_in(p, name, found, at);
-    }
-    *found = false;
-    *at = 0;
-    &p[..0]
-}

@@ -1,7 +1,6 @@
 -- Laws of a footer's changes: what the code finds in four years is the latest of all and the next of all, and up to the next the offset stays.
 use mathlib.Core.Path.{_≡_, refl, sym, _∙_, ap}
-use mathlib.Core.Option.{some}
-use mathlib.Core.List.{List, [], _∷_, map}
+use mathlib.Core.List.{[], _∷_, map}
 use Prim.Native.Nat.{ℕ, suc, _+_, _-_, _≤_, _<_, min}
 use native.Mathlib.Omega.{arith}
 use native.Mathlib.Decide.{decLe, decLt}
@@ -9,30 +8,15 @@ use lib.Dec.{leb}
 use borrow.Author.Tests.{le-leb, lt-leb}
 use Rattle.model.specs.Basic.{run, filter, maximum}
 use Rattle.model.specs.Footer as model
-use Rattle.model.specs.Footer.{changeIn, footerOf}
+use Rattle.model.specs.Footer.{changeIn}
 use Rattle.model.specs.Zone.{latest, yearAt, ruledAt}
 use Rattle.laws_base.specs.Test.{by-either}
 use Rattle.laws_zone.specs.Turns.{TurnFits, latest-is, latest-le, latest-of-all, change-rises, two-before, two-after, daylight, standard}
-use Rattle.laws_zone.specs.Grammar.{FooterFits, footer-fits}
+use Rattle.laws_zone.specs.Grammar.{FooterFits}
 use Rattle.laws_zone.specs.Runs as runs
-use Rattle.footer.specs.Parsed.{footerIs}
-use Rattle.footer.specs.declared.Footer.{Footer}
-use Rattle.footer.specs.declared.Footer.the-variants.{Empty, Fixed, Rules, Broken}
-use Rattle.turns.specs.Turning.{theFooter, Near}
+use Rattle.turns.specs.Turning.{Near}
 
 -- ---- a parsed footer fits
-
-pub the-footer : (f : Footer) {m : model.Footer} → footerIs f ≡ some m → theFooter f ≡ m
-the-footer Empty e = cc
-the-footer (Fixed o) e = cc
-the-footer (Rules std dst start end) e = cc
-the-footer Broken e = absurd (let z : _≡_ {A = ℕ} 0 1 = cc in omega arith)
-
-pub parsed-fits : (f : Footer) (s : List ℕ) → footerIs f ≡ footerOf s → FooterFits (theFooter f)
-parsed-fits Empty s e = tt
-parsed-fits (Fixed o) s e = footer-fits s _ (sym e)
-parsed-fits (Rules std dst start end) s e = footer-fits s _ (sym e)
-parsed-fits Broken s e = tt
 
 -- ---- the latest of four that rise
 

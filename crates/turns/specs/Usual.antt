@@ -2,7 +2,7 @@
 -- From year to year a change drifts by at most two weeks, so that the order of the two is the same in all years, and 349 days or more lie between a
 -- change and the next of its kind.
 use mathlib.Core.Path.{_≡_, sym, _∙_}
-use Prim.Native.Nat.{ℕ, _+_, _*_, _-_, _≤_, _<_}
+use Prim.Native.Nat.{ℕ, _+_, _-_, _≤_, _<_}
 use native.Mathlib.Omega.{arith}
 use native.Mathlib.Decide.{decLe}
 use Rattle.model.specs.Footer as model

@@ -243,20 +243,3 @@ pub fn span_at(footer: Footer, last: u32, u: u64) -> Span
         }
     }
 }
-
-pub fn ruled_at(footer: Footer, last: u32, u: u64) -> u32
-    requires { ⌜ FooterFits (theFooter footer) × (u < 656384601600) ⌝ }
-    ensures { λ r. ⌜ r ≡ ruledAt (theFooter footer) last u ⌝ }
-{
-    let s = span_at(footer, last, u);
-    s.offset
-}
-
-// A second behind u up to which the footer's offset stays.
-pub fn next_turn(footer: Footer, last: u32, u: u64) -> u64
-    requires { ⌜ FooterFits (theFooter footer) × (u < 656384601600) ⌝ }
-    ensures { λ r. ⌜ runs.Run (ruledAt (theFooter footer) last) u r ⌝ }
-{
-    let s = span_at(footer, last, u);
-    s.until
-}

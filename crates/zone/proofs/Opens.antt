@@ -1,10 +1,9 @@
 -- A file opened: its table, and the footer that its line spells; and UTC.
-use mathlib.Core.Path.{_≡_, refl, sym, _∙_}
-use mathlib.Core.Option.{Option, none, some}
+use mathlib.Core.Path.{_≡_, sym, _∙_}
+use mathlib.Core.Option.{some}
 use mathlib.Core.List.{List}
 use Prim.Native.Nat.{ℕ}
 use native.Mathlib.Omega.{arith}
-use Rattle.model.specs.Basic.{_>>=_}
 use Rattle.model.specs.Footer as model
 use Rattle.model.specs.Tzif.{zoneOf}
 use Rattle.model.specs.Zone.{utc}
@@ -12,12 +11,11 @@ use Rattle.laws_zone.specs.Zones.{ZoneFits, zone-fits}
 use Rattle.tzif.specs.declared.Layout.{Layout}
 use Rattle.tzif.specs.declared.TzifRead.the-variants as T
 use Rattle.tzif.specs.Places.{readOf, lineAt}
-use Rattle.tzif.specs.Opened.{zoneAt, utcLayout, utc-opened, utc-zone}
+use Rattle.tzif.specs.Opened.{utcLayout, utc-opened, utc-zone}
 use Rattle.tzif.proofs.Laws.{opened, zone-read}
 use Rattle.footer.specs.declared.Footer.{Footer}
 use Rattle.footer.specs.declared.Footer.the-variants.{Empty, Fixed, Rules, Broken}
 use Rattle.footer.specs.Parsed.{footerIs}
-use Rattle.turns.specs.Turning.{theFooter}
 use Rattle.zone.specs.declared.Zone.{Zone}
 use Rattle.zone.specs.declared.ZoneRead.{ZoneRead}
 use Rattle.zone.specs.declared.ZoneRead.the-variants as R

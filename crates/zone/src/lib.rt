@@ -2,12 +2,11 @@
 // local time. Seconds are counted from -10400-01-01T00:00:00Z; offsets and local seconds have 93,600 added.
 ghost use mathlib.Core.Path.{_≡_};
 ghost use mathlib.Core.List.{List};
-ghost use Prim.Native.Nat.{ℕ, _+_, _*_, _-_, _≤_, _<_};
+ghost use Prim.Native.Nat.{ℕ, _+_, _-_, _≤_, _<_};
 ghost use Rattle.model.specs.Zone as model;
 ghost use Rattle.model.specs.Tzif.{zoneOf};
 ghost use Rattle.laws_zone.specs.Resolve.{Resolves};
 ghost use Rattle.laws_zone.specs.Runs as runs;
-ghost use Rattle.instant.specs.Instant.{nanos};
 ghost use Rattle.zone.specs.Zones.{meant, ZoneOk, zoneRead, Fine, ruled, inRun};
 use footer::Footer;
 use instant::Instant;
@@ -123,21 +122,4 @@ pub fn second_of(f: &[u8], z: Zone, x: u64) -> u64
         }
     }
     x - off
-}
-
-// Is the offset the same on all of [lo, hi]?
-pub fn steady(f: &[u8], z: Zone, lo: u64, hi: u64) -> bool
-    requires { ⌜ ZoneOk (now f) z × (12622780800 ≤ lo) × (lo < 656384601600) × (hi < 656384601600) ⌝ }
-    ensures { λ r. ⌜ r ≡ model.steady (meant (now (f .entry)) z) lo hi ⌝ }
-{
-    let r = run_at(f, z, lo);
-    let mut until = r.until;
-    while until <= hi {
-        let q = run_at(f, z, until);
-        if q.offset != r.offset {
-            return false;
-        }
-        until = q.until;
-    }
-    true
 }

@@ -1,12 +1,12 @@
 -- A stored answer: where its two numbers stand, and what makes it the zone's own.
-use mathlib.Core.Bool.{Bool, true, false}
+use Rattle.model.specs.Basic.{if_then_else_}
+use mathlib.Core.Bool.{Bool, false}
 use mathlib.Core.Option.{Option, none, some}
 use mathlib.Core.List.{List}
 use Prim.Native.Nat.{ℕ, _+_, _*_, _-_, _%_, _^_}
 use lib.Dec.{ltb, leb, eqb}
 use Rattle.be.specs.Be.{be64}
 use Rattle.be.specs.Walk.{both}
-use Rattle.model.specs.Basic.{if_then_else_}
 use Rattle.model.specs.Zone.{secondOf}
 use Rattle.model.specs.NextChange.{nextChange}
 use Rattle.zone.specs.Zones.{meant}

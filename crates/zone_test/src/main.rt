@@ -141,12 +141,15 @@ fn tell(f: &[u8], i: usize) {
 fn line(p: &[u8], i: usize)
     requires { ⌜ i < 1024 ⌝ }
 {
+    if !pack::pack_ok(p) {
+        return;
+    }
     let start = pack::start_at(p, i);
     let name = be::part(p, start + 1, be::small_at(p, start));
     text(name);
     let mut found = false;
     let mut at: usize = 0;
-    let f = pack::look_up(p, name, &mut found, &mut at);
+    let f = pack::look_in(p, name, &mut found, &mut at);
     if !found {
         text(b": not found\n");
         return;
