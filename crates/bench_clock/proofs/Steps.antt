@@ -18,8 +18,8 @@ use Rattle.model.specs.Instant.{second}
 use Rattle.model.specs.Walk.{on, back}
 use Rattle.model.specs.Working.{Schedule}
 use Rattle.laws_base.specs.Test.{by-test, clash}
-use Rattle.rules.specs.Rules.{scheduleIs}
-use Rattle.spend.specs.Spending.{wayOf}
+use Rattle.rule.specs.Rules.{scheduleIs}
+use Rattle.walk_step.specs.Spending.{wayOf}
 use Rattle.build.specs.Read.{answerIs}
 use Rattle.build.specs.declared.Built.{Built}
 use Rattle.schedule.specs.declared.TimeAnswer.{TimeAnswer}
@@ -27,9 +27,9 @@ use Rattle.schedule.specs.declared.TimeAnswer.the-variants as T
 use Rattle.schedule.specs.declared.Moved.{Moved}
 use Rattle.schedule.specs.declared.Moved.the-variants as M
 use Rattle.schedule.specs.Answers.{timeIs, movedIs}
-use Rattle.period_calls.specs.declared.PeriodAnswer.{PeriodAnswer}
-use Rattle.period_calls.specs.declared.PeriodAnswer.the-variants as P
-use Rattle.period_calls.specs.Replies.{periodIs}
+use Rattle.schedule_periods.specs.declared.PeriodAnswer.{PeriodAnswer}
+use Rattle.schedule_periods.specs.declared.PeriodAnswer.the-variants as P
+use Rattle.schedule_periods.specs.Replies.{periodIs}
 use Rattle.bench_clock.specs.declared.Told.{Told}
 use Rattle.bench_clock.specs.declared.Told.the-variants as A
 use Rattle.bench_clock.specs.Asked.{toldIs, asked, written, writtenAt, answered, groupsFrom, groups, groupsOf, limitIn, limitOf, listed, listedOf}

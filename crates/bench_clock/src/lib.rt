@@ -7,14 +7,14 @@ ghost use lib.ListN.{length, getD};
 ghost use lib.IntN.{ℤ};
 ghost use Rattle.model.specs.Build as definition;
 ghost use Rattle.model.specs.Calls.{betweenCall, moveCall, periodCall, said};
-ghost use Rattle.rules.specs.Rules.{scheduleIs, ScheduleFits};
-ghost use Rattle.spend.specs.Spending.{wayOf};
+ghost use Rattle.rule.specs.Rules.{scheduleIs, ScheduleFits};
+ghost use Rattle.walk_step.specs.Spending.{wayOf};
 ghost use Rattle.bench_week.specs.Weeks.{Each};
 ghost use Rattle.bench_clock.specs.Asked.{toldIs, asked, writtenAt, answered, groups, groupsOf, limitOf, listed, listedOf};
-use period_calls::PeriodAnswer;
-use rules::Schedule;
+use rule::Schedule;
 use schedule::Moved;
 use schedule::TimeAnswer;
+use schedule_periods::PeriodAnswer;
 
 // An answer: two numbers, four, or a refusal's number and place.
 pub enum Told {
@@ -49,7 +49,7 @@ fn period(book: &[u8], pack: &[u8], s: Schedule, back: bool, a: i64, b: i64) -> 
     requires { ⌜ ScheduleFits (now book) (now pack) s ⌝ }
     ensures { λ r. ⌜ toldIs r ≡ said (periodCall (wayOf back) (scheduleIs (now (book .entry)) (now (pack .entry)) s) «a» «b») ⌝ }
 {
-    match period_calls::period_in(book, pack, s, back, a, b) {
+    match schedule_periods::period_in(book, pack, s, back, a, b) {
         PeriodAnswer::Is(p, q, x, y) => Told::Four(p, q, x, y),
         PeriodAnswer::Refused(number, place) => Told::Refused(number, place),
     }
@@ -141,7 +141,7 @@ pub extern "C" fn bench_clock_answers(book: &[u8], pack: &[u8], kind: u8, xs: &m
 fn limit(book: &[u8], pack: &[u8], n: u64) -> u64
     ensures { λ r. ⌜ r ≡ limitOf (now (book .entry)) (now (pack .entry)) n ⌝ }
 {
-    let r = build::build(be::part(book, 0, n as usize), pack);
+    let r = build::build(big_endian::part(book, 0, n as usize), pack);
     if r.number != 0 {
         return r.number as u64;
     }
@@ -179,7 +179,7 @@ fn lists(
 {
     let mut left = times;
     while 0 < left {
-        listing::list_in(book, pack, s, a, b, c, d, out);
+        schedule_listing::list_in(book, pack, s, a, b, c, d, out);
         left -= 1;
     }
 }

@@ -1,9 +1,9 @@
 // The public calls for a program that measures how much stack each needs (tools/stack.py). Each answers one number, so that the call is not left out.
-use listing::Listing;
-use period_calls::PeriodAnswer;
 use schedule::AddAnswer;
 use schedule::SubAnswer;
 use schedule::TimeAnswer;
+use schedule_listing::Listing;
+use schedule_periods::PeriodAnswer;
 use zone_calls::ChangeAnswer;
 use zone_calls::OffsetAnswer;
 use zone_calls::ResolveAnswer;
@@ -40,7 +40,7 @@ pub extern "C" fn stack_sub(book: &[u8], pack: &[u8], a: i64, b: i64, c: i64, d:
 
 #[no_mangle]
 pub extern "C" fn stack_next_period(book: &[u8], pack: &[u8], a: i64, b: i64) -> i64 {
-    match period_calls::next_period(book, pack, a, b) {
+    match schedule_periods::next_period(book, pack, a, b) {
         PeriodAnswer::Is(sec, _, _, _) => sec,
         PeriodAnswer::Refused(number, _) => number as i64,
     }
@@ -48,7 +48,7 @@ pub extern "C" fn stack_next_period(book: &[u8], pack: &[u8], a: i64, b: i64) ->
 
 #[no_mangle]
 pub extern "C" fn stack_previous_period(book: &[u8], pack: &[u8], a: i64, b: i64) -> i64 {
-    match period_calls::previous_period(book, pack, a, b) {
+    match schedule_periods::previous_period(book, pack, a, b) {
         PeriodAnswer::Is(sec, _, _, _) => sec,
         PeriodAnswer::Refused(number, _) => number as i64,
     }
@@ -64,7 +64,7 @@ pub extern "C" fn stack_list(
     d: i64,
     out: &mut [i64],
 ) -> usize {
-    match listing::list(book, pack, a, b, c, d, out) {
+    match schedule_listing::list(book, pack, a, b, c, d, out) {
         Listing::Count(n) => n,
         Listing::Refused(_, place) => place,
     }

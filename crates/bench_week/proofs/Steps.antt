@@ -14,7 +14,7 @@ use Rattle.model.specs.Instant.{second}
 use Rattle.model.specs.Working.{Schedule, working}
 use Rattle.build.specs.Read.{answerIs}
 use Rattle.build.specs.declared.Built.{Built}
-use Rattle.rules.specs.Rules.{scheduleIs}
+use Rattle.rule.specs.Rules.{scheduleIs}
 use Rattle.bench_week.specs.Weeks.{Each, weekIn, weeksOf}
 
 -- the first i are done, and the others as they were

@@ -2,10 +2,10 @@
 // Seconds are counted from -10400-01-01T00:00:00Z.
 ghost use Rattle.model.specs.Build as definition;
 ghost use mathlib.Core.Path.{_≡_};
-ghost use Rattle.rules.specs.Rules.{scheduleIs, ScheduleFits};
+ghost use Rattle.rule.specs.Rules.{scheduleIs, ScheduleFits};
 ghost use Rattle.bench_week.specs.Weeks.{Each, weekIn, weeksOf};
 use instant::Instant;
-use rules::Schedule;
+use rule::Schedule;
 
 // The working time of the week that begins at the second x, in whole seconds, and 0 for a week beyond the range.
 fn week(book: &[u8], pack: &[u8], s: Schedule, x: u64) -> u64
@@ -23,7 +23,7 @@ fn week(book: &[u8], pack: &[u8], s: Schedule, x: u64) -> u64
         sec: x + 604800,
         ns: 0,
     };
-    week::week_time(book, pack, s, lo, hi) / 1000000000
+    window_week::week_time(book, pack, s, lo, hi) / 1000000000
 }
 
 fn weeks(book: &[u8], pack: &[u8], s: Schedule, xs: &mut [u64])

@@ -5,7 +5,7 @@ use mathlib.Core.Option.{Option, none, some}
 use Prim.Native.Nat.{ℕ, _<_}
 use lib.Dec.{ltb, leb}
 use lib.ListN.{length, getD}
-use Rattle.be.specs.Walk.{both, pickN}
+use Rattle.big_endian.specs.Walk.{both, pickN}
 use Rattle.model.specs.Tzif.{Zone}
 use Rattle.model.specs.Zone.{secondOf, offsetAt}
 

@@ -1,4 +1,4 @@
 pub mod Images
 pub mod United
 pub mod Parts
-pub mod Told
+pub mod Lengths

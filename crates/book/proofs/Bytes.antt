@@ -12,9 +12,9 @@ use lib.ListN.{length, getD, take, drop, length-drop, drop-of-length-le}
 use lib.Seq.{drop-cons, drop-drop}
 use borrow.Author.Tests.{le-leb, lt-leb, eq-eqb, ne-eqb, eqb-true, eqb-false, leb-true, leb-false}
 use native.Mathlib.Decide.{decLe}
-use Rattle.be.specs.Be.{be16, be32}
-use Rattle.be.proofs.Lists.{at-2, at-4}
-use Rattle.dates_of.proofs.Reading.{is-given, days-is}
+use Rattle.big_endian.specs.Be.{be16, be32}
+use Rattle.big_endian.proofs.Lists.{at-2, at-4}
+use Rattle.book_dates.proofs.Reading.{is-given, days-is}
 use Rattle.laws_base.specs.Test.{by-test}
 use Rattle.model.specs.Basic.{if_then_else_, _>>=_, given, need}
 use Rattle.model.specs.Bytes.{be}

@@ -11,17 +11,17 @@ use lib.Dec.{leb, ltb, eqb}
 use lib.ListN.{length, getD, take, drop, length-take, length-map}
 use lib.Seq.{drop-drop, take-take, take-nil, getD-take, getD-drop}
 use borrow.Author.Tests.{leb-true, ltb-true, eqb-true, eqb-false, eq-eqb, ne-eqb}
-use Rattle.be.specs.Be.{be16, be32}
-use Rattle.be.specs.Maybe.{isSome, orEmpty}
-use Rattle.be.specs.Walk.{both, allFrom}
-use Rattle.be.proofs.Walk.{all-at}
+use Rattle.big_endian.specs.Be.{be16, be32}
+use Rattle.big_endian.specs.Maybe.{isSome, orEmpty}
+use Rattle.big_endian.specs.Walk.{both, allFrom}
+use Rattle.big_endian.proofs.Walk.{all-at}
 use Rattle.laws_base.specs.Test.{by-test, and-both, clash}
 use Rattle.model.specs.Basic.{_>>=_, given, each, run}
 use Rattle.model.specs.Directory.{partsOf}
 use Rattle.model.specs.Book as model
 use Rattle.model.specs.Book.{holidays, dates, entryOf, entriesOf}
-use Rattle.pack.specs.Directory.{countAt, startAt, lenAt, partAt, recordOk, entriesOk, dirOk}
-use Rattle.pack.proofs.Parts.{parts-index, as-dir}
+use Rattle.zone_pack.specs.Directory.{countAt, startAt, lenAt, partAt, recordOk, entriesOk, dirOk}
+use Rattle.zone_pack.proofs.Parts.{parts-index, as-dir}
 use Rattle.book.specs.declared.Time.{Time}
 use Rattle.book.specs.declared.Entry.{Entry}
 use Rattle.book.specs.Meaning.{recordsOf, yearAt, dayAt, datesAt, bodyIn, meaning, kindOf, timeFrom, entryFrom, bytesAt, noEntry, IsTimed, IsEntry, kindAt, datesIn}

@@ -6,7 +6,7 @@ use Prim.Native.Nat.{ℕ, _+_, _≤_, _<_}
 use lib.Dec.{ltb}
 use borrow.Author.Tests.{lt-ltb, le-ltb, eq-eqb, ne-eqb}
 use lib.ListN.{length, getD}
-use Rattle.be.specs.Be.{be32}
+use Rattle.big_endian.specs.Be.{be32}
 use Rattle.book.specs.Accepts.{isTime, isHours}
 use Rattle.book.proofs.Bytes.{timeTest, time-says, hoursTest, hours-says}
 

@@ -4,8 +4,8 @@ use mathlib.Core.List.{List}
 use Prim.Native.Nat.{ℕ}
 use lib.ListN.{drop}
 use Rattle.model.specs.Book.{timeOf, hoursOf, datesOf, bodyOf, entryOf, entriesOf}
-use Rattle.be.specs.Maybe.{isSome}
-unfoldable pub use Rattle.dates_of.specs.Days.{isDay, areDays}
+use Rattle.big_endian.specs.Maybe.{isSome}
+unfoldable pub use Rattle.book_dates.specs.Days.{isDay, areDays}
 use Rattle.book.specs.Meaning.{bytesAt}
 
 unfoldable pub isTime : List ℕ → ℕ → Bool

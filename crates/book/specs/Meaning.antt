@@ -5,11 +5,11 @@ use mathlib.Core.List.{List, []}
 use Prim.Native.Nat.{ℕ, _+_, _*_, _≤_, _<_}
 use lib.Dec.{eqb}
 use lib.ListN.{length, getD, take, drop}
-use Rattle.be.specs.Be.{be16, be32}
-use Rattle.be.specs.Maybe.{orEmpty}
-use Rattle.pack.specs.Directory.{startAt, lenAt}
+use Rattle.big_endian.specs.Be.{be16, be32}
+use Rattle.big_endian.specs.Maybe.{orEmpty}
+use Rattle.zone_pack.specs.Directory.{startAt, lenAt}
 use Rattle.model.specs.Instant.{second}
-unfoldable pub use Rattle.dates_of.specs.Days.{yearAt, dayAt, datesAt}
+unfoldable pub use Rattle.book_dates.specs.Days.{yearAt, dayAt, datesAt}
 use Rattle.model.specs.Book as model
 use Rattle.model.specs.Book.{Hours, Body, default, work, pause, holidays, entriesOf, dates, tally}
 use Rattle.book.specs.declared.Time.{Time}

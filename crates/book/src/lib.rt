@@ -6,7 +6,7 @@ ghost use mathlib.Core.Option.{none};
 ghost use lib.ListN.{length, getElem?};
 ghost use Rattle.model.specs.Basic.{distinct};
 ghost use Rattle.model.specs.Book.{withinLimits, lastDefault};
-ghost use Rattle.be.specs.Walk.{allFrom};
+ghost use Rattle.big_endian.specs.Walk.{allFrom};
 ghost use Rattle.book.specs.Meaning.{recordsOf, dayAt, datesAt, timeFrom, entryFrom, bytesAt, IsEntry, kindAt, datesIn, talliesOf};
 ghost use Rattle.book.specs.Accepts.{isTime, isHours, isDates, isBody, isRecord, isRecordAt, isBook};
 
@@ -41,10 +41,10 @@ fn time_ok(l: &[u8], p: usize) -> bool
     requires { ⌜ p + 8 ≤ length (now l) ⌝ }
     ensures { λ r. ⌜ r ≡ isTime (now (l .entry)) p ⌝ }
 {
-    if be::be32_at(l, p) >= 86400 {
+    if big_endian::be32_at(l, p) >= 86400 {
         return false;
     }
-    be::be32_at(l, p + 4) < 1000000000
+    big_endian::be32_at(l, p + 4) < 1000000000
 }
 
 // A set of weekdays and two times of day, and nothing behind them.
@@ -55,7 +55,7 @@ fn hours_ok(l: &[u8], p: usize) -> bool
     if l.len() != p + 17 {
         return false;
     }
-    if be::byte_at(l, p) >= 128 {
+    if big_endian::byte_at(l, p) >= 128 {
         return false;
     }
     if !time_ok(l, p + 1) {
@@ -72,11 +72,11 @@ fn holidays_ok(l: &[u8], p: usize) -> bool
     if l.len() < p + 2 {
         return false;
     }
-    let n = be::be16_at(l, p) as usize;
+    let n = big_endian::be16_at(l, p) as usize;
     if l.len() != p + 2 + 4 * n {
         return false;
     }
-    dates_of::dates_ok(l, p + 2, n)
+    book_dates::dates_ok(l, p + 2, n)
 }
 
 // What stands behind the name of a record of the given kind.
@@ -103,14 +103,14 @@ fn body_ok(kind: u8, l: &[u8], p: usize) -> bool
 fn record_ok(l: &[u8]) -> bool
     ensures { λ r. ⌜ r ≡ isRecord (now (l .entry)) ⌝ }
 {
-    let n = be::small_at(l, 1);
+    let n = big_endian::small_at(l, 1);
     if n > 64 {
         return false;
     }
     if l.len() < 2 + n {
         return false;
     }
-    body_ok(be::byte_at(l, 0), l, 2 + n)
+    body_ok(big_endian::byte_at(l, 0), l, 2 + n)
 }
 
 // ---- the dates of a record, which stay in the book b (crate `dates_of`)
@@ -120,7 +120,7 @@ pub fn date_at(b: &[u8], p: usize) -> u32
     requires { ⌜ p + 4 ≤ length (now b) ⌝ }
     ensures { λ r. ⌜ r ≡ dayAt (now (b .entry)) p ⌝ }
 {
-    dates_of::date_at(b, p)
+    book_dates::date_at(b, p)
 }
 
 // How many different days are written at the n dates from p on.
@@ -128,7 +128,7 @@ pub fn distinct_dates(b: &[u8], p: usize, n: usize) -> usize
     requires { ⌜ p + 4 * n ≤ length (now b) ⌝ }
     ensures { λ r. ⌜ (r ≡ length (distinct (datesAt (now (b .entry)) p n))) × (r ≤ n) ⌝ }
 {
-    dates_of::distinct_dates(b, p, n)
+    book_dates::distinct_dates(b, p, n)
 }
 
 // ---- the book's records
@@ -138,7 +138,11 @@ fn record_at(book: &[u8], i: usize) -> &[u8]
     requires { ⌜ i < 4294967296 ⌝ }
     ensures { λ r. ⌜ now r ≡ bytesAt (now (book .entry)) i ⌝ }
 {
-    be::part(book, pack::start_at(book, i), pack::len_at(book, i))
+    big_endian::part(
+        book,
+        zone_pack::start_at(book, i),
+        zone_pack::len_at(book, i),
+    )
 }
 
 // Are the n records whole?
@@ -160,10 +164,10 @@ fn records_ok(book: &[u8], n: usize) -> bool
 pub fn book_ok(book: &[u8]) -> bool
     ensures { λ r. ⌜ r ≡ isBook (now (book .entry)) ⌝ }
 {
-    if !pack::dir_ok(book) {
+    if !zone_pack::dir_ok(book) {
         return false;
     }
-    records_ok(book, pack::count_of(book))
+    records_ok(book, zone_pack::count_of(book))
 }
 
 // How many records the book has.
@@ -171,7 +175,7 @@ pub fn count(book: &[u8]) -> usize
     requires { ⌜ isBook (now book) ≡ true ⌝ }
     ensures { λ r. ⌜ (r ≡ length (recordsOf (now (book .entry)))) × (r < 4294967296) ⌝ }
 {
-    pack::count_of(book)
+    zone_pack::count_of(book)
 }
 
 // The time of day at p.
@@ -180,8 +184,8 @@ fn read_time(l: &[u8], p: usize) -> Time
     ensures { λ r. ⌜ r ≡ timeFrom (now (l .entry)) p ⌝ }
 {
     Time {
-        seconds: be::be32_at(l, p),
-        nanos: be::be32_at(l, p + 4),
+        seconds: big_endian::be32_at(l, p),
+        nanos: big_endian::be32_at(l, p + 4),
     }
 }
 
@@ -190,20 +194,20 @@ fn read_entry(l: &[u8], place: usize) -> Entry
     requires { ⌜ place < 4294967296 ⌝ }
     ensures { λ r. ⌜ (r ≡ entryFrom place (now (l .entry))) × (r .count < 65536) ⌝ }
 {
-    let n = be::small_at(l, 1);
+    let n = big_endian::small_at(l, 1);
     let p = 2 + n;
     let start = read_time(l, p + 1);
     let end = read_time(l, p + 9);
     Entry {
-        kind: be::byte_at(l, 0),
+        kind: big_endian::byte_at(l, 0),
         place,
         name: place + 2,
         letters: n,
-        days: be::byte_at(l, p),
+        days: big_endian::byte_at(l, p),
         start,
         end,
         dates: place + (p + 2),
-        count: be::be16_at(l, p) as usize,
+        count: big_endian::be16_at(l, p) as usize,
     }
 }
 
@@ -212,7 +216,7 @@ pub fn entry_at(book: &[u8], i: usize) -> Entry
     requires { ⌜ (i < length (recordsOf (now book))) × (i < 4294967296) ⌝ }
     ensures { λ r. ⌜ IsEntry (now (book .entry)) i r ⌝ }
 {
-    read_entry(record_at(book, i), pack::start_at(book, i))
+    read_entry(record_at(book, i), zone_pack::start_at(book, i))
 }
 
 // ---- the kind of a record, read alone
@@ -222,7 +226,7 @@ fn kind_at(book: &[u8], i: usize) -> u8
     requires { ⌜ (i < length (recordsOf (now book))) × (i < 4294967296) ⌝ }
     ensures { λ r. ⌜ r ≡ kindAt (now (book .entry)) i ⌝ }
 {
-    be::byte_at(book, pack::start_at(book, i))
+    big_endian::byte_at(book, zone_pack::start_at(book, i))
 }
 
 // How many dates record i has, which is of kind 3: the two bytes behind its name.
@@ -230,8 +234,8 @@ fn dates_in(book: &[u8], i: usize) -> usize
     requires { ⌜ (i < length (recordsOf (now book))) × (i < 4294967296) × (kindAt (now book) i ≡ 3) ⌝ }
     ensures { λ r. ⌜ (r ≡ datesIn (now (book .entry)) i) × (r < 65536) ⌝ }
 {
-    let at = pack::start_at(book, i);
-    be::be16_at(book, at + 2 + be::small_at(book, at + 1)) as usize
+    let at = zone_pack::start_at(book, i);
+    big_endian::be16_at(book, at + 2 + big_endian::small_at(book, at + 1)) as usize
 }
 
 // ---- the limits

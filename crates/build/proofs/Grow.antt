@@ -12,15 +12,15 @@ use Rattle.model.specs.Basic.{distinct}
 use Rattle.model.specs.Instant.{second, day}
 use Rattle.model.specs.Book.{Body, default, work, pause, holidays}
 use Rattle.model.specs.Working as model
-use Rattle.blocks.proofs.Front.{front-push}
+use Rattle.block.proofs.Front.{front-push}
 use Rattle.book.specs.declared.Entry.{Entry}
 use Rattle.book.specs.Meaning.{datesAt, hoursIn, bodyIn, IsTimed}
-use Rattle.rules.specs.declared.Rule.{Rule}
-use Rattle.rules.specs.declared.Closed.{Closed}
-use Rattle.rules.specs.declared.Schedule.{Schedule}
-use Rattle.rules.specs.Rules.{ruleIs, holidaysIs, scheduleIs, RuleFits, ClosedFits, All}
+use Rattle.rule.specs.declared.Rule.{Rule}
+use Rattle.rule.specs.declared.HolidayDates.{HolidayDates}
+use Rattle.rule.specs.declared.Schedule.{Schedule}
+use Rattle.rule.specs.Rules.{ruleIs, holidaysIs, scheduleIs, RuleFits, HolidaysFit, All}
 use Rattle.build.specs.declared.Opened.{Opened}
-use Rattle.build.specs.Read.{zoneMeant, OpenedWell, ruleFrom, closedFrom, withWork, withBreak, withClosed, Long, added, Kept, Room, Grown}
+use Rattle.build.specs.Read.{zoneMeant, OpenedWell, ruleFrom, holidaysFrom, withWork, withBreak, withClosed, Long, added, RulesFit, Room, Grown}
 
 -- ---- one element more
 
@@ -84,7 +84,7 @@ module _ (s : Schedule) (h : Long s) where
   pub long-break : (x : Rule) → Long (withBreak s x)
   long-break x = record { work = h .work; breaks = length-set (s .breaks) (s .pauses) x ∙ h .breaks; closed = h .closed }
 
-  pub long-closed : (x : Closed) (k : ℕ) → Long (withClosed s x k)
+  pub long-closed : (x : HolidayDates) (k : ℕ) → Long (withClosed s x k)
   long-closed x k = record { work = h .work; breaks = h .breaks; closed = length-set (s .closed) (s .closings) x ∙ h .closed }
 
 -- ---- the schedule with the record
@@ -133,17 +133,17 @@ module _ (b p : List ℕ) (s : Schedule) (e : Entry) (o : Opened) (room : Room b
         })
 
   module _ (t : e .kind ≡ 3) where
-    pub grown-closed : {x : Closed} {r : Schedule} {k : ℕ} → x ≡ closedFrom e o → r ≡ withClosed s x k → length (s .closed) ≡ 8 →
+    pub grown-closed : {x : HolidayDates} {r : Schedule} {k : ℕ} → x ≡ holidaysFrom e o → r ≡ withClosed s x k → length (s .closed) ≡ 8 →
         k ≡ length (distinct (datesAt b (e .dates) (e .count))) → k ≤ e .count → Grown b p s e o r
     grown-closed {k = k} ex er el ek few =
         let h : s .closings < length (s .closed) = omega (arith, closed-room b s e room t) in
         let d = distinct (datesAt b (e .dates) (e .count)) in
-        let a : scheduleIs b p (withClosed s (closedFrom e o) k) .holidays ≡ scheduleIs b p s .holidays ++ (record { zone = zoneMeant p o; dates = d } ∷ []) =
-        front-push (holidaysIs b p) (s .closings) (s .closed) (closedFrom e o) h in
+        let a : scheduleIs b p (withClosed s (holidaysFrom e o) k) .holidays ≡ scheduleIs b p s .holidays ++ (record { zone = zoneMeant p o; dates = d } ∷ []) =
+        front-push (holidaysIs b p) (s .closings) (s .closed) (holidaysFrom e o) h in
         let l : (s .limit + 604800 * k) * second ≡ s .limit * second + 7 * length d * day = more-limit (s .limit) k ∙ ap (λ (m : ℕ). s .limit * second + 7 * m * day) ek in
         rw (er, ex) (record {
           means = rw t (λ i. record { work = scheduleIs b p s .work; breaks = scheduleIs b p s .breaks; holidays = a i; limit = l i });
-          kept = λ w j. record { work = j .work; breaks = j .breaks; closed = all-push (ClosedFits b p) (s .closings) (s .closed) (closedFrom e o) h (j .closed) (record { opened = w; inside = dates-inside b s e room t }) };
+          kept = λ w j. record { work = j .work; breaks = j .breaks; closed = all-push (HolidaysFit b p) (s .closings) (s .closed) (holidaysFrom e o) h (j .closed) (record { opened = w; inside = dates-inside b s e room t }) };
           works = rw t (omega arith);
           pauses = rw t (omega arith);
           closings = rw t;

@@ -1,4 +1,4 @@
-pub mod Seek
+pub mod Lookups
 pub mod Grow
 pub mod Turn
 pub mod Whole

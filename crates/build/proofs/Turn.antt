@@ -21,15 +21,15 @@ use Rattle.model.specs.Working as model
 use Rattle.model.specs.Build.{noRules, withRule, zoneUsed, rulesOf}
 use Rattle.book.specs.declared.Entry as code
 use Rattle.book.specs.Meaning.{recordsOf, bodyIn, meaning, noEntry, IsEntry}
-use Rattle.rules.specs.declared.Schedule.{Schedule}
-use Rattle.rules.specs.Rules.{scheduleIs}
+use Rattle.rule.specs.declared.Schedule.{Schedule}
+use Rattle.rule.specs.Rules.{scheduleIs}
 use Rattle.build.specs.declared.Opened.{Opened}
-use Rattle.build.specs.declared.Sought.{Sought}
-use Rattle.build.specs.declared.Sought.the-variants.{Found, Refused}
+use Rattle.build.specs.declared.ZoneLookup.{ZoneLookup}
+use Rattle.build.specs.declared.ZoneLookup.the-variants.{Found, Refused}
 use Rattle.build.specs.declared.Built.{Built}
-use Rattle.build.specs.declared.Known.{Known}
-use Rattle.build.proofs.Seek.{knows-after}
-use Rattle.build.specs.Read.{Knows, knownAfter, filesOf, zoneMeant, OpenedWell, soughtIs, SoughtWell, found, refused, Sized, added, Kept, Room, Grown, Refuses, Reads, Answers}
+use Rattle.build.specs.declared.LastLookup.{LastLookup}
+use Rattle.build.proofs.Lookups.{knows-after}
+use Rattle.build.specs.Read.{LooksUp, lookupAfter, filesOf, zoneMeant, OpenedWell, zoneLookupIs, ZoneLookupFits, found, refused, Sized, added, RulesFit, Room, Grown, Refuses, Reads, Answers}
 
 -- ---- records that were read, and those that are left
 
@@ -92,7 +92,7 @@ module _ (files : List Named) (z : Zone) where
 -- s has the rules of the first i records, and there is room for the rest
 pub record Reading (b p : List ℕ) (z : Zone) (i : ℕ) (s : Schedule) : Type 0 where
   pub rest : restOf (filesOf p) z (scheduleIs b p s) (drop i (recordsOf b)) ≡ rulesOf (filesOf p) z (recordsOf b)
-  pub kept : Kept b p s
+  pub kept : RulesFit b p s
   pub works : s .works + tally books.works (drop i (recordsOf b)) ≤ 16
   pub pauses : s .pauses + tally books.pauses (drop i (recordsOf b)) ≤ 16
   pub closings : s .closings + tally books.holidayRecords (drop i (recordsOf b)) ≤ 8
@@ -185,8 +185,8 @@ module _ (b p : List ℕ) (z : Zone) where
       inside = is .dates;
     }
 
-    module _ (q : Sought) (eq : soughtIs p q ≡ zoneUsed (filesOf p) z (meaning b e) (bodyIn b e)) (w : SoughtWell p q) where
-      sought-is : zoneUsed (filesOf p) z (meaning b e) (meaning b e .body) ≡ soughtIs p q
+    module _ (q : ZoneLookup) (eq : zoneLookupIs p q ≡ zoneUsed (filesOf p) z (meaning b e) (bodyIn b e)) (w : ZoneLookupFits p q) where
+      sought-is : zoneUsed (filesOf p) z (meaning b e) (meaning b e .body) ≡ zoneLookupIs p q
       unfolding meaning
       sought-is = sym eq
 
@@ -203,14 +203,14 @@ module _ (b p : List ℕ) (z : Zone) where
             limit = omega (arith, r .limit, g .limit, tally-next books.dates);
           }
         where
-          open-is : SoughtWell p (Found o) → OpenedWell p o
+          open-is : ZoneLookupFits p (Found o) → OpenedWell p o
           open-is (found k) = k
 
       -- the zone that is known behind the record
-      pub turn-knows : {o : Opened} → q ≡ Found o → {k r : Known} → Knows b p k → r ≡ knownAfter e o k → Knows b p r
-      turn-knows {o} f {k} v er = rw er (knows-after b p e k v z o (is .name) (sym (ap (soughtIs p) f) ∙ eq) (open-is (rw f at w)))
+      pub turn-knows : {o : Opened} → q ≡ Found o → {k r : LastLookup} → LooksUp b p k → r ≡ lookupAfter e o k → LooksUp b p r
+      turn-knows {o} f {k} v er = rw er (knows-after b p e k v z o (is .name) (sym (ap (zoneLookupIs p) f) ∙ eq) (open-is (rw f at w)))
         where
-          open-is : SoughtWell p (Found o) → OpenedWell p o
+          open-is : ZoneLookupFits p (Found o) → OpenedWell p o
           open-is (found j) = j
 
       pub turn-refused : {n k : ℕ} {t : Built} → q ≡ Refused n k → Refuses t n k → Reads b p t (rulesOf (filesOf p) z (recordsOf b))
@@ -228,5 +228,5 @@ module _ (b p : List ℕ) (z : Zone) where
             empty = λ _. no-rules b p (v .empty);
           }
         where
-          some-number : SoughtWell p (Refused n k) → 0 < n
+          some-number : ZoneLookupFits p (Refused n k) → 0 < n
           some-number (refused j) = j

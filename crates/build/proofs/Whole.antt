@@ -10,16 +10,16 @@ use Rattle.model.specs.Answer.{gives, refuses, _>>=_}
 use Rattle.model.specs.Pack.{packOf}
 use Rattle.model.specs.Book.{entriesOf, withinLimits, lastDefault}
 use Rattle.model.specs.Build.{defaultZone, rulesOf}
-use Rattle.be.specs.Maybe.{isSome}
+use Rattle.big_endian.specs.Maybe.{isSome}
 use Rattle.book.specs.Meaning.{recordsOf}
 use Rattle.book.specs.Accepts.{isBook}
-use Rattle.rules.specs.Rules.{scheduleIs}
+use Rattle.rule.specs.Rules.{scheduleIs}
 use Rattle.build.specs.declared.Opened.{Opened}
-use Rattle.build.specs.declared.Sought.{Sought}
-use Rattle.build.specs.declared.Sought.the-variants.{Found, Refused}
+use Rattle.build.specs.declared.ZoneLookup.{ZoneLookup}
+use Rattle.build.specs.declared.ZoneLookup.the-variants.{Found, Refused}
 use Rattle.build.specs.declared.Built.{Built}
-use Rattle.build.specs.Read.{filesOf, zoneMeant, OpenedWell, soughtIs, SoughtWell, found, refused, Refuses, Reads, Answers, rulesRead}
-use Rattle.build.proofs.Seek.{is-none, is-some}
+use Rattle.build.specs.Read.{filesOf, zoneMeant, OpenedWell, zoneLookupIs, ZoneLookupFits, found, refused, Refuses, Reads, Answers, rulesRead}
+use Rattle.build.proofs.Lookups.{is-none, is-some}
 use Rattle.build.proofs.Turn.{refused-is}
 
 -- what the contract says of an answer
@@ -54,23 +54,23 @@ module _ (b p : List ℕ) where
           let o : packOf p ≡ none = is-none (packOf p) (sym e ∙ f) in
           no-answer t (omega arith) (rw (book-is, el, o)) v
 
-      module _ (ep : isSome (packOf p) ≡ true) (q : Sought) (eq : soughtIs p q ≡ defaultZone (filesOf p) (lastDefault none (recordsOf b))) where
+      module _ (ep : isSome (packOf p) ≡ true) (q : ZoneLookup) (eq : zoneLookupIs p q ≡ defaultZone (filesOf p) (lastDefault none (recordsOf b))) where
         read-is : rulesRead b p ≡ (defaultZone (filesOf p) (lastDefault none (recordsOf b)) >>= λ z. rulesOf (filesOf p) z (recordsOf b))
         unfolding rulesRead
         read-is = let o : packOf p ≡ some (filesOf p) = is-some (packOf p) ep in rw (book-is, el, o)
 
-        pub no-default : (t : Built) {n k : ℕ} → q ≡ Refused n k → SoughtWell p q → Refuses t n k → Whole b p t
+        pub no-default : (t : Built) {n k : ℕ} → q ≡ Refused n k → ZoneLookupFits p q → Refuses t n k → Whole b p t
         no-default t {n} {k} f w v =
             let d : defaultZone (filesOf p) (lastDefault none (recordsOf b)) ≡ refuses n k = sym eq ∙ rw f in
             no-answer t (some-number (rw f at w)) (read-is ∙ rw d) v
           where
-            some-number : SoughtWell p (Refused n k) → 0 < n
+            some-number : ZoneLookupFits p (Refused n k) → 0 < n
             some-number (refused j) = j
 
-        pub open-is : {d : Opened} → q ≡ Found d → SoughtWell p q → OpenedWell p d
+        pub open-is : {d : Opened} → q ≡ Found d → ZoneLookupFits p q → OpenedWell p d
         open-is {d} f w = go (rw f at w)
           where
-            go : SoughtWell p (Found d) → OpenedWell p d
+            go : ZoneLookupFits p (Found d) → OpenedWell p d
             go (found k) = k
 
         pub reads-all : (t : Built) (d : Opened) → q ≡ Found d → Reads b p t (rulesOf (filesOf p) (zoneMeant p d) (recordsOf b)) → Whole b p t

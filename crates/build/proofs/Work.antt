@@ -7,7 +7,7 @@ use native.Mathlib.Omega.{arith}
 use borrow.Author.Tests.{ne-eqb}
 use Rattle.model.specs.Answer.{gives, refuses}
 use Rattle.model.specs.Build.{worksIn2001, build}
-use Rattle.rules.specs.Rules.{scheduleIs}
+use Rattle.rule.specs.Rules.{scheduleIs}
 use Rattle.build.specs.declared.Built.{Built}
 use Rattle.build.specs.Read.{Refuses, Answers, rulesRead, build-reads}
 use Rattle.build.proofs.Turn.{refused-is}

@@ -17,19 +17,19 @@ use Rattle.model.specs.Book as books
 use Rattle.model.specs.Book.{Body, default, work, pause, holidays, entriesOf, withinLimits, lastDefault}
 use Rattle.model.specs.Working as model
 use Rattle.model.specs.Build.{lookup, defaultZone, noRules, rulesOf, worksIn2001, build}
-use Rattle.be.specs.Maybe.{orEmpty}
+use Rattle.big_endian.specs.Maybe.{orEmpty}
 use Rattle.book.specs.declared.Entry.{Entry}
 use Rattle.book.specs.Meaning.{bodyIn, IsTimed}
 use Rattle.zone.specs.Zones.{meant, ZoneOk}
-use Rattle.rules.specs.declared.Rule.{Rule}
-use Rattle.rules.specs.declared.Closed.{Closed}
-use Rattle.rules.specs.declared.Schedule.{Schedule}
-use Rattle.rules.specs.Rules.{fileAt, scheduleIs, All, RuleFits, ClosedFits, ScheduleFits}
+use Rattle.rule.specs.declared.Rule.{Rule}
+use Rattle.rule.specs.declared.HolidayDates.{HolidayDates}
+use Rattle.rule.specs.declared.Schedule.{Schedule}
+use Rattle.rule.specs.Rules.{fileAt, scheduleIs, All, RuleFits, HolidaysFit, ScheduleFits}
 use Rattle.build.specs.declared.Opened.{Opened}
-use Rattle.build.specs.declared.Sought.{Sought}
-use Rattle.build.specs.declared.Sought.the-variants.{Found, Refused}
-use Rattle.build.specs.declared.Known.{Known}
-use Rattle.build.specs.declared.Known.the-variants.{Last, Nothing}
+use Rattle.build.specs.declared.ZoneLookup.{ZoneLookup}
+use Rattle.build.specs.declared.ZoneLookup.the-variants.{Found, Refused}
+use Rattle.build.specs.declared.LastLookup.{LastLookup}
+use Rattle.build.specs.declared.LastLookup.the-variants.{Last, Nothing}
 use Rattle.build.specs.declared.Built.{Built}
 
 -- ---- the definitions' `build` without its last step, the search for work
@@ -58,14 +58,14 @@ pub record IsUtc (p : List ℕ) (o : Opened) : Type 0 where
   pub means : zoneMeant p o ≡ zones.utc
   pub opened : OpenedWell p o
 
-abbrev pub soughtIs : List ℕ → Sought → Answer Zone
-soughtIs p (Found o) = gives (zoneMeant p o)
-soughtIs p (Refused n k) = refuses n k
+abbrev pub zoneLookupIs : List ℕ → ZoneLookup → Answer Zone
+zoneLookupIs p (Found o) = gives (zoneMeant p o)
+zoneLookupIs p (Refused n k) = refuses n k
 
 -- a zone that was found is open, and a refusal has a number
-pub data SoughtWell (p : List ℕ) : Sought → Type 0 where
-  found : {o : Opened} → OpenedWell p o → SoughtWell p (Found o)
-  refused : {n k : ℕ} → 0 < n → SoughtWell p (Refused n k)
+pub data ZoneLookupFits (p : List ℕ) : ZoneLookup → Type 0 where
+  found : {o : Opened} → OpenedWell p o → ZoneLookupFits p (Found o)
+  refused : {n k : ℕ} → 0 < n → ZoneLookupFits p (Refused n k)
 
 -- ---- a zone that is known
 
@@ -84,21 +84,21 @@ pub record Names (b p : List ℕ) (name letters : ℕ) (o : Opened) : Type 0 whe
   pub means : (e : books.Entry) → e .name ≡ take letters (drop name b) → lookup (filesOf p) e ≡ gives (zoneMeant p o)
   pub opened : OpenedWell p o
 
-pub data Knows (b p : List ℕ) : Known → Type 0 where
-  last : {name letters : ℕ} {o : Opened} → Names b p name letters o → Knows b p (Last name letters o)
-  nothing : Knows b p Nothing
+pub data LooksUp (b p : List ℕ) : LastLookup → Type 0 where
+  last : {name letters : ℕ} {o : Opened} → Names b p name letters o → LooksUp b p (Last name letters o)
+  nothing : LooksUp b p Nothing
 
 -- behind a record that uses o
-abbrev pub knownAfter : Entry → Opened → Known → Known
-knownAfter e o k = if eqb (e .kind) 0 then k else if eqb (e .letters) 0 then k else Last (e .name) (e .letters) o
+abbrev pub lookupAfter : Entry → Opened → LastLookup → LastLookup
+lookupAfter e o k = if eqb (e .kind) 0 then k else if eqb (e .letters) 0 then k else Last (e .name) (e .letters) o
 
 -- ---- rules
 
 abbrev pub ruleFrom : Entry → Opened → Rule
 ruleFrom e o = record { at = o .at; len = o .len; zone = o .zone; days = e .days; from = e .start; to = e .end }
 
-abbrev pub closedFrom : Entry → Opened → Closed
-closedFrom e o = record { at = o .at; len = o .len; zone = o .zone; dates = e .dates; count = e .count }
+abbrev pub holidaysFrom : Entry → Opened → HolidayDates
+holidaysFrom e o = record { at = o .at; len = o .len; zone = o .zone; dates = e .dates; count = e .count }
 
 -- a schedule with a rule or a holiday record more
 abbrev pub withWork : Schedule → Rule → Schedule
@@ -123,7 +123,7 @@ withBreak s x = record {
   limit = s .limit;
 }
 
-abbrev pub withClosed : Schedule → Closed → ℕ → Schedule
+abbrev pub withClosed : Schedule → HolidayDates → ℕ → Schedule
 withClosed s x days = record {
   work = s .work;
   works = s .works;
@@ -157,10 +157,10 @@ added (holidays l) z s =
     record { work = s .work; breaks = s .breaks; holidays = s .holidays ++ (record { zone = z; dates = d } ∷ []); limit = s .limit + 7 * length d * day }
 
 -- a schedule's rules and holiday records fit
-pub record Kept (b p : List ℕ) (s : Schedule) : Type 0 where
+pub record RulesFit (b p : List ℕ) (s : Schedule) : Type 0 where
   pub work : All (RuleFits p) (take (s .works) (s .work))
   pub breaks : All (RuleFits p) (take (s .pauses) (s .breaks))
-  pub closed : All (ClosedFits b p) (take (s .closings) (s .closed))
+  pub closed : All (HolidaysFit b p) (take (s .closings) (s .closed))
 
 -- there is room for the record e, and it is one of a book
 pub record Room (b : List ℕ) (s : Schedule) (e : Entry) : Type 0 where
@@ -175,7 +175,7 @@ pub record Room (b : List ℕ) (s : Schedule) (e : Entry) : Type 0 where
 -- r is s with the record e more, whose zone is o
 pub record Grown (b p : List ℕ) (s : Schedule) (e : Entry) (o : Opened) (r : Schedule) : Type 0 where
   pub means : scheduleIs b p r ≡ added (bodyIn b e) (zoneMeant p o) (scheduleIs b p s)
-  pub kept : OpenedWell p o → Kept b p s → Kept b p r
+  pub kept : OpenedWell p o → RulesFit b p s → RulesFit b p r
   pub works : r .works ≡ s .works + books.works (bodyIn b e)
   pub pauses : r .pauses ≡ s .pauses + books.pauses (bodyIn b e)
   pub closings : r .closings ≡ s .closings + books.holidayRecords (bodyIn b e)
@@ -195,7 +195,7 @@ pub record Refuses (r : Built) (n k : ℕ) : Type 0 where
 -- r stands for the answer a, and its rules fit
 pub record Reads (b p : List ℕ) (r : Built) (a : Answer model.Schedule) : Type 0 where
   pub means : answerIs b p r ≡ a
-  pub kept : r .number ≡ 0 → Kept b p (r .schedule)
+  pub kept : r .number ≡ 0 → RulesFit b p (r .schedule)
   pub works : r .number ≡ 0 → r .schedule .works ≤ 16
   pub pauses : r .number ≡ 0 → r .schedule .pauses ≤ 16
   pub closings : r .number ≡ 0 → r .schedule .closings ≤ 8

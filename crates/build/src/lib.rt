@@ -9,15 +9,15 @@ ghost use Rattle.model.specs.Pack.{packOf};
 ghost use Rattle.model.specs.Book as model;
 ghost use Rattle.model.specs.Build as definition;
 ghost use Rattle.model.specs.Build.{lookup, defaultZone, zoneUsed, rulesOf};
-ghost use Rattle.be.specs.Maybe.{isSome};
+ghost use Rattle.big_endian.specs.Maybe.{isSome};
 ghost use Rattle.book.specs.Meaning.{recordsOf, bodyIn, meaning};
 ghost use Rattle.book.specs.Accepts.{isBook};
-ghost use Rattle.build.specs.Read.{filesOf, zoneMeant, soughtIs, SoughtWell, OpenedWell, IsUtc, SameBytes, SameName, Knows, knownAfter, ruleFrom, closedFrom, Sized, Long, Refuses, Reads, Answers, rulesRead};
+ghost use Rattle.build.specs.Read.{filesOf, zoneMeant, zoneLookupIs, ZoneLookupFits, OpenedWell, IsUtc, SameBytes, SameName, LooksUp, lookupAfter, ruleFrom, holidaysFrom, Sized, Long, Refuses, Reads, Answers, rulesRead};
 use book::Entry;
 use book::Time;
-use rules::Closed;
-use rules::Rule;
-use rules::Schedule;
+use rule::HolidayDates;
+use rule::Rule;
+use rule::Schedule;
 use zone::Zone;
 use zone::ZoneRead;
 
@@ -29,13 +29,13 @@ pub struct Opened {
 }
 
 // A zone that was sought: it, or a refusal's number and place.
-pub enum Sought {
+pub enum ZoneLookup {
     Found(Opened),
     Refused(u32, usize),
 }
 
 // The zone that was found last by a record's name: where the name stands in the book, how many letters it has, and the zone; or none was found yet.
-pub enum Known {
+pub enum LastLookup {
     Last(usize, usize, Opened),
     Nothing,
 }
@@ -50,21 +50,26 @@ pub struct Built {
 // ---- the zone of a record
 
 // The zone of a record's name: 4 where the pack has not got it, 5 where its file is not usable.
-fn look_up(book: &[u8], pack: &[u8], e: Entry) -> Sought
+fn look_up(book: &[u8], pack: &[u8], e: Entry) -> ZoneLookup
     requires { ⌜ isSome (packOf (now pack)) ≡ true ⌝ }
-    ensures { λ r. ⌜ (soughtIs (now (pack .entry)) r ≡ lookup (filesOf (now (pack .entry))) (meaning (now (book .entry)) e)) × SoughtWell (now (pack .entry)) r ⌝ }
+    ensures { λ r. ⌜ (zoneLookupIs (now (pack .entry)) r ≡ lookup (filesOf (now (pack .entry))) (meaning (now (book .entry)) e)) × ZoneLookupFits (now (pack .entry)) r ⌝ }
 {
     let mut found = false;
     let mut at: usize = 0;
-    let file = pack::look_in(pack, be::part(book, e.name, e.letters), &mut found, &mut at);
+    let file = zone_pack::look_in(
+        pack,
+        big_endian::part(book, e.name, e.letters),
+        &mut found,
+        &mut at,
+    );
     if !found {
-        return Sought::Refused(4, e.place);
+        return ZoneLookup::Refused(4, e.place);
     }
     let len = file.len();
     let ZoneRead::Opened(zone) = zone::open(file) else {
-        return Sought::Refused(5, e.place);
+        return ZoneLookup::Refused(5, e.place);
     };
-    Sought::Found(Opened { at, len, zone })
+    ZoneLookup::Found(Opened { at, len, zone })
 }
 
 // UTC, as a zone without a file.
@@ -80,15 +85,15 @@ fn utc() -> Opened
 }
 
 // The zone of the last default record, or UTC.
-fn default_zone(book: &[u8], pack: &[u8]) -> Sought
+fn default_zone(book: &[u8], pack: &[u8]) -> ZoneLookup
     requires { ⌜ (isBook (now book) ≡ true) × (isSome (packOf (now pack)) ≡ true) ⌝ }
-    ensures { λ r. ⌜ (soughtIs (now (pack .entry)) r ≡ defaultZone (filesOf (now (pack .entry))) (model.lastDefault none (recordsOf (now (book .entry))))) × SoughtWell (now (pack .entry)) r ⌝ }
+    ensures { λ r. ⌜ (zoneLookupIs (now (pack .entry)) r ≡ defaultZone (filesOf (now (pack .entry))) (model.lastDefault none (recordsOf (now (book .entry))))) × ZoneLookupFits (now (pack .entry)) r ⌝ }
 {
     let i = book::last_default(book);
     if i < book::count(book) {
         return look_up(book, pack, book::entry_at(book, i));
     }
-    Sought::Found(utc())
+    ZoneLookup::Found(utc())
 }
 
 // Are the n bytes from p on those from q on?
@@ -118,36 +123,36 @@ fn is_named(book: &[u8], e: Entry, name: usize, letters: usize) -> bool
 }
 
 // The zone of a record's name where k is known. A name's zone is opened once, where records that name it follow one another.
-fn zone_named(book: &[u8], pack: &[u8], e: Entry, k: Known) -> Sought
-    requires { ⌜ (isSome (packOf (now pack)) ≡ true) × (e .name + e .letters ≤ length (now book)) × Knows (now book) (now pack) k ⌝ }
-    ensures { λ r. ⌜ (soughtIs (now (pack .entry)) r ≡ lookup (filesOf (now (pack .entry))) (meaning (now (book .entry)) e)) × SoughtWell (now (pack .entry)) r ⌝ }
+fn zone_named(book: &[u8], pack: &[u8], e: Entry, k: LastLookup) -> ZoneLookup
+    requires { ⌜ (isSome (packOf (now pack)) ≡ true) × (e .name + e .letters ≤ length (now book)) × LooksUp (now book) (now pack) k ⌝ }
+    ensures { λ r. ⌜ (zoneLookupIs (now (pack .entry)) r ≡ lookup (filesOf (now (pack .entry))) (meaning (now (book .entry)) e)) × ZoneLookupFits (now (pack .entry)) r ⌝ }
 {
-    let Known::Last(name, letters, zone) = k else {
+    let LastLookup::Last(name, letters, zone) = k else {
         return look_up(book, pack, e);
     };
     if is_named(book, e, name, letters) {
-        return Sought::Found(zone);
+        return ZoneLookup::Found(zone);
     }
     look_up(book, pack, e)
 }
 
 // The zone that a record uses where d is the default zone and k is known.
-fn zone_used(book: &[u8], pack: &[u8], e: Entry, d: Opened, k: Known) -> Sought
-    requires { ⌜ (isSome (packOf (now pack)) ≡ true) × (e .name + e .letters ≤ length (now book)) × OpenedWell (now pack) d × Knows (now book) (now pack) k ⌝ }
-    ensures { λ r. ⌜ (soughtIs (now (pack .entry)) r ≡ zoneUsed (filesOf (now (pack .entry))) (zoneMeant (now (pack .entry)) d) (meaning (now (book .entry)) e) (bodyIn (now (book .entry)) e)) × SoughtWell (now (pack .entry)) r ⌝ }
+fn zone_used(book: &[u8], pack: &[u8], e: Entry, d: Opened, k: LastLookup) -> ZoneLookup
+    requires { ⌜ (isSome (packOf (now pack)) ≡ true) × (e .name + e .letters ≤ length (now book)) × OpenedWell (now pack) d × LooksUp (now book) (now pack) k ⌝ }
+    ensures { λ r. ⌜ (zoneLookupIs (now (pack .entry)) r ≡ zoneUsed (filesOf (now (pack .entry))) (zoneMeant (now (pack .entry)) d) (meaning (now (book .entry)) e) (bodyIn (now (book .entry)) e)) × ZoneLookupFits (now (pack .entry)) r ⌝ }
 {
     if e.kind == 0 {
-        return Sought::Found(d);
+        return ZoneLookup::Found(d);
     }
     if e.letters == 0 {
-        return Sought::Found(d);
+        return ZoneLookup::Found(d);
     }
     zone_named(book, pack, e, k)
 }
 
 // What is known behind a record that uses o.
-fn known_after(e: Entry, o: Opened, k: Known) -> Known
-    ensures { λ r. ⌜ r ≡ knownAfter e o k ⌝ }
+fn lookup_after(e: Entry, o: Opened, k: LastLookup) -> LastLookup
+    ensures { λ r. ⌜ r ≡ lookupAfter e o k ⌝ }
 {
     if e.kind == 0 {
         return k;
@@ -155,7 +160,7 @@ fn known_after(e: Entry, o: Opened, k: Known) -> Known
     if e.letters < 1 {
         return k;
     }
-    Known::Last(e.name, e.letters, o)
+    LastLookup::Last(e.name, e.letters, o)
 }
 
 // ---- the rules of the records
@@ -178,11 +183,11 @@ fn rule_of(e: Entry, o: Opened) -> Rule
 }
 
 // A holiday record and its zone.
-fn closed_of(e: Entry, o: Opened) -> Closed
-    ensures { λ r. ⌜ r ≡ closedFrom e o ⌝ }
+fn holidays_of(e: Entry, o: Opened) -> HolidayDates
+    ensures { λ r. ⌜ r ≡ holidaysFrom e o ⌝ }
 {
     let zone = o.zone;
-    Closed {
+    HolidayDates {
         at: o.at,
         len: o.len,
         zone,
@@ -208,7 +213,7 @@ fn no_rules() -> Schedule
         from,
         to: from,
     };
-    let c = Closed {
+    let c = HolidayDates {
         at: 0,
         len: 0,
         zone,
@@ -247,14 +252,14 @@ fn read_rules(book: &[u8], pack: &[u8], d: Opened) -> Built
 {
     let n = book::count(book);
     let mut s = no_rules();
-    let mut k = Known::Nothing;
+    let mut k = LastLookup::Nothing;
     let mut i: usize = 0;
     while i < n {
         let e = book::entry_at(book, i);
         i += 1;
         match zone_used(book, pack, e, d, k) {
-            Sought::Found(o) => {
-                k = known_after(e, o, k);
+            ZoneLookup::Found(o) => {
+                k = lookup_after(e, o, k);
                 if e.kind == 1 {
                     let at = s.works;
                     s.work[at] = rule_of(e, o);
@@ -266,12 +271,12 @@ fn read_rules(book: &[u8], pack: &[u8], d: Opened) -> Built
                 } else if e.kind == 3 {
                     let at = s.closings;
                     let days = book::distinct_dates(book, e.dates, e.count);
-                    s.closed[at] = closed_of(e, o);
+                    s.closed[at] = holidays_of(e, o);
                     s.closings = at + 1;
                     s.limit += 604800 * (days as u64);
                 }
             }
-            Sought::Refused(number, place) => {
+            ZoneLookup::Refused(number, place) => {
                 return refused(number, place);
             }
         }
@@ -293,14 +298,14 @@ fn rules_of(book: &[u8], pack: &[u8]) -> Built
     if !book::limits_ok(book) {
         return refused(2, 0);
     }
-    if !pack::pack_ok(pack) {
+    if !zone_pack::pack_ok(pack) {
         return refused(3, 0);
     }
     match default_zone(book, pack) {
-        Sought::Found(d) => {
+        ZoneLookup::Found(d) => {
             return read_rules(book, pack, d);
         }
-        Sought::Refused(number, place) => {
+        ZoneLookup::Refused(number, place) => {
             return refused(number, place);
         }
     }
@@ -315,7 +320,7 @@ pub fn build(book: &[u8], pack: &[u8]) -> Built
         return r;
     }
     let s = r.schedule;
-    if two_weeks::has_work(book, pack, s) {
+    if build_check::has_work(book, pack, s) {
         return r;
     }
     refused(6, 0)

@@ -5,12 +5,12 @@
 // behind a write that failed, a line that was read in part is not answered, and a line on standard error says what failed.
 ghost use Prim.Native.Nat.{_≤_};
 ghost use lib.ListN.{length};
-ghost use Rattle.answers.specs.Answering.{Stands};
+ghost use Rattle.query_answer.specs.Answering.{Stands};
 ghost use Rattle.io.specs.Counts.{Counts};
 use build::Built;
 use libc::STDIN_FILENO;
 use libc::STDOUT_FILENO;
-use stream::Progress;
+use query_stream::Progress;
 
 // ---- reading and writing
 
@@ -135,7 +135,7 @@ fn pass(book: &[u8], pack: &[u8], b: Built, p: Progress, input: &[u8], out: &mut
     while i < input.len() {
         r.next = i;
         r.used = 0;
-        r = stream::feed(book, pack, b, r, input, out);
+        r = query_stream::feed(book, pack, b, r, input, out);
         let n = r.used;
         if !write_all(&out[..n]) {
             return Passed {
@@ -167,7 +167,7 @@ fn step(book: &[u8], pack: &[u8], b: Built, p: Progress, input: &mut [u8], out: 
     if n > 0 {
         return pass(book, pack, b, p, &input[..n], out);
     }
-    let k = stream::end(book, pack, b, p, out);
+    let k = query_stream::end(book, pack, b, p, out);
     write_all(&out[..k]);
     Passed {
         progress: p,
@@ -180,7 +180,7 @@ fn answer_all(book: &[u8], pack: &[u8], input: &mut [u8], out: &mut [u8])
     requires { ⌜ 128 ≤ length (now out) ⌝ }
 {
     let b = build::build(book, pack);
-    let mut p = stream::begin();
+    let mut p = query_stream::begin();
     let mut turns = u64::MAX;
     while turns > 0 {
         let r = step(book, pack, b, p, input, out);

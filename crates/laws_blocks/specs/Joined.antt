@@ -9,7 +9,7 @@ use borrow.Author.Tests.{leb-true, ltb-true, le-leb, lt-ltb}
 use Rattle.model.specs.Basic.{joined, any}
 use Rattle.model.specs.Blocks.{Block, clipped}
 use Rattle.laws_base.specs.Test.{by-test, and-both, both-and, clash}
-use Rattle.laws_blocks.specs.Members.{In, covers, NonEmpty, append-in, append-nonempty, clipped-in, covers-in, in-covers, not-covers}
+use Rattle.laws_blocks.specs.Members.{InBlocks, covers, NonEmpty, append-in, append-nonempty, clipped-in, covers-in, in-covers, not-covers}
 
 pub covers-append : (l k : List Block) (t : ℕ) → covers (l ++ k) t ≡ (covers l t || covers k t)
 covers-append [] k t = refl
@@ -36,7 +36,7 @@ module _ {A : Type 0} (f : A → List Block) where
   joined-nonempty h (a ∷ l) = append-nonempty (f a) (joined (map f l)) (h a) (joined-nonempty h l)
 
   -- what holds of every instant of each holds of every instant of all
-  pub joined-holds : {P : ℕ → Type 0} → ((a : A) (t : ℕ) → In t (f a) → P t) → (l : List A) (t : ℕ) → In t (joined (map f l)) → P t
+  pub joined-holds : {P : ℕ → Type 0} → ((a : A) (t : ℕ) → InBlocks t (f a) → P t) → (l : List A) (t : ℕ) → InBlocks t (joined (map f l)) → P t
   unfolding joined
   joined-holds h [] t i = absurd i
   joined-holds h (a ∷ l) t i = ⊎-elim (λ k. h a t k) (λ k. joined-holds h l t k) (append-in t (f a) (joined (map f l)) .0 i)

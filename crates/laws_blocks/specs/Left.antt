@@ -8,7 +8,7 @@ use native.Mathlib.Omega.{arith}
 use Rattle.model.specs.Blocks.{Block, union, subtract}
 use Rattle.laws_base.specs.Test.{by-test, and-both, both-and, not-true, true-not, clash}
 use Rattle.laws_blocks.specs.Lists.{Lists, none, next}
-use Rattle.laws_blocks.specs.Members.{halves, In, covers, NonEmpty, Chain, Ends, covers-in, in-covers, not-covers, covers-not, chain-from, chain-weaken, union-in, union-normal, subtract-in, subtract-normal}
+use Rattle.laws_blocks.specs.Members.{halves, InBlocks, covers, NonEmpty, Chain, Ends, covers-in, in-covers, not-covers, covers-not, chain-from, chain-weaken, union-in, union-normal, subtract-in, subtract-normal}
 
 -- a normal list lists what it covers
 pub chain-lists : (W : ℕ → Bool) (lo hi : ℕ) (l : List Block) → lo ≤ hi → Chain lo l → Ends hi l → ((u : ℕ) → lo ≤ u → u < hi → W u ≡ covers l u) → Lists W lo hi l
@@ -20,7 +20,7 @@ chain-lists W lo hi (b ∷ l) h c e w =
     (chain-lists W (b .end) hi l (e .0) (chain-weaken (b .end) (suc (b .end)) l (omega arith) (c .2)) (e .1)
     (λ u p q. w u (omega arith) q ∙ same u p))
   where
-    later : (u : ℕ) → In u l → u ≤ b .end → ⊥
+    later : (u : ℕ) → InBlocks u l → u ≤ b .end → ⊥
     later u k h = omega (arith, chain-from u (suc (b .end)) l (c .2) k)
 
     same : (u : ℕ) → b .end ≤ u → covers (b ∷ l) u ≡ covers l u
@@ -30,14 +30,14 @@ chain-lists W lo hi (b ∷ l) h c e w =
         (λ f. not-covers u (b ∷ l) (⊎-elim (λ k. omega arith) (λ k. covers-not u l f k)) ∙ sym f)
 
 -- a normal list whose instants are in [lo, hi)
-pub chain-at : (m lo hi : ℕ) (l : List Block) → Chain m l → ((t : ℕ) → In t l → (lo ≤ t) × (t < hi)) → Chain lo l × Ends hi l
+pub chain-at : (m lo hi : ℕ) (l : List Block) → Chain m l → ((t : ℕ) → InBlocks t l → (lo ≤ t) × (t < hi)) → Chain lo l × Ends hi l
 chain-at m lo hi [] c h = (tt, tt)
 chain-at m lo hi (b ∷ l) c h =
     let r = chain-at (suc (b .end)) lo hi l (c .2) (λ t k. h t (inr k)) in
     ((h (b .start) (inl (omega arith)) .0, c .1, c .2), (let k = h (b .end - 1) (inl (omega arith)) .1 in omega arith, r .1))
 
 -- a list that `Lists` has exactly the instants of the window that pass
-pub lists-in : (W : ℕ → Bool) (lo hi : ℕ) {l : List Block} → Lists W lo hi l → (t : ℕ) → In t l ↔ (((lo ≤ t) × (t < hi)) × (W t ≡ true))
+pub lists-in : (W : ℕ → Bool) (lo hi : ℕ) {l : List Block} → Lists W lo hi l → (t : ℕ) → InBlocks t l ↔ (((lo ≤ t) × (t < hi)) × (W t ≡ true))
 lists-in W lo hi (none h e) t = (λ i. absurd i, λ m. clash (W t) (m .1) (e t (m .0 .0) (m .0 .1)))
 lists-in W lo hi (next s e a b c idle full rest) t =
     let ih = lists-in W e hi rest t in (
@@ -50,17 +50,17 @@ lists-in W lo hi (next s e a b c idle full rest) t =
     )
 
 -- so its test is W there
-pub in-test : (W : ℕ → Bool) (lo hi : ℕ) (l : List Block) (u : ℕ) → In u l ↔ (((lo ≤ u) × (u < hi)) × (W u ≡ true)) → lo ≤ u → u < hi → W u ≡ covers l u
+pub in-test : (W : ℕ → Bool) (lo hi : ℕ) (l : List Block) (u : ℕ) → InBlocks u l ↔ (((lo ≤ u) × (u < hi)) × (W u ≡ true)) → lo ≤ u → u < hi → W u ≡ covers l u
 in-test W lo hi l u m a b =
     by-test (W u)
     (λ e. e ∙ sym (in-covers u l (m .1 ((a, b), e))))
     (λ e. e ∙ sym (not-covers u l (λ i. clash (W u) (m .0 i .1) e)))
 
-module _ (lo hi : ℕ) (on off : List Block) (p : NonEmpty on) (q : NonEmpty off) (inside : (t : ℕ) → In t on → (lo ≤ t) × (t < hi)) where
+module _ (lo hi : ℕ) (on off : List Block) (p : NonEmpty on) (q : NonEmpty off) (inside : (t : ℕ) → InBlocks t on → (lo ≤ t) × (t < hi)) where
   abbrev left-over : List Block
   left-over = subtract (union on) (union off)
 
-  pub left-in : (t : ℕ) → In t left-over ↔ (In t on × (In t off → ⊥))
+  pub left-in : (t : ℕ) → InBlocks t left-over ↔ (InBlocks t on × (InBlocks t off → ⊥))
   left-in t =
       let s = subtract-in t (union on) (union off) (union-normal off q) in
       let a = union-in t on in

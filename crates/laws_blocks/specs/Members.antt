@@ -12,9 +12,9 @@ use Rattle.model.specs.Blocks.{Block, block, put, clipped, insert, sorted, merg
 use Rattle.laws_base.specs.Test.{by-test, and-both, clash}
 
 -- the instant t is in a block of the list
-abbrev pub In : ℕ → List Block → Type 0
-In t [] = ⊥
-In t (b ∷ l) = ((b .start ≤ t) × (t < b .end)) ⊎ In t l
+abbrev pub InBlocks : ℕ → List Block → Type 0
+InBlocks t [] = ⊥
+InBlocks t (b ∷ l) = ((b .start ≤ t) × (t < b .end)) ⊎ InBlocks t l
 
 -- the same as a test
 abbrev pub covers : List Block → ℕ → Bool
@@ -56,11 +56,11 @@ halves a b = by-test (ltb a b) (λ e. inl (ltb-true a b e)) (λ e. inr (ltb-fals
 inside : (t : ℕ) (b : Block) → (leb (b .start) t && ltb t (b .end)) ≡ true → (b .start ≤ t) × (t < b .end)
 inside t b e = let h = and-both (leb (b .start) t) (ltb t (b .end)) e in (leb-true (b .start) t (h .0), ltb-true t (b .end) (h .1))
 
-pub covers-in : (t : ℕ) (l : List Block) → covers l t ≡ true → In t l
+pub covers-in : (t : ℕ) (l : List Block) → covers l t ≡ true → InBlocks t l
 covers-in t [] e = clash false e refl
 covers-in t (b ∷ l) e = by-test (leb (b .start) t && ltb t (b .end)) (λ p. inl (inside t b p)) (λ p. inr (covers-in t l (rw p at e)))
 
-pub in-covers : (t : ℕ) (l : List Block) → In t l → covers l t ≡ true
+pub in-covers : (t : ℕ) (l : List Block) → InBlocks t l → covers l t ≡ true
 in-covers t [] h = absurd h
 in-covers t (b ∷ l) h =
     ⊎-elim
@@ -68,14 +68,14 @@ in-covers t (b ∷ l) h =
     (λ k. by-test (leb (b .start) t && ltb t (b .end)) (λ p. rw p) (λ p. rw p (in-covers t l k)))
     h
 
-pub not-covers : (t : ℕ) (l : List Block) → (In t l → ⊥) → covers l t ≡ false
+pub not-covers : (t : ℕ) (l : List Block) → (InBlocks t l → ⊥) → covers l t ≡ false
 not-covers t l h = by-test (covers l t) (λ e. absurd (h (covers-in t l e))) (λ e. e)
 
-pub covers-not : (t : ℕ) (l : List Block) → covers l t ≡ false → In t l → ⊥
+pub covers-not : (t : ℕ) (l : List Block) → covers l t ≡ false → InBlocks t l → ⊥
 covers-not t l e i = clash (covers l t) (in-covers t l i) e
 
 -- two lists with the same instants have the same test
-pub same-test : (t : ℕ) (l k : List Block) → In t l ↔ In t k → covers l t ≡ covers k t
+pub same-test : (t : ℕ) (l k : List Block) → InBlocks t l ↔ InBlocks t k → covers l t ≡ covers k t
 same-test t l k h =
     by-test (covers k t)
     (λ p. in-covers t l (h .1 (covers-in t k p)) ∙ sym p)
@@ -83,7 +83,7 @@ same-test t l k h =
 
 -- ---- lists put together
 
-pub append-in : (t : ℕ) (l k : List Block) → In t (l ++ k) ↔ (In t l ⊎ In t k)
+pub append-in : (t : ℕ) (l k : List Block) → InBlocks t (l ++ k) ↔ (InBlocks t l ⊎ InBlocks t k)
 append-in t [] k = (λ m. inr m, ⊎-elim (λ m. absurd m) (λ m. m))
 append-in t (b ∷ l) k =
     let ih = append-in t l k in (
@@ -95,7 +95,7 @@ pub append-nonempty : (l k : List Block) → NonEmpty l → NonEmpty k → NonEm
 append-nonempty [] k n o = o
 append-nonempty (b ∷ l) k n o = (n .0, append-nonempty l k (n .1) o)
 
-put-in : (t s e : ℕ) (l : List Block) → In t (put s e l) ↔ (((s ≤ t) × (t < e)) ⊎ In t l)
+put-in : (t s e : ℕ) (l : List Block) → InBlocks t (put s e l) ↔ (((s ≤ t) × (t < e)) ⊎ InBlocks t l)
 put-in t s e l =
     by-test (ltb s e)
     (λ q. rw q (λ m. m, λ m. m))
@@ -107,7 +107,7 @@ within : (t lo hi s e : ℕ) → ((max s lo ≤ t) × (t < min e hi)) ↔ (((lo 
 within t lo hi s e = (λ m. ((omega arith, omega arith), (omega arith, omega arith)), λ m. (omega arith, omega arith))
 
 -- a clipped block has the instants of [s, e) in [lo, hi)
-pub clipped-in : (t lo hi s e : ℕ) → In t (clipped lo hi s e) ↔ (((lo ≤ t) × (t < hi)) × ((s ≤ t) × (t < e)))
+pub clipped-in : (t lo hi s e : ℕ) → InBlocks t (clipped lo hi s e) ↔ (((lo ≤ t) × (t < hi)) × ((s ≤ t) × (t < e)))
 unfolding clipped
 clipped-in t lo hi s e =
     let p = put-in t (max s lo) (min e hi) [] in
@@ -124,7 +124,7 @@ pub from-weaken : (m k : ℕ) (l : List Block) → m ≤ k → From k l → From
 from-weaken m k [] h f = tt
 from-weaken m k (b ∷ l) h f = (omega arith, from-weaken m k l h (f .1))
 
-pub from-in : (t m : ℕ) (l : List Block) → From m l → In t l → m ≤ t
+pub from-in : (t m : ℕ) (l : List Block) → From m l → InBlocks t l → m ≤ t
 from-in t m [] f h = absurd h
 from-in t m (b ∷ l) f h = ⊎-elim (λ k. omega (arith, f .0)) (λ k. from-in t m l (f .1) k) h
 
@@ -143,7 +143,7 @@ insert-sorted b (c ∷ l) s =
     (λ e. let h : c .start < b .start = leb-false (b .start) (c .start) e in
     rw e (from-insert (c .start) b l (omega arith) (s .0), insert-sorted b l (s .1)))
 
-insert-in : (t : ℕ) (b : Block) (l : List Block) → In t (insert b l) ↔ In t (b ∷ l)
+insert-in : (t : ℕ) (b : Block) (l : List Block) → InBlocks t (insert b l) ↔ InBlocks t (b ∷ l)
 unfolding insert
 insert-in t b [] = (λ m. m, λ m. m)
 insert-in t b (c ∷ l) =
@@ -165,7 +165,7 @@ unfolding sorted
 sorted-sorted [] = tt
 sorted-sorted (b ∷ l) = insert-sorted b (sorted l) (sorted-sorted l)
 
-pub sorted-in : (t : ℕ) (l : List Block) → In t (sorted l) ↔ In t l
+pub sorted-in : (t : ℕ) (l : List Block) → InBlocks t (sorted l) ↔ InBlocks t l
 unfolding sorted
 sorted-in t [] = (λ m. m, λ m. m)
 sorted-in t (b ∷ l) =
@@ -181,13 +181,13 @@ sorted-nonempty (b ∷ l) n = insert-nonempty b (sorted l) (n .0) (sorted-nonemp
 -- ---- merging
 
 -- a block and one that starts in it or at its end, made one
-joined-in : (t : ℕ) (b c : Block) (l : List Block) → b .start ≤ c .start → c .start ≤ b .end → In t (block (b .start) (max (b .end) (c .end)) ∷ l) ↔ In t (b ∷ c ∷ l)
+joined-in : (t : ℕ) (b c : Block) (l : List Block) → b .start ≤ c .start → c .start ≤ b .end → InBlocks t (block (b .start) (max (b .end) (c .end)) ∷ l) ↔ InBlocks t (b ∷ c ∷ l)
 joined-in t b c l f h = (
   ⊎-elim (λ k. ⊎-elim (λ o. inl (omega arith)) (λ o. inr (inl (omega arith))) (halves t (b .end))) (λ k. inr (inr k)),
   ⊎-elim (λ k. inl (omega arith)) (⊎-elim (λ k. inl (omega arith)) (λ k. inr k)),
 )
 
-merged-from-in : (t : ℕ) (b : Block) (l : List Block) → From (b .start) l → Sorted l → In t (mergedFrom b l) ↔ In t (b ∷ l)
+merged-from-in : (t : ℕ) (b : Block) (l : List Block) → From (b .start) l → Sorted l → InBlocks t (mergedFrom b l) ↔ InBlocks t (b ∷ l)
 unfolding mergedFrom
 merged-from-in t b [] f s = (λ m. m, λ m. m)
 merged-from-in t b (c ∷ l) f s =
@@ -200,7 +200,7 @@ merged-from-in t b (c ∷ l) f s =
     let p = merged-from-in t c l (s .0) (s .1) in
     rw e (⊎-elim (λ k. inl k) (λ k. inr (p .0 k)), ⊎-elim (λ k. inl k) (λ k. inr (p .1 k))))
 
-pub merged-in : (t : ℕ) (l : List Block) → Sorted l → In t (merged l) ↔ In t l
+pub merged-in : (t : ℕ) (l : List Block) → Sorted l → InBlocks t (merged l) ↔ InBlocks t l
 unfolding merged
 merged-in t [] s = (λ m. m, λ m. m)
 merged-in t (b ∷ l) s = merged-from-in t b l (s .0) (s .1)
@@ -225,7 +225,7 @@ from-zero (b ∷ l) = (omega arith, from-zero l)
 -- ---- union
 
 -- an instant is in the union exactly where it is in a block
-pub union-in : (t : ℕ) (l : List Block) → In t (union l) ↔ In t l
+pub union-in : (t : ℕ) (l : List Block) → InBlocks t (union l) ↔ InBlocks t l
 unfolding union
 union-in t l =
     let m = merged-in t (sorted l) (sorted-sorted l) in
@@ -239,7 +239,7 @@ union-normal l n = merged-chain 0 (sorted l) (from-zero (sorted l)) (sorted-sort
 
 -- ---- normal forms
 
-pub chain-from : (t m : ℕ) (l : List Block) → Chain m l → In t l → m ≤ t
+pub chain-from : (t m : ℕ) (l : List Block) → Chain m l → InBlocks t l → m ≤ t
 chain-from t m [] c h = absurd h
 chain-from t m (b ∷ l) c h = ⊎-elim (λ k. omega arith) (λ k. omega (arith, chain-from t (suc (b .end)) l (c .2) k)) h
 
@@ -257,7 +257,7 @@ pub chain-nonempty : (m : ℕ) (l : List Block) → Chain m l → NonEmpty l
 chain-nonempty m [] c = tt
 chain-nonempty m (b ∷ l) c = (c .1, chain-nonempty (suc (b .end)) l (c .2))
 
-same-chain : (m : ℕ) (l k : List Block) → Chain m l → Chain m k → ((t : ℕ) → In t l ↔ In t k) → l ≡ k
+same-chain : (m : ℕ) (l k : List Block) → Chain m l → Chain m k → ((t : ℕ) → InBlocks t l ↔ InBlocks t k) → l ≡ k
 same-chain m [] [] c d h = refl
 same-chain m [] (b ∷ l) c d h = absurd (h (b .start) .1 (inl (omega arith)))
 same-chain m (b ∷ l) [] c d h = absurd (h (b .start) .0 (inl (omega arith)))
@@ -268,33 +268,33 @@ same-chain m (b ∷ l) (d ∷ k) p q h =
     (same-chain (suc (b .end)) l k (p .2) (chain-weaken (suc (b .end)) (suc (d .end)) k (omega arith) (q .2))
     (λ t. (rest b l d k p q g (λ t. h t .0) t, rest d k b l q p (sym g) (λ t. h t .1) t)))
   where
-    starts-at : {m : ℕ} (b : Block) (l : List Block) (d : Block) (k : List Block) → Chain m (b ∷ l) → Chain m (d ∷ k) → ((t : ℕ) → In t (b ∷ l) → In t (d ∷ k)) → d .start ≤ b .start
+    starts-at : {m : ℕ} (b : Block) (l : List Block) (d : Block) (k : List Block) → Chain m (b ∷ l) → Chain m (d ∷ k) → ((t : ℕ) → InBlocks t (b ∷ l) → InBlocks t (d ∷ k)) → d .start ≤ b .start
     starts-at b l d k p q h = chain-from (b .start) (d .start) (d ∷ k) (omega arith, q .1, q .2) (h (b .start) (inl (omega arith)))
 
-    ends-by : {m : ℕ} (b : Block) (l : List Block) (d : Block) (k : List Block) → Chain m (b ∷ l) → Chain m (d ∷ k) → b .start ≡ d .start → ((t : ℕ) → In t (d ∷ k) → In t (b ∷ l)) → d .end ≤ b .end
+    ends-by : {m : ℕ} (b : Block) (l : List Block) (d : Block) (k : List Block) → Chain m (b ∷ l) → Chain m (d ∷ k) → b .start ≡ d .start → ((t : ℕ) → InBlocks t (d ∷ k) → InBlocks t (b ∷ l)) → d .end ≤ b .end
     ends-by b l d k p q f h =
         ⊎-elim
         (λ o. absurd (⊎-elim (λ i. omega arith) (λ i. omega (arith, chain-from (b .end) (suc (b .end)) l (p .2) i)) (h (b .end) (inl (omega arith)))))
         (λ o. o)
         (halves (b .end) (d .end))
 
-    rest : {m : ℕ} (b : Block) (l : List Block) (d : Block) (k : List Block) → Chain m (b ∷ l) → Chain m (d ∷ k) → b .end ≡ d .end → ((t : ℕ) → In t (b ∷ l) → In t (d ∷ k)) → (t : ℕ) → In t l → In t k
+    rest : {m : ℕ} (b : Block) (l : List Block) (d : Block) (k : List Block) → Chain m (b ∷ l) → Chain m (d ∷ k) → b .end ≡ d .end → ((t : ℕ) → InBlocks t (b ∷ l) → InBlocks t (d ∷ k)) → (t : ℕ) → InBlocks t l → InBlocks t k
     rest b l d k p q g h t i =
         let o : suc (b .end) ≤ t = chain-from t (suc (b .end)) l (p .2) i in
         ⊎-elim (λ e. absurd (omega arith)) (λ e. e) (h t (inr i))
 
 -- two normal lists with the same instants are equal
-pub normal-unique : (l k : List Block) → Normal l → Normal k → ((t : ℕ) → In t l ↔ In t k) → l ≡ k
+pub normal-unique : (l k : List Block) → Normal l → Normal k → ((t : ℕ) → InBlocks t l ↔ InBlocks t k) → l ≡ k
 normal-unique l k = same-chain 0 l k
 
 -- lists with the same instants have the same union: order, ties and repeats do not matter
-pub union-same : (l k : List Block) → NonEmpty l → NonEmpty k → ((t : ℕ) → In t l ↔ In t k) → union l ≡ union k
+pub union-same : (l k : List Block) → NonEmpty l → NonEmpty k → ((t : ℕ) → InBlocks t l ↔ InBlocks t k) → union l ≡ union k
 union-same l k n o h =
     normal-unique (union l) (union k) (union-normal l n) (union-normal k o)
     (λ t. (λ i. union-in t k .1 (h t .0 (union-in t l .0 i)), λ i. union-in t l .1 (h t .1 (union-in t k .0 i))))
 
 -- any way to sort gives the same union
-pub merged-any : (s l : List Block) → Sorted s → NonEmpty s → NonEmpty l → ((t : ℕ) → In t s ↔ In t l) → merged s ≡ union l
+pub merged-any : (s l : List Block) → Sorted s → NonEmpty s → NonEmpty l → ((t : ℕ) → InBlocks t s ↔ InBlocks t l) → merged s ≡ union l
 merged-any s l o n k h =
     normal-unique (merged s) (union l) (merged-chain 0 s (from-zero s) o n) (union-normal l k)
     (λ t. (λ i. union-in t l .1 (h t .0 (merged-in t s o .0 i)), λ i. merged-in t s o .1 (h t .1 (union-in t l .0 i))))
@@ -306,7 +306,7 @@ union-again l c = normal-unique (union l) l (union-normal l (chain-nonempty 0 l 
 -- ---- subtract
 
 -- [s, e) without the blocks of off
-cut-in : (t s e : ℕ) (off : List Block) → Sorted off → In t (cut s e off) ↔ (((s ≤ t) × (t < e)) × (In t off → ⊥))
+cut-in : (t s e : ℕ) (off : List Block) → Sorted off → InBlocks t (cut s e off) ↔ (((s ≤ t) × (t < e)) × (InBlocks t off → ⊥))
 unfolding cut
 cut-in t s e [] o =
     let p = put-in t s e [] in
@@ -345,7 +345,7 @@ cut-in t s e (g ∷ off) o =
           (halves t (g .start))),
     )))
 
-subtract-from : (t : ℕ) (on off : List Block) → Sorted off → In t (subtract on off) ↔ (In t on × (In t off → ⊥))
+subtract-from : (t : ℕ) (on off : List Block) → Sorted off → InBlocks t (subtract on off) ↔ (InBlocks t on × (InBlocks t off → ⊥))
 unfolding subtract
 subtract-from t [] off o = (λ h. absurd h, λ h. h .0)
 subtract-from t (b ∷ on) off o =
@@ -357,7 +357,7 @@ subtract-from t (b ∷ on) off o =
     )
 
 -- an instant is in the difference exactly where it is in `on` and not in `off`
-pub subtract-in : (t : ℕ) (on off : List Block) → Normal off → In t (subtract on off) ↔ (In t on × (In t off → ⊥))
+pub subtract-in : (t : ℕ) (on off : List Block) → Normal off → InBlocks t (subtract on off) ↔ (InBlocks t on × (InBlocks t off → ⊥))
 subtract-in t on off d = subtract-from t on off (chain-sorted 0 off d .0)
 
 chain-append : (m e : ℕ) (l k : List Block) → m ≤ suc e → Chain m l → Ends e l → Chain (suc e) k → Chain m (l ++ k)
@@ -395,7 +395,7 @@ pub subtract-normal : (on off : List Block) → Normal on → Normal off → Nor
 subtract-normal on off c d = subtract-chain 0 on off c (chain-nonempty 0 off d)
 
 -- the difference is the only normal list with its instants
-pub subtract-same : (on off l : List Block) → Normal on → Normal off → Normal l → ((t : ℕ) → In t l ↔ (In t on × (In t off → ⊥))) → subtract on off ≡ l
+pub subtract-same : (on off l : List Block) → Normal on → Normal off → Normal l → ((t : ℕ) → InBlocks t l ↔ (InBlocks t on × (InBlocks t off → ⊥))) → subtract on off ≡ l
 subtract-same on off l c d n h =
     normal-unique (subtract on off) l (subtract-normal on off c d) n
     (λ t. let s = subtract-in t on off d in (λ i. h t .1 (s .0 i), λ i. s .1 (h t .0 i)))

@@ -11,7 +11,7 @@ use Rattle.model.specs.Blocks.{Block, merged, total}
 use Rattle.model.specs.Walk.{begun, timeFrom, listed}
 use Rattle.laws_blocks.specs.Count.{span}
 use Rattle.laws_blocks.specs.Lists.{Full, Lists, none, next, idle-lists}
-use Rattle.laws_blocks.specs.Members.{In, covers, NonEmpty, From, Sorted, Chain, Ends, from-weaken, merged-in, merged-chain, chain-weaken, normal-unique}
+use Rattle.laws_blocks.specs.Members.{InBlocks, covers, NonEmpty, From, Sorted, Chain, Ends, from-weaken, merged-in, merged-chain, chain-weaken, normal-unique}
 use Rattle.laws_blocks.specs.Left.{in-test, lists-in, chain-lists, chain-at}
 use Rattle.laws_blocks.specs.Turn.{lists-order, lists-append}
 use Rattle.laws_blocks.specs.Totals.{total-append, lists-total}
@@ -47,7 +47,7 @@ module _ (W : ℕ → Bool) where
   -- ---- blocks that touch made one
 
   module _ (lo hi : ℕ) (l : List Block) (r : Lists W lo hi l) where
-    merged-same : (t : ℕ) → In t (merged l) ↔ (((lo ≤ t) × (t < hi)) × (W t ≡ true))
+    merged-same : (t : ℕ) → InBlocks t (merged l) ↔ (((lo ≤ t) × (t < hi)) × (W t ≡ true))
     merged-same t =
         let a = merged-in t l (lists-sorted lo hi r) in
         let b = lists-in W lo hi r t in

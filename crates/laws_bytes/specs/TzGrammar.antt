@@ -7,7 +7,7 @@ use mathlib.Core.List.{List, [], _∷_, _++_}
 use Prim.Native.Nat.{ℕ, _+_, _*_, _-_, _≤_}
 use Prim.Native.Char.{code}
 use lib.ListN.{length}
-use Rattle.model.specs.Footer.{Day, month, julian, plain, Turn, Footer, empty, fixed, rules}
+use Rattle.model.specs.Footer.{Day, month, julian, plain, ChangeRule, Footer, empty, fixed, rules}
 
 -- ---- numbers
 
@@ -77,7 +77,7 @@ pub data Date : List ℕ → Day → Type 0 where
 
 -- "date[/time]". "The time has the same format as offset except that no leading sign (..) is allowed. The default, if time is not given, shall be
 -- 02:00:00."
-pub data Rule : List ℕ → Turn → Type 0 where
+pub data Rule : List ℕ → ChangeRule → Type 0 where
   untimed : {s : List ℕ} {d : Day} → Date s d → Rule s (record { day = d; time = 7200 })
   timed : {s t : List ℕ} {d : Day} {n : ℕ} → Date s d → Clock t n → Rule (s ++ code "/" ∷ t) (record { day = d; time = n })
 
@@ -95,5 +95,5 @@ pub data TzString : List ℕ → Footer → Type 0 where
   -- stdoffset
   standard : {a s : List ℕ} {std : ℕ} → Name a → Offset s std → TzString (a ++ s) (fixed std)
   -- stdoffsetdst[offset],start[/time],end[/time]
-  daylight : {a s b t x y : List ℕ} {std dst : ℕ} {start end : Turn} → Name a → Offset s std → Name b → Ahead std t dst → Rule x start → Rule y end →
+  daylight : {a s b t x y : List ℕ} {std dst : ℕ} {start end : ChangeRule} → Name a → Offset s std → Name b → Ahead std t dst → Rule x start → Rule y end →
       TzString (a ++ s ++ b ++ t ++ code "," ∷ x ++ code "," ∷ y) (rules std dst start end)

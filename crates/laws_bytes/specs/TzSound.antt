@@ -11,7 +11,7 @@ use lib.ListN.{length, length-append}
 use borrow.Author.Tests.{leb-true, eqb-true}
 use Rattle.model.specs.Basic.{isIn, all}
 use Rattle.model.specs.Footer as F
-use Rattle.model.specs.Footer.{Turn, Footer, fixed, rules, Parser, after, _>>=_, pure, only, has, byte, atEnd, isDigit, isLetter, spanned, digits, isNameByte, name, offset, clock, monthText, dayText, turnText, daylightText, footerText, parsed, footerOf}
+use Rattle.model.specs.Footer.{ChangeRule, Footer, fixed, rules, Parser, after, _>>=_, pure, only, has, byte, atEnd, isDigit, isLetter, spanned, digits, isNameByte, name, offset, clock, monthText, dayText, changeRuleText, daylightText, footerText, parsed, footerOf}
 use Rattle.laws_base.specs.Test.{by-test, by-either, or-true, clash, in-bounds, all-head}
 use Rattle.laws_bytes.specs.TzGrammar.{Decimal, more, Number, number, Sixty, sixty, Clock, hours, minutes, seconds, Letter, upper, lower, Quoted, letter, plus, minus, Word, three, longer, Name, bare, quoted, Offset, unsigned, west, east, Date, dateJ, dateN, dateM, Rule, untimed, timed, hour, written, TzString, standard, daylight}
 
@@ -252,8 +252,8 @@ day-read s =
     (λ r m. step (F.number 3 1 365 r) (number-read 2 1 365 r) (λ n w q e g. reads (74 ∷ w) q (m ∙ ap (λ (l : List ℕ). 74 ∷ l) e) (dateJ g)))
     (step (F.number 3 0 365 s) (number-read 2 0 365 s) (λ n w q e g. reads w q e (dateN g))))
 
-rule-read : (s : List ℕ) → Reads Rule s (turnText s)
-unfolding turnText
+rule-read : (s : List ℕ) → Reads Rule s (changeRuleText s)
+unfolding changeRuleText
 rule-read s =
     step (dayText s) (day-read s) (λ d w r e g.
     marked 47 r _
@@ -276,12 +276,12 @@ whole s f g = reads s [] (sym (append-nil s)) g
 
 -- both rules, behind u and a comma
 rules-read : (s u r : List ℕ) (std dst : ℕ) → s ≡ u ++ 44 ∷ r →
-    ((x y : List ℕ) (start end : Turn) → Rule x start → Rule y end → TzString (u ++ 44 ∷ x ++ 44 ∷ y) (rules std dst start end)) →
-    Reads (Whole s) s (after (turnText r) (λ start. byte 44 >>= λ _. turnText >>= λ end. atEnd >>= λ done. only done (rules std dst start end)))
+    ((x y : List ℕ) (start end : ChangeRule) → Rule x start → Rule y end → TzString (u ++ 44 ∷ x ++ 44 ∷ y) (rules std dst start end)) →
+    Reads (Whole s) s (after (changeRuleText r) (λ start. byte 44 >>= λ _. changeRuleText >>= λ end. atEnd >>= λ done. only done (rules std dst start end)))
 rules-read s u r std dst e k =
-    step (turnText r) (rule-read r) (λ start x q f g.
+    step (changeRuleText r) (rule-read r) (λ start x q f g.
     needs 44 q _ (λ p m.
-    step (turnText p) (rule-read p) (λ end y t i h.
+    step (changeRuleText p) (rule-read p) (λ end y t i h.
     at-end t _
     (λ z.
     let j : s ≡ u ++ 44 ∷ x ++ 44 ∷ y ++ t = join-by 44 (u ++ 44 ∷ x) y t (join-by 44 u x q e refl f) m i in

@@ -14,11 +14,11 @@ use Rattle.model.specs.Answer.{Answer, gives, refuses}
 use Rattle.model.specs.Instant.{week, lastInstant}
 use Rattle.model.specs.Blocks.{Block, block, merged, mergedFrom}
 use Rattle.model.specs.Working.{Schedule, working}
-use Rattle.model.specs.Walk.{Way, on, reach, onward, ahead, begun, listed, stretches, Hunt, nothing, growing, ended, tooFar, hunt, huntFrom, capped, period}
+use Rattle.model.specs.Walk.{Way, on, reach, onward, ahead, begun, listed, stretches, PeriodSoFar, nothing, growing, ended, tooFar, periodIn, periodFrom, capped, period}
 use Rattle.laws_base.specs.Test.{by-test, clash}
 use Rattle.laws_blocks.specs.Lists.{Lists, none, next}
 use Rattle.laws_blocks.specs.Stretches.{begun-enough}
-use Rattle.laws_skip.specs.Edges.{Inside, lists-inside}
+use Rattle.laws_skip.specs.WindowEnds.{Inside, lists-inside}
 use Rattle.laws_skip.specs.Schedules.{ahead-inside}
 use Rattle.laws_listing.specs.Listing.{listedAt, windows-list}
 
@@ -49,24 +49,24 @@ unfolding grown
 grown-apart lo hi e [] i h = refl
 grown-apart lo hi e (b ∷ l) i h = rw (ne-eqb (b .start) e (λ z. omega arith))
 
--- ---- `hunt` in a window, with what is behind it
+-- ---- `periodIn` in a window, with what is behind it
 
 -- whether the period may go on in the next window
 unfoldable touches : ℕ → List Block → Bool
 touches e [] = true
 touches e (b ∷ l) = let r = touches (b .end) l in if eqb (b .start) e then r else false
 
-hunt-grows : (limit f e : ℕ) (l : List Block) → touches e l ≡ true → hunt limit (growing f e) l ≡ growing f (grown e l)
-unfolding hunt grown touches
-hunt-grows limit f e [] t = refl
-hunt-grows limit f e (b ∷ l) t =
-    by-test (eqb (b .start) e) (λ q. rw q (hunt-grows limit f (b .end) l (rw q at t))) (λ q. clash false (rw q at t) refl)
+period-in-grows : (limit f e : ℕ) (l : List Block) → touches e l ≡ true → periodIn limit (growing f e) l ≡ growing f (grown e l)
+unfolding periodIn grown touches
+period-in-grows limit f e [] t = refl
+period-in-grows limit f e (b ∷ l) t =
+    by-test (eqb (b .start) e) (λ q. rw q (period-in-grows limit f (b .end) l (rw q at t))) (λ q. clash false (rw q at t) refl)
 
-hunt-ends : (limit f e : ℕ) (l : List Block) → touches e l ≡ false → hunt limit (growing f e) l ≡ ended f (grown e l)
-unfolding hunt grown touches
-hunt-ends limit f e [] t = clash true refl t
-hunt-ends limit f e (b ∷ l) t =
-    by-test (eqb (b .start) e) (λ q. rw q (hunt-ends limit f (b .end) l (rw q at t))) (λ q. rw q)
+period-in-ends : (limit f e : ℕ) (l : List Block) → touches e l ≡ false → periodIn limit (growing f e) l ≡ ended f (grown e l)
+unfolding periodIn grown touches
+period-in-ends limit f e [] t = clash true refl t
+period-in-ends limit f e (b ∷ l) t =
+    by-test (eqb (b .start) e) (λ q. rw q (period-in-ends limit f (b .end) l (rw q at t))) (λ q. rw q)
 
 grown-on : (e : ℕ) (l m : List Block) → touches e l ≡ true → grown e (l ++ m) ≡ grown (grown e l) m
 unfolding grown touches
@@ -81,17 +81,17 @@ grown-stays e (b ∷ l) m t =
     by-test (eqb (b .start) e) (λ q. rw q (grown-stays (b .end) l m (rw q at t))) (λ q. rw q)
 
 -- from no period
-hunt-none : (limit : ℕ) {l : List Block} → l ≡ [] → hunt limit nothing l ≡ nothing
-unfolding hunt
-hunt-none limit q = rw q
+period-in-none : (limit : ℕ) {l : List Block} → l ≡ [] → periodIn limit nothing l ≡ nothing
+unfolding periodIn
+period-in-none limit q = rw q
 
-hunt-far : (limit : ℕ) {b : Block} {l m : List Block} → m ≡ b ∷ l → ltb limit (b .start) ≡ true → hunt limit nothing m ≡ tooFar
-unfolding hunt
-hunt-far limit q t = rw (q, t)
+period-in-far : (limit : ℕ) {b : Block} {l m : List Block} → m ≡ b ∷ l → ltb limit (b .start) ≡ true → periodIn limit nothing m ≡ tooFar
+unfolding periodIn
+period-in-far limit q t = rw (q, t)
 
-hunt-first : (limit : ℕ) {b : Block} {l m : List Block} → m ≡ b ∷ l → ltb limit (b .start) ≡ false → hunt limit nothing m ≡ hunt limit (growing (b .start) (b .end)) l
-unfolding hunt
-hunt-first limit q t = rw (q, t)
+period-in-first : (limit : ℕ) {b : Block} {l m : List Block} → m ≡ b ∷ l → ltb limit (b .start) ≡ false → periodIn limit nothing m ≡ periodIn limit (growing (b .start) (b .end)) l
+unfolding periodIn
+period-in-first limit q t = rw (q, t)
 
 -- ---- the walk, for any windows whose blocks lie in them
 
@@ -120,12 +120,12 @@ unfolding nearestOf
 nearest-near limit end b l t = rw t
 
 -- with no windows left
-at-end : (look : ℕ → ℕ → List Block) (limit end x f e : ℕ) → huntFrom 0 look limit end x (growing f e) ≡ gives (capped limit f (grown e []))
-unfolding huntFrom grown
+at-end : (look : ℕ → ℕ → List Block) (limit end x f e : ℕ) → periodFrom 0 look limit end x (growing f e) ≡ gives (capped limit f (grown e []))
+unfolding periodFrom grown
 at-end look limit end x f e = refl
 
-none-left : (look : ℕ → ℕ → List Block) (limit end x : ℕ) → end ≤ limit → huntFrom 0 look limit end x nothing ≡ nearestOf limit end []
-unfolding huntFrom nearestOf
+none-left : (look : ℕ → ℕ → List Block) (limit end x : ℕ) → end ≤ limit → periodFrom 0 look limit end x nothing ≡ nearestOf limit end []
+unfolding periodFrom nearestOf
 none-left look limit end x h = rw (le-ltb limit end h)
 
 cut-same : (limit f e g : ℕ) → limit ≤ e - f → f ≤ e → e ≤ g → capped limit f e ≡ capped limit f g
@@ -139,35 +139,35 @@ module _ (look : ℕ → ℕ → List Block) (limit end : ℕ) (inside : (x y : 
       inside-both x (min (x + week) end) end (look x (min (x + week) end)) (listed n look (min (x + week) end) end) (omega arith) (omega arith)
       (inside x (min (x + week) end) (omega arith) (omega arith)) (listed-inside n (min (x + week) end) (omega arith))
 
-  module _ (n x y : ℕ) (p : min (x + week) end ≡ y) (h : Hunt) where
-    one-ends : (f e : ℕ) → hunt limit h (look x y) ≡ ended f e → huntFrom (suc n) look limit end x h ≡ gives (capped limit f e)
-    unfolding huntFrom
-    one-ends f e q = rw (p, q, huntFrom)
+  module _ (n x y : ℕ) (p : min (x + week) end ≡ y) (h : PeriodSoFar) where
+    one-ends : (f e : ℕ) → periodIn limit h (look x y) ≡ ended f e → periodFrom (suc n) look limit end x h ≡ gives (capped limit f e)
+    unfolding periodFrom
+    one-ends f e q = rw (p, q, periodFrom)
 
-    one-goes : (f e : ℕ) → hunt limit h (look x y) ≡ growing f e → (ltb e y || leb limit (e - f)) ≡ false → huntFrom (suc n) look limit end x h ≡ huntFrom n look limit end y (growing f e)
-    unfolding huntFrom
-    one-goes f e q t = rw (p, q, p, t, huntFrom)
+    one-goes : (f e : ℕ) → periodIn limit h (look x y) ≡ growing f e → (ltb e y || leb limit (e - f)) ≡ false → periodFrom (suc n) look limit end x h ≡ periodFrom n look limit end y (growing f e)
+    unfolding periodFrom
+    one-goes f e q t = rw (p, q, p, t, periodFrom)
 
-    one-whole : (f e : ℕ) → hunt limit h (look x y) ≡ growing f e → (ltb e y || leb limit (e - f)) ≡ true → huntFrom (suc n) look limit end x h ≡ gives (capped limit f e)
-    unfolding huntFrom
-    one-whole f e q t = rw (p, q, p, t, huntFrom)
+    one-whole : (f e : ℕ) → periodIn limit h (look x y) ≡ growing f e → (ltb e y || leb limit (e - f)) ≡ true → periodFrom (suc n) look limit end x h ≡ gives (capped limit f e)
+    unfolding periodFrom
+    one-whole f e q t = rw (p, q, p, t, periodFrom)
 
-    one-far : hunt limit h (look x y) ≡ tooFar → huntFrom (suc n) look limit end x h ≡ refuses 6 0
-    unfolding huntFrom
-    one-far q = rw (p, q, huntFrom)
+    one-far : periodIn limit h (look x y) ≡ tooFar → periodFrom (suc n) look limit end x h ≡ refuses 6 0
+    unfolding periodFrom
+    one-far q = rw (p, q, periodFrom)
 
-    one-none : hunt limit h (look x y) ≡ nothing → ltb limit y ≡ true → huntFrom (suc n) look limit end x h ≡ refuses 6 0
-    unfolding huntFrom
-    one-none q t = rw (p, q, p, t, huntFrom)
+    one-none : periodIn limit h (look x y) ≡ nothing → ltb limit y ≡ true → periodFrom (suc n) look limit end x h ≡ refuses 6 0
+    unfolding periodFrom
+    one-none q t = rw (p, q, p, t, periodFrom)
 
-    one-nothing : hunt limit h (look x y) ≡ nothing → ltb limit y ≡ false → huntFrom (suc n) look limit end x h ≡ huntFrom n look limit end y nothing
-    unfolding huntFrom
-    one-nothing q t = rw (p, q, p, t, huntFrom)
+    one-nothing : periodIn limit h (look x y) ≡ nothing → ltb limit y ≡ false → periodFrom (suc n) look limit end x h ≡ periodFrom n look limit end y nothing
+    unfolding periodFrom
+    one-nothing q t = rw (p, q, p, t, periodFrom)
 
     -- a period that may go on in the windows behind
-    grows-on : (f e : ℕ) → y ≤ end → f ≤ e → e ≤ y → hunt limit h (look x y) ≡ growing f e
-        → huntFrom n look limit end y (growing f e) ≡ gives (capped limit f (grown e (listed n look y end)))
-        → huntFrom (suc n) look limit end x h ≡ gives (capped limit f (grown e (listed n look y end)))
+    grows-on : (f e : ℕ) → y ≤ end → f ≤ e → e ≤ y → periodIn limit h (look x y) ≡ growing f e
+        → periodFrom n look limit end y (growing f e) ≡ gives (capped limit f (grown e (listed n look y end)))
+        → periodFrom (suc n) look limit end x h ≡ gives (capped limit f (grown e (listed n look y end)))
     grows-on f e k o u q rec =
         by-test (ltb e y)
         (λ t. one-whole f e q (rw t) ∙ ap (λ z. gives (capped limit f z)) (sym (grown-apart y end e (listed n look y end) (listed-inside n y k) (ltb-true e y t))))
@@ -177,48 +177,48 @@ module _ (look : ℕ → ℕ → List Block) (limit end : ℕ) (inside : (x y : 
         (λ r. one-goes f e q (rw (t, r)) ∙ rec))
 
     -- the same from the blocks of this window
-    grows-in : (f e : ℕ) (l : List Block) → x ≤ y → y ≤ end → f ≤ e → e ≤ y → Inside x y l → hunt limit h (look x y) ≡ hunt limit (growing f e) l
-        → ((g : ℕ) → f ≤ g → g ≤ y → huntFrom n look limit end y (growing f g) ≡ gives (capped limit f (grown g (listed n look y end))))
-        → huntFrom (suc n) look limit end x h ≡ gives (capped limit f (grown e (l ++ listed n look y end)))
+    grows-in : (f e : ℕ) (l : List Block) → x ≤ y → y ≤ end → f ≤ e → e ≤ y → Inside x y l → periodIn limit h (look x y) ≡ periodIn limit (growing f e) l
+        → ((g : ℕ) → f ≤ g → g ≤ y → periodFrom n look limit end y (growing f g) ≡ gives (capped limit f (grown g (listed n look y end))))
+        → periodFrom (suc n) look limit end x h ≡ gives (capped limit f (grown e (l ++ listed n look y end)))
     grows-in f e l j k o u i q rec =
         let a = grown-more x y e l i in
         let b = grown-most x y e l i u in
         by-test (touches e l)
-        (λ t. rw (grown-on e l (listed n look y end) t) (grows-on f (grown e l) k (omega arith) b (q ∙ hunt-grows limit f e l t) (rec (grown e l) (omega arith) b)))
-        (λ t. rw (grown-stays e l (listed n look y end) t) (one-ends f (grown e l) (q ∙ hunt-ends limit f e l t)))
+        (λ t. rw (grown-on e l (listed n look y end) t) (grows-on f (grown e l) k (omega arith) b (q ∙ period-in-grows limit f e l t) (rec (grown e l) (omega arith) b)))
+        (λ t. rw (grown-stays e l (listed n look y end) t) (one-ends f (grown e l) (q ∙ period-in-ends limit f e l t)))
 
   -- a walk with a period so far
-  growing-is : (n x f e : ℕ) → x ≤ end → f ≤ e → e ≤ x → huntFrom n look limit end x (growing f e) ≡ gives (capped limit f (grown e (listed n look x end)))
+  growing-is : (n x f e : ℕ) → x ≤ end → f ≤ e → e ≤ x → periodFrom n look limit end x (growing f e) ≡ gives (capped limit f (grown e (listed n look x end)))
   unfolding listed
   growing-is zero x f e h k o = zero-is
     where
-      zero-is : huntFrom 0 look limit end x (growing f e) ≡ gives (capped limit f (grown e []))
+      zero-is : periodFrom 0 look limit end x (growing f e) ≡ gives (capped limit f (grown e []))
       zero-is = at-end look limit end x f e
   growing-is (suc n) x f e h k o =
       grows-in n x (min (x + week) end) refl (growing f e) f e (look x (min (x + week) end)) (omega arith) (omega arith) k (omega arith)
       (inside x (min (x + week) end) (omega arith) (omega arith)) refl (λ g a b. growing-is n (min (x + week) end) f g (omega arith) a b)
 
   -- a walk with none
-  nothing-is : (n x : ℕ) → x ≤ end → end ≤ x + n * week → x ≤ limit → huntFrom n look limit end x nothing ≡ nearestOf limit end (listed n look x end)
+  nothing-is : (n x : ℕ) → x ≤ end → end ≤ x + n * week → x ≤ limit → periodFrom n look limit end x nothing ≡ nearestOf limit end (listed n look x end)
   unfolding listed
   nothing-is zero x h k o = none-left look limit end x (omega arith)
   nothing-is (suc n) x h k o =
       go (look x (min (x + week) end)) refl (inside x (min (x + week) end) (omega arith) (omega arith)) (λ a. nothing-is n (min (x + week) end) (omega arith) (omega arith) a)
     where
       go : (l : List Block) → look x (min (x + week) end) ≡ l → Inside x (min (x + week) end) l
-          → (min (x + week) end ≤ limit → huntFrom n look limit end (min (x + week) end) nothing ≡ nearestOf limit end (listed n look (min (x + week) end) end))
-          → huntFrom (suc n) look limit end x nothing ≡ nearestOf limit end (look x (min (x + week) end) ++ listed n look (min (x + week) end) end)
+          → (min (x + week) end ≤ limit → periodFrom n look limit end (min (x + week) end) nothing ≡ nearestOf limit end (listed n look (min (x + week) end) end))
+          → periodFrom (suc n) look limit end x nothing ≡ nearestOf limit end (look x (min (x + week) end) ++ listed n look (min (x + week) end) end)
       go [] q i rec =
           rw q
           (by-test (ltb limit (min (x + week) end))
-          (λ t. one-none n x (min (x + week) end) refl nothing (hunt-none limit q) t ∙ sym (far-off limit (min (x + week) end) end (listed n look (min (x + week) end) end) (ltb-true limit (min (x + week) end) t) (omega arith) (listed-inside n (min (x + week) end) (omega arith))))
-          (λ t. one-nothing n x (min (x + week) end) refl nothing (hunt-none limit q) t ∙ rec (ltb-false limit (min (x + week) end) t)))
+          (λ t. one-none n x (min (x + week) end) refl nothing (period-in-none limit q) t ∙ sym (far-off limit (min (x + week) end) end (listed n look (min (x + week) end) end) (ltb-true limit (min (x + week) end) t) (omega arith) (listed-inside n (min (x + week) end) (omega arith))))
+          (λ t. one-nothing n x (min (x + week) end) refl nothing (period-in-none limit q) t ∙ rec (ltb-false limit (min (x + week) end) t)))
       go (b ∷ l) q i rec =
           rw q
           (by-test (ltb limit (b .start))
-          (λ t. one-far n x (min (x + week) end) refl nothing (hunt-far limit q t) ∙ sym (nearest-far limit end b (l ++ listed n look (min (x + week) end) end) t))
+          (λ t. one-far n x (min (x + week) end) refl nothing (period-in-far limit q t) ∙ sym (nearest-far limit end b (l ++ listed n look (min (x + week) end) end) t))
           (λ t.
-          grows-in n x (min (x + week) end) refl nothing (b .start) (b .end) l (omega arith) (omega arith) (omega arith) (i .2) (i .3) (hunt-first limit q t)
+          grows-in n x (min (x + week) end) refl nothing (b .start) (b .end) l (omega arith) (omega arith) (omega arith) (i .2) (i .3) (period-in-first limit q t)
           (λ g a c. growing-is n (min (x + week) end) (b .start) g (omega arith) a c)
           ∙ sym (nearest-near limit end b (l ++ listed n look (min (x + week) end) end) t)))
 

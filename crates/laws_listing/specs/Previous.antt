@@ -29,11 +29,11 @@ use Rattle.laws_blocks.specs.Members.{halves, covers, From, Chain, Ends, chain-
 use Rattle.laws_blocks.specs.Left.{lists-in}
 use Rattle.laws_blocks.specs.Turn.{behind, backward-lists}
 use Rattle.laws_blocks.specs.Stretches.{Maximal, lists-covers, merged-stretches, stretches-unique, listed-none, listed-more, listed-lists}
-use Rattle.laws.specs.Zones.{Each, WithinDay, zonesOf}
-use Rattle.laws.specs.Windows.{RuleOk, NearRule, OfRules, works, window-lists}
-use Rattle.laws.specs.Built.{built, near-rules}
-use Rattle.laws.specs.Demand.{since}
-use Rattle.laws_skip.specs.Edges.{backward-none, backward-cons}
+use Rattle.laws_demand3.specs.Zones.{Each, WithinDay, zonesOf}
+use Rattle.laws_demand3.specs.Windows.{RuleOk, NearRule, OfRules, works, window-lists}
+use Rattle.laws_demand3.specs.Built.{built, near-rules}
+use Rattle.laws_demand3.specs.Demand.{since}
+use Rattle.laws_skip.specs.WindowEnds.{backward-none, backward-cons}
 use Rattle.laws_skip.specs.Schedules.{working-lists}
 use Rattle.laws_listing.specs.Listing.{lists-as, in-first, in-second, both-lists}
 use Rattle.laws_listing.specs.Nearest.{nearestOf, firstStretch, first-nearest, period-nearest}

@@ -21,9 +21,9 @@ use Rattle.model.specs.Build.{defaultZone, zoneUsed, noRules, withRule, rulesOf
 use Rattle.laws_base.specs.Test.{and-both}
 use Rattle.laws_blocks.specs.Move.{moves}
 use Rattle.laws_zone.specs.Sound.{Sound}
-use Rattle.laws.specs.Zones.{Each}
-use Rattle.laws.specs.Windows.{RuleOk, OfRules, offRules}
-use Rattle.laws.specs.Built.{HoursOk, BodyOk, EntryOk, entries-fit, default-is, zone-is}
+use Rattle.laws_demand3.specs.Zones.{Each}
+use Rattle.laws_demand3.specs.Windows.{RuleOk, OfRules, offRules}
+use Rattle.laws_demand3.specs.Built.{HoursOk, BodyOk, EntryOk, entries-fit, default-is, zone-is}
 use Rattle.laws_skip.specs.Steady.{WeeklyRules, shift-weekly, repeats-week, each-both}
 use Rattle.laws_skip.specs.Records.{step-gave, or-gave, test-gave}
 use Rattle.laws_skip.specs.Counts.{Few, work-seven, off-seven, working-seven}

@@ -16,10 +16,10 @@ use Rattle.model.specs.Working.{Rule, Schedule, holidayRule, localDay, firstDat
 use Rattle.laws_base.specs.Test.{by-test}
 use Rattle.laws_zone.specs.Sound.{Sound}
 use Rattle.laws_blocks.specs.Count672.{left-length}
-use Rattle.laws.specs.Zones.{Each}
-use Rattle.laws.specs.Windows.{RuleOk, OfRules, offRules, all-nonempty}
+use Rattle.laws_demand3.specs.Zones.{Each}
+use Rattle.laws_demand3.specs.Windows.{RuleOk, OfRules, offRules, all-nonempty}
 use Rattle.laws_skip.specs.Steady.{each-apart}
-use Rattle.laws.specs.Local.{off-low, off-high, day-is, first-near, last-near}
+use Rattle.laws_demand3.specs.Local.{off-low, off-high, day-is, first-near, last-near}
 
 -- ---- dates
 

@@ -1,5 +1,5 @@
 pub mod Steady
-pub mod Edges
+pub mod WindowEnds
 pub mod Skips
 pub mod Schedules
 pub mod Loops

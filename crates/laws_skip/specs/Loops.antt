@@ -14,8 +14,8 @@ use Rattle.model.specs.Basic.{given}
 use Rattle.model.specs.Instant.{week}
 use Rattle.model.specs.Answer.{Answer, gives, refuses}
 use Rattle.model.specs.Blocks.{Block, total}
-use Rattle.model.specs.Walk.{begun, found, gap, left, spend}
-use Rattle.laws_skip.specs.Skips.{Kept, fresh, known, keep, maySkip, stops, goes, resolved, turn, Counted, counted, skipFrom, skipIn, Summed, summed, mayReuse, skipTime}
+use Rattle.model.specs.Walk.{begun, found, gap, left, searchBlocks}
+use Rattle.laws_skip.specs.Skips.{Previous, fresh, known, keep, maySkip, stops, goes, resolved, turn, Counted, counted, skipFrom, skipIn, Summed, summed, mayReuse, skipTime}
 
 -- ---- between
 
@@ -87,7 +87,7 @@ module _ (work : ℕ → ℕ → List Block) (rep : ℕ → Bool) where
 -- ---- a search
 
 -- from the distance x to the range's end
-unfoldable pub searchRest : (ℕ → ℕ → List Block) → (ℕ → Bool) → ℕ → ℕ → ℕ → ℕ → ℕ → Kept → Counted
+unfoldable pub searchRest : (ℕ → ℕ → List Block) → (ℕ → Bool) → ℕ → ℕ → ℕ → ℕ → ℕ → Previous → Counted
 searchRest look rep limit end x last d prev = skipFrom (begun (end - x)) look rep limit end x last d prev
 
 -- with windows resolved before it
@@ -98,7 +98,7 @@ more-none : (r : Counted) → more 0 r ≡ r
 more-none r = let q : 0 + r .count ≡ r .count = omega arith in λ i. record { answer = r .answer; count = q i }
 
 module _ (look : ℕ → ℕ → List Block) (rep : ℕ → Bool) (limit end : ℕ) where
-  pub search-done : (x last d : ℕ) (prev : Kept) → end ≤ x → searchRest look rep limit end x last d prev ≡ counted (refuses 7 0) 0
+  pub search-done : (x last d : ℕ) (prev : Previous) → end ≤ x → searchRest look rep limit end x last d prev ≡ counted (refuses 7 0) 0
   unfolding searchRest skipFrom
   search-done x last d prev h = let e : begun (end - x) ≡ 0 = omega arith in rw e
 
@@ -106,27 +106,27 @@ module _ (look : ℕ → ℕ → List Block) (rep : ℕ → Bool) (limit end : �
   unfolding searchRest skipIn
   search-start d h = let e : end - 0 ≡ end = omega arith in rw (e, ne-eqb d 0 (λ f. omega arith))
 
-  pub search-stops : (x last d : ℕ) (prev : Kept) (a : Answer ℕ) → x < end → turn look rep limit x (min (x + week) end) last d prev ≡ stops a
+  pub search-stops : (x last d : ℕ) (prev : Previous) (a : Answer ℕ) → x < end → turn look rep limit x (min (x + week) end) last d prev ≡ stops a
       → searchRest look rep limit end x last d prev ≡ counted a 1
   unfolding searchRest skipFrom
   search-stops x last d prev a h e = rw (begun-less x end h, e, skipFrom)
 
-  pub search-goes : (x last d c m e : ℕ) (prev p : Kept) → x < end → turn look rep limit x (min (x + week) end) last d prev ≡ goes c m e p
+  pub search-goes : (x last d c m e : ℕ) (prev p : Previous) → x < end → turn look rep limit x (min (x + week) end) last d prev ≡ goes c m e p
       → searchRest look rep limit end x last d prev ≡ more c (searchRest look rep limit end (min (x + week) end) m e p)
   unfolding searchRest skipFrom
   search-goes x last d c m e prev p h f = rw (begun-less x end h, f, skipFrom)
 
-  -- a window that is resolved: what `spend` makes of its blocks
-  module _ (x last d : ℕ) (prev : Kept) (h : x < end) (no-skip : maySkip prev d (eqb (min (x + week) end - x) week && rep x) ≡ false) where
-    pub search-finds : (z : ℕ) → spend limit (min (x + week) end) last d (look x (min (x + week) end)) ≡ found z → searchRest look rep limit end x last d prev ≡ counted (gives z) 1
+  -- a window that is resolved: what `searchBlocks` makes of its blocks
+  module _ (x last d : ℕ) (prev : Previous) (h : x < end) (no-skip : maySkip prev d (eqb (min (x + week) end - x) week && rep x) ≡ false) where
+    pub search-finds : (z : ℕ) → searchBlocks limit (min (x + week) end) last d (look x (min (x + week) end)) ≡ found z → searchRest look rep limit end x last d prev ≡ counted (gives z) 1
     unfolding turn resolved
     search-finds z e = search-stops x last d prev (gives z) h (rw (no-skip, e, resolved))
 
-    pub search-gap : spend limit (min (x + week) end) last d (look x (min (x + week) end)) ≡ gap → searchRest look rep limit end x last d prev ≡ counted (refuses 6 0) 1
+    pub search-gap : searchBlocks limit (min (x + week) end) last d (look x (min (x + week) end)) ≡ gap → searchRest look rep limit end x last d prev ≡ counted (refuses 6 0) 1
     unfolding turn resolved
     search-gap e = search-stops x last d prev (refuses 6 0) h (rw (no-skip, e, resolved))
 
-    pub search-left : (e m : ℕ) → spend limit (min (x + week) end) last d (look x (min (x + week) end)) ≡ left e m
+    pub search-left : (e m : ℕ) → searchBlocks limit (min (x + week) end) last d (look x (min (x + week) end)) ≡ left e m
         → searchRest look rep limit end x last d prev
         ≡ more 1 (searchRest look rep limit end (min (x + week) end) m e
         (keep (eqb (min (x + week) end - x) week && ltb 0 (total (look x (min (x + week) end)))) (total (look x (min (x + week) end))) (min (x + week) end - m)))

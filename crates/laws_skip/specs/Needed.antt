@@ -20,7 +20,7 @@ use Rattle.model.specs.Skip.{repeats, neededFrom, anyTime, someTime, neededBetw
 use Rattle.laws_base.specs.Test.{by-test}
 use Rattle.laws_blocks.specs.Totals.{total-append}
 use Rattle.laws_blocks.specs.Stretches.{listed-more, time-listed}
-use Rattle.laws_skip.specs.Edges.{Inside, onward-total, backward-none, backward-cons}
+use Rattle.laws_skip.specs.WindowEnds.{Inside, onward-total, backward-none, backward-cons}
 use Rattle.laws_skip.specs.Schedules.{working-inside}
 
 -- of n windows, how many may not be skipped

@@ -16,9 +16,9 @@ use Rattle.model.specs.Skip.{ruleSteady, noneNear, repeats}
 use Rattle.laws_base.specs.Test.{by-test, and-both, both-and, clash, not-true, true-not, all-head}
 use Rattle.laws_zone.specs.Changes.{any-none, none-any, same-steady}
 use Rattle.laws_zone.specs.Sound.{Sound}
-use Rattle.laws.specs.Zones.{Each}
-use Rattle.laws.specs.Windows.{RuleOk, OfRules}
-use Rattle.laws.specs.Local.{off-low, off-high, day-is, first-near, first-upto, last-near, last-from}
+use Rattle.laws_demand3.specs.Zones.{Each}
+use Rattle.laws_demand3.specs.Windows.{RuleOk, OfRules}
+use Rattle.laws_demand3.specs.Local.{off-low, off-high, day-is, first-near, first-upto, last-near, last-from}
 use Rattle.laws_skip.specs.Steady.{each-apart, each-both}
 
 -- the borders from t to u, whole weeks apart

@@ -15,9 +15,9 @@ use Rattle.laws_blocks.specs.Members.{covers}
 use Rattle.laws_blocks.specs.Left.{left-chain, chain-lists}
 use Rattle.laws_blocks.specs.Move.{moves}
 use Rattle.laws_blocks.specs.Turn.{after, behind, onward-lists, backward-lists}
-use Rattle.laws.specs.Windows.{RuleOk, OfRules, offRules, all-in, all-nonempty}
+use Rattle.laws_demand3.specs.Windows.{RuleOk, OfRules, offRules, all-in, all-nonempty}
 use Rattle.laws_skip.specs.Steady.{WeeklyRules, repeats-week}
-use Rattle.laws_skip.specs.Edges.{Inside, lists-inside, onward-moved, backward-moved}
+use Rattle.laws_skip.specs.WindowEnds.{Inside, lists-inside, onward-moved, backward-moved}
 use Rattle.laws_skip.specs.Skips.{skipIn, skipTime, Answers, skip-in, time-skips, count-exact, needed-most}
 
 -- ---- the blocks of a window, whatever the rules

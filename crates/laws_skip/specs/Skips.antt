@@ -14,33 +14,33 @@ use mathlib.Core.Option.{Option, none, some}
 use Rattle.model.specs.Instant.{week}
 use Rattle.model.specs.Answer.{Answer, gives, refuses}
 use Rattle.model.specs.Blocks.{Block, total}
-use Rattle.model.specs.Walk.{begun, timeFrom, Step, found, gap, left, spend, searchFrom, searchIn}
+use Rattle.model.specs.Walk.{begun, timeFrom, Step, found, gap, left, searchBlocks, searchFrom, searchIn}
 use Rattle.model.specs.Skip.{neededFrom, anyTime, someTime}
 use Rattle.laws_base.specs.Test.{by-test, and-both, clash}
 use Rattle.laws_blocks.specs.Move.{moves, total-moved}
-use Rattle.laws_skip.specs.Edges.{Inside, lastEnd, end-any, end-inside, end-moved, spend-all, Spent, is-found, is-gap, is-left, spend-means}
+use Rattle.laws_skip.specs.WindowEnds.{Inside, lastEnd, end-any, end-inside, end-moved, search-blocks-all, Spent, is-found, is-gap, is-left, search-blocks-means}
 
 -- ---- a search
 
 -- of the window before, where it is whole and has working time: that time, and the distance from the end of its last block to the window's end
-pub data Kept : Type 0 where
-  fresh : Kept
-  known : ℕ → ℕ → Kept
+pub data Previous : Type 0 where
+  fresh : Previous
+  known : ℕ → ℕ → Previous
 
-abbrev pub timeIn : Kept → ℕ
+abbrev pub timeIn : Previous → ℕ
 timeIn fresh = 0
 timeIn (known k g) = k
 
-abbrev pub edgeIn : Kept → ℕ
+abbrev pub edgeIn : Previous → ℕ
 edgeIn fresh = 0
 edgeIn (known k g) = g
 
-abbrev pub keep : Bool → ℕ → ℕ → Kept
+abbrev pub keep : Bool → ℕ → ℕ → Previous
 keep true k g = known k g
 keep false k g = fresh
 
 -- "`add` and `sub` skip only if that time is positive and less than what is left"; the test says that the window is whole and repeats the last
-abbrev pub maySkip : Kept → ℕ → Bool → Bool
+abbrev pub maySkip : Previous → ℕ → Bool → Bool
 maySkip fresh d test = false
 maySkip (known k g) d test = ltb k d && test
 
@@ -48,18 +48,18 @@ maySkip (known k g) d test = ltb k d && test
 -- kept of the window
 pub data Turn : Type 0 where
   stops : Answer ℕ → Turn
-  goes : ℕ → ℕ → ℕ → Kept → Turn
+  goes : ℕ → ℕ → ℕ → Previous → Turn
 
 -- with the window [x, y) resolved, whose blocks are l
 unfoldable pub resolved : ℕ → ℕ → ℕ → ℕ → ℕ → List Block → Turn
 resolved limit x y last d l =
-    elim (spend limit y last d l) [
+    elim (searchBlocks limit y last d l) [
       | found z ↦ stops (gives z)
       | gap ↦ stops (refuses 6 0)
       | left e m ↦ goes 1 m e (keep (eqb (y - x) week && ltb 0 (total l)) (total l) (y - m))
     ]
 
-unfoldable pub turn : (ℕ → ℕ → List Block) → (ℕ → Bool) → ℕ → ℕ → ℕ → ℕ → ℕ → Kept → Turn
+unfoldable pub turn : (ℕ → ℕ → List Block) → (ℕ → Bool) → ℕ → ℕ → ℕ → ℕ → ℕ → Previous → Turn
 turn look rep limit x y last d prev =
     let r = resolved limit x y last d (look x y) in
     if maySkip prev d (eqb (y - x) week && rep x) then goes 0 (y - edgeIn prev) (d - timeIn prev) prev else r
@@ -73,7 +73,7 @@ abbrev pub counted : Answer ℕ → ℕ → Counted
 counted a c = record { answer = a; count = c }
 
 -- n windows from the distance x on, in a range that ends at `end`
-unfoldable pub skipFrom : ℕ → (ℕ → ℕ → List Block) → (ℕ → Bool) → ℕ → ℕ → ℕ → ℕ → ℕ → Kept → Counted
+unfoldable pub skipFrom : ℕ → (ℕ → ℕ → List Block) → (ℕ → Bool) → ℕ → ℕ → ℕ → ℕ → ℕ → Previous → Counted
 skipFrom zero look rep limit end x last d prev = counted (refuses 7 0) 0
 skipFrom (suc n) look rep limit end x last d prev =
     let y = min (x + week) end in
@@ -119,7 +119,7 @@ pub record KeptWeek (look : ℕ → ℕ → List Block) (x last k g : ℕ) : Typ
   pub behind : x ≤ last + week
 
 -- `time` is that of the window before
-abbrev pub Holding : (ℕ → ℕ → List Block) → ℕ → ℕ → ℕ → ℕ → Kept → Type 0
+abbrev pub Holding : (ℕ → ℕ → List Block) → ℕ → ℕ → ℕ → ℕ → Previous → Type 0
 Holding look end x last time fresh = (x ≡ 0) ⊎ ((time ≡ 0) ⊎ (end ≤ x))
 Holding look end x last time (known k g) = (time ≡ k) × KeptWeek look x last k g
 
@@ -127,7 +127,7 @@ Holding look end x last time (known k g) = (time ≡ k) × KeptWeek look x last 
 pub data Same (look : ℕ → ℕ → List Block) (rep : ℕ → Bool) (end x y time d : ℕ) : Turn → Step → Type 0 where
   same-found : {z : ℕ} → x < z → z ≤ y → needs someTime rep x y time d ≡ 1 → Same look rep end x y time d (stops (gives z)) (found z)
   same-gap : Same look rep end x y time d (stops (refuses 6 0)) gap
-  same-left : {c m e : ℕ} {p : Kept} → c ≡ needs someTime rep x y time d → e ≡ d - total (look x y) → 0 < e → Holding look end y m (total (look x y)) p
+  same-left : {c m e : ℕ} {p : Previous} → c ≡ needs someTime rep x y time d → e ≡ d - total (look x y) → 0 < e → Holding look end y m (total (look x y)) p
       → Same look rep end x y time d (goes c m e p) (left e m)
 
 -- the same answer; and where it is found at the distance z, the windows that may not be skipped were resolved
@@ -147,7 +147,7 @@ module _ (look : ℕ → ℕ → List Block) (rep : ℕ → Bool) (limit end : �
     (weekly : (x : ℕ) → week ≤ x → x + week ≤ end → rep x ≡ true → look x (x + week) ≡ moves week (look (x - week) x))
     (tidy : (x y : ℕ) → x ≤ y → y ≤ end → Inside x y (look x y)) where
   -- the two tests for skipping are one
-  test-same : (x last time d : ℕ) (prev : Kept) → Holding look end x last time prev
+  test-same : (x last time d : ℕ) (prev : Previous) → Holding look end x last time prev
       → maySkip prev d (eqb (min (x + week) end - x) week && rep x) ≡ (ltb 0 x && (eqb (min (x + week) end - x) week && (someTime time d && rep x)))
   test-same x last time d (known k g) (e, v) =
       let a = v .early in let s = v .some in
@@ -175,9 +175,9 @@ module _ (look : ℕ → ℕ → List Block) (rep : ℕ → Bool) (limit end : �
         end-any (look x (x + week)) (let a = again in let c = v .some in omega arith) u (0 + week)
         ∙ ap (λ l. lastEnd l (0 + week)) (weekly x (v .early) b r) ∙ end-moved week (look (x - week) x) 0 ∙ ap (λ y. y + week) (v .ends 0)
 
-    spend-again : (d : ℕ) → k < d → spend limit (x + week) last d (look x (x + week)) ≡ left (d - k) (last + week)
-    spend-again d m =
-        spend-all limit x (x + week) (look x (x + week)) (tidy x (x + week) (omega arith) b) last d (omega arith) (let c = v .behind in omega arith) (let a = again in omega arith)
+    search-blocks-again : (d : ℕ) → k < d → searchBlocks limit (x + week) last d (look x (x + week)) ≡ left (d - k) (last + week)
+    search-blocks-again d m =
+        search-blocks-all limit x (x + week) (look x (x + week)) (tidy x (x + week) (omega arith) b) last d (omega arith) (let c = v .behind in omega arith) (let a = again in omega arith)
         ∙ ap₂ left (ap (λ y. d - y) again) (end-again last)
 
     keeps-on : KeptWeek look (x + week) (last + week) k g
@@ -199,18 +199,18 @@ module _ (look : ℕ → ℕ → List Block) (rep : ℕ → Bool) (limit end : �
       (λ q. rw (p, q) (inr (inl (let s = ltb-false 0 (total (look x y)) q in omega arith)))))
       (λ p. let e = eqb-false (y - x) week p in rw p (inr (inr (c (omega arith)))))
 
-  turn-same : (x last time d : ℕ) (prev : Kept) → x ≤ end → 0 < d → Holding look end x last time prev
-      → Same look rep end x (min (x + week) end) time d (turn look rep limit x (min (x + week) end) last d prev) (spend limit (min (x + week) end) last d (look x (min (x + week) end)))
+  turn-same : (x last time d : ℕ) (prev : Previous) → x ≤ end → 0 < d → Holding look end x last time prev
+      → Same look rep end x (min (x + week) end) time d (turn look rep limit x (min (x + week) end) last d prev) (searchBlocks limit (min (x + week) end) last d (look x (min (x + week) end)))
   unfolding turn resolved
   turn-same x last time d prev h o v =
       by-test (maySkip prev d (eqb (min (x + week) end - x) week && rep x))
       (λ p. rw p (skipped prev v p))
-      (λ p. rw p (walked (spend limit (min (x + week) end) last d (look x (min (x + week) end)))
-      (spend-means limit x (min (x + week) end) (look x (min (x + week) end)) (tidy x (min (x + week) end) (omega arith) (omega arith)) last d o)
+      (λ p. rw p (walked (searchBlocks limit (min (x + week) end) last d (look x (min (x + week) end)))
+      (search-blocks-means limit x (min (x + week) end) (look x (min (x + week) end)) (tidy x (min (x + week) end) (omega arith) (omega arith)) last d o)
       (ap (λ t. if t then 0 else 1) (sym (test-same x last time d prev v) ∙ p))))
     where
-      skipped : (prev : Kept) → Holding look end x last time prev → maySkip prev d (eqb (min (x + week) end - x) week && rep x) ≡ true
-          → Same look rep end x (min (x + week) end) time d (goes 0 (min (x + week) end - edgeIn prev) (d - timeIn prev) prev) (spend limit (min (x + week) end) last d (look x (min (x + week) end)))
+      skipped : (prev : Previous) → Holding look end x last time prev → maySkip prev d (eqb (min (x + week) end - x) week && rep x) ≡ true
+          → Same look rep end x (min (x + week) end) time d (goes 0 (min (x + week) end - edgeIn prev) (d - timeIn prev) prev) (searchBlocks limit (min (x + week) end) last d (look x (min (x + week) end)))
       skipped fresh v p = clash false p refl
       skipped (known k g) (e, w) p =
           let s = and-both (ltb k d) (eqb (min (x + week) end - x) week && rep x) p in
@@ -222,7 +222,7 @@ module _ (look : ℕ → ℕ → List Block) (rep : ℕ → Bool) (limit end : �
           let a : x + week - g ≡ last + week = (let c = w .edge in omega arith) in
           let n : needs someTime rep x (min (x + week) end) time d ≡ 0 = ap (λ t. if t then 0 else 1) (sym (test-same x last time d (known k g) (e, w)) ∙ p) in
           let n′ : needs someTime rep x (x + week) time d ≡ 0 = rw f at n in
-          rw (f, a, spend-again x last k g w b (t .1) d m)
+          rw (f, a, search-blocks-again x last k g w b (t .1) d m)
           (same-left {c = 0} {m = last + week} {e = d - k} {p = known k g} (sym n′) (ap (λ y. d - y) (sym (again x last k g w b (t .1)))) (omega arith) (again x last k g w b (t .1), keeps-on x last k g w b (t .1)))
 
       walked : (s : Step) → Spent x (min (x + week) end) last d (look x (min (x + week) end)) s → needs someTime rep x (min (x + week) end) time d ≡ 1
@@ -263,7 +263,7 @@ module _ (look : ℕ → ℕ → List Block) (rep : ℕ → Bool) (limit end : �
       more : (z : ℕ) → x + week < z → begun (z - x) ≡ suc (begun (z - (x + week)))
       more z i = omega arith
 
-  pub search-skips : (n x last time d : ℕ) (prev : Kept) → x ≤ end → 0 < d → Holding look end x last time prev
+  pub search-skips : (n x last time d : ℕ) (prev : Previous) → x ≤ end → 0 < d → Holding look end x last time prev
       → Agrees look rep end x time d (skipFrom n look rep limit end x last d prev) (searchFrom n look limit end x last d)
   unfolding skipFrom searchFrom
   search-skips zero x last time d prev h o v = record {
@@ -272,11 +272,11 @@ module _ (look : ℕ → ℕ → List Block) (rep : ℕ → Bool) (limit end : �
     exact = λ z e. absurd (let q : _≡_ {A = ℕ} 0 1 = cc in omega arith);
   }
   search-skips (suc n) x last time d prev h o v =
-      step (turn look rep limit x (min (x + week) end) last d prev) (spend limit (min (x + week) end) last d (look x (min (x + week) end))) (turn-same x last time d prev h o v)
+      step (turn look rep limit x (min (x + week) end) last d prev) (searchBlocks limit (min (x + week) end) last d (look x (min (x + week) end))) (turn-same x last time d prev h o v)
       (λ m e p a b. search-skips n (min (x + week) end) m (total (look x (min (x + week) end))) e p (omega arith) a b)
     where
       step : (t : Turn) (s : Step) → Same look rep end x (min (x + week) end) time d t s
-          → ((m e : ℕ) (p : Kept) → 0 < e → Holding look end (min (x + week) end) m (total (look x (min (x + week) end))) p
+          → ((m e : ℕ) (p : Previous) → 0 < e → Holding look end (min (x + week) end) m (total (look x (min (x + week) end))) p
           → Agrees look rep end (min (x + week) end) (total (look x (min (x + week) end))) e (skipFrom n look rep limit end (min (x + week) end) m e p) (searchFrom n look limit end (min (x + week) end) m e))
           → Agrees look rep end x time d
           (elim t as (λ _. Counted) [

@@ -23,9 +23,9 @@ use Rattle.laws_base.specs.Members.{any-in}
 use Rattle.laws_zone.specs.Changes.{any-none}
 use Rattle.laws_zone.specs.Sound.{Sound}
 use Rattle.laws_blocks.specs.Move.{moves, moves-append, clipped-moved, union-moved, subtract-moved}
-use Rattle.laws.specs.Zones.{Each}
-use Rattle.laws.specs.Windows.{RuleOk, OfRules}
-use Rattle.laws.specs.Local.{bias, off, raw, InRange, kept, early, late, off-low, off-high, raw-some, raw-least, in-range, same-off, day-is, first-from, last-upto, first-upto, last-from}
+use Rattle.laws_demand3.specs.Zones.{Each}
+use Rattle.laws_demand3.specs.Windows.{RuleOk, OfRules}
+use Rattle.laws_demand3.specs.Local.{bias, offsetNanos, raw, Clamped, kept, early, late, off-low, off-high, raw-some, raw-least, in-range, same-off, day-is, first-from, last-upto, first-upto, last-from}
 
 -- ---- clipped blocks
 
@@ -46,7 +46,7 @@ clipped-alike lo hi s s′ e e′ a b =
 
 -- ---- a span [S, E] with one offset o
 
-module _ (z : Zone) (s : Sound z) (S E o : ℕ) (low : firstInstant ≤ S) (up : E ≤ lastInstant) (same : (u : ℕ) → S ≤ u → u ≤ E → off z u ≡ o) where
+module _ (z : Zone) (s : Sound z) (S E o : ℕ) (low : firstInstant ≤ S) (up : E ≤ lastInstant) (same : (u : ℕ) → S ≤ u → u ≤ E → offsetNanos z u ≡ o) where
   -- a local time of the span is what the one offset gives, or both lie before the window
   near-instant : (lo d time : ℕ) → S + 4 * day ≤ lo → firstDay ≤ d → d ≤ lastDay → time < day → S + o ≤ d * day + time + bias → d * day + time + bias ≤ E + o
       → Alike lo (resolve z d time) (d * day + time + bias - o)
@@ -56,7 +56,7 @@ module _ (z : Zone) (s : Sound z) (S E o : ℕ) (low : firstInstant ≤ S) (up :
       let r0 = r .0 in let r1 = r .1 in
       known (raw z d time) (resolve z d time) (in-range z s d time b c e) r0 r1 (decLe S (raw z d time))
     where
-      known : (x y : ℕ) → InRange x y → x + off z x ≡ d * day + time + bias → x ≤ d * day + time + bias - o → Dec (S ≤ x) → Alike lo y (d * day + time + bias - o)
+      known : (x y : ℕ) → Clamped x y → x + offsetNanos z x ≡ d * day + time + bias → x ≤ d * day + time + bias - o → Dec (S ≤ x) → Alike lo y (d * day + time + bias - o)
       known x y (kept p q) h k (yes v) = inl (let n = same x v (omega arith) in omega arith)
       known x y (kept p q) h k (no v) = inr (let n = off-high z s x in omega arith)
       known x y (early p) h k v = inr (let n = off-high z s x in omega arith)
@@ -70,7 +70,7 @@ till r = if ltb (r .from) (r .to) then r .to else r .to + day
 abbrev pub less : ℕ → ℕ → ℕ → ℕ
 less o d time = d * day + time + bias - o
 
-module _ (r : Rule) (ok : RuleOk r) (S E o : ℕ) (low : firstInstant ≤ S) (up : E ≤ lastInstant) (same : (u : ℕ) → S ≤ u → u ≤ E → off (r .zone) u ≡ o)
+module _ (r : Rule) (ok : RuleOk r) (S E o : ℕ) (low : firstInstant ≤ S) (up : E ≤ lastInstant) (same : (u : ℕ) → S ≤ u → u ≤ E → offsetNanos (r .zone) u ≡ o)
     (ob : second ≤ o) (oh : o ≤ 187199000000000) where
   near-end : (lo hi d : ℕ) → S + 4 * day ≤ lo → hi + 4 * day ≤ E → lo + o ≤ (d + 3) * day + bias → d * day + bias ≤ hi + o + day → Alike lo (endOf r d) (less o d (till r))
   unfolding endOf till
@@ -165,7 +165,7 @@ shift-weekly z h d = ap (contains (h .days)) (omega arith)
 abbrev pieceOn : Rule → ℕ → ℕ → ℕ → List Block
 pieceOn r lo hi d = clipped lo hi (startOf r d) (endOf r d)
 
-module _ (r : Rule) (ok : RuleOk r) (S E o : ℕ) (low : firstInstant ≤ S) (up : E ≤ lastInstant) (same : (u : ℕ) → S ≤ u → u ≤ E → off (r .zone) u ≡ o)
+module _ (r : Rule) (ok : RuleOk r) (S E o : ℕ) (low : firstInstant ≤ S) (up : E ≤ lastInstant) (same : (u : ℕ) → S ≤ u → u ≤ E → offsetNanos (r .zone) u ≡ o)
     (ob : second ≤ o) (oh : o ≤ 187199000000000) where
   first-is : (lo : ℕ) → S + 4 * day ≤ lo → lo ≤ E → firstDate (r .zone) lo ≡ (lo + o - bias) / day - 2
   unfolding firstDate
@@ -214,42 +214,42 @@ module _ (r : Rule) (ok : RuleOk r) (S E o : ℕ) (low : firstInstant ≤ S) (up
 -- the same from the test: a window with no change of offset from 4 days before it to 4 days after it
 module _ (r : Rule) (ok : RuleOk r) (lo hi : ℕ) (a : firstInstant + 4 * day ≤ lo) (h : lo ≤ hi) (b : hi + 4 * day ≤ lastInstant)
     (t : ruleSteady (lo - 4 * day) (hi + 4 * day) r ≡ true) where
-  same-here : (u : ℕ) → lo - 4 * day ≤ u → u ≤ hi + 4 * day → off (r .zone) u ≡ off (r .zone) lo
+  same-here : (u : ℕ) → lo - 4 * day ≤ u → u ≤ hi + 4 * day → offsetNanos (r .zone) u ≡ offsetNanos (r .zone) lo
   same-here u p q =
       same-off (r .zone) (ok .sound) (lo - 4 * day) (hi + 4 * day) (omega arith) t u p q
       ∙ sym (same-off (r .zone) (ok .sound) (lo - 4 * day) (hi + 4 * day) (omega arith) t lo (omega arith) (omega arith))
 
-  pub steady-first : firstDate (r .zone) lo ≡ (lo + off (r .zone) lo - bias) / day - 2
-  steady-first = first-is r ok (lo - 4 * day) (hi + 4 * day) (off (r .zone) lo) (omega arith) b same-here (off-low (r .zone) (ok .sound) lo) (off-high (r .zone) (ok .sound) lo) lo (omega arith) (omega arith)
+  pub steady-first : firstDate (r .zone) lo ≡ (lo + offsetNanos (r .zone) lo - bias) / day - 2
+  steady-first = first-is r ok (lo - 4 * day) (hi + 4 * day) (offsetNanos (r .zone) lo) (omega arith) b same-here (off-low (r .zone) (ok .sound) lo) (off-high (r .zone) (ok .sound) lo) lo (omega arith) (omega arith)
 
-  pub steady-last : lastDate (r .zone) hi ≡ (hi + off (r .zone) lo - bias) / day + 1
-  steady-last = last-is r ok (lo - 4 * day) (hi + 4 * day) (off (r .zone) lo) (omega arith) b same-here (off-low (r .zone) (ok .sound) lo) (off-high (r .zone) (ok .sound) lo) hi (omega arith) (omega arith)
+  pub steady-last : lastDate (r .zone) hi ≡ (hi + offsetNanos (r .zone) lo - bias) / day + 1
+  steady-last = last-is r ok (lo - 4 * day) (hi + 4 * day) (offsetNanos (r .zone) lo) (omega arith) b same-here (off-low (r .zone) (ok .sound) lo) (off-high (r .zone) (ok .sound) lo) hi (omega arith) (omega arith)
 
   pub steady-date : (d : ℕ) → firstDate (r .zone) lo ≤ d → d ≤ lastDate (r .zone) hi
-      → clipped lo hi (startOf r d) (endOf r d) ≡ clipped lo hi (less (off (r .zone) lo) d (r .from)) (less (off (r .zone) lo) d (till r))
-  steady-date d p q = const-date r ok (lo - 4 * day) (hi + 4 * day) (off (r .zone) lo) (omega arith) b same-here (off-low (r .zone) (ok .sound) lo) (off-high (r .zone) (ok .sound) lo) lo hi d (omega arith) h (omega arith) p q
+      → clipped lo hi (startOf r d) (endOf r d) ≡ clipped lo hi (less (offsetNanos (r .zone) lo) d (r .from)) (less (offsetNanos (r .zone) lo) d (till r))
+  steady-date d p q = const-date r ok (lo - 4 * day) (hi + 4 * day) (offsetNanos (r .zone) lo) (omega arith) b same-here (off-low (r .zone) (ok .sound) lo) (off-high (r .zone) (ok .sound) lo) lo hi d (omega arith) h (omega arith) p q
 
   pub steady-blocks : blocksOf lo hi r
-      ≡ joined (map (λ d. clipped lo hi (less (off (r .zone) lo) d (r .from)) (less (off (r .zone) lo) d (till r))) (filter (r .on) (localDates (r .zone) lo hi)))
-  steady-blocks = const-blocks r ok (lo - 4 * day) (hi + 4 * day) (off (r .zone) lo) (omega arith) b same-here (off-low (r .zone) (ok .sound) lo) (off-high (r .zone) (ok .sound) lo) lo hi (omega arith) h (omega arith)
+      ≡ joined (map (λ d. clipped lo hi (less (offsetNanos (r .zone) lo) d (r .from)) (less (offsetNanos (r .zone) lo) d (till r))) (filter (r .on) (localDates (r .zone) lo hi)))
+  steady-blocks = const-blocks r ok (lo - 4 * day) (hi + 4 * day) (offsetNanos (r .zone) lo) (omega arith) b same-here (off-low (r .zone) (ok .sound) lo) (off-high (r .zone) (ok .sound) lo) lo hi (omega arith) h (omega arith)
 
 -- ---- a date outside the span's local dates reaches into no window of it
 
 module _ (r : Rule) (ok : RuleOk r) (S E : ℕ) (low : firstInstant ≤ S) (up : E ≤ lastInstant) (lo hi : ℕ) (o : lo ≤ hi) (a : S + 4 * day ≤ lo) (b : hi + 4 * day ≤ E) where
-  below : (x y : ℕ) → InRange x y → x ≤ lo → y ≤ lo
+  below : (x y : ℕ) → Clamped x y → x ≤ lo → y ≤ lo
   below x y (kept p q) h = h
   below x y (early p) h = omega arith
   below x y (late p) h = omega arith
 
-  above : (x y : ℕ) → InRange x y → hi ≤ x → hi ≤ y
+  above : (x y : ℕ) → Clamped x y → hi ≤ x → hi ≤ y
   above x y (kept p q) h = h
   above x y (early p) h = omega arith
   above x y (late p) h = omega arith
 
-  first-before : (d : ℕ) → d < firstDate (r .zone) S → d < (S + off (r .zone) S - bias) / day
+  first-before : (d : ℕ) → d < firstDate (r .zone) S → d < (S + offsetNanos (r .zone) S - bias) / day
   first-before d h = let q = day-is (r .zone) (ok .sound) S in let p = first-upto (r .zone) (ok .sound) S in omega arith
 
-  last-behind : (d : ℕ) → lastDate (r .zone) E < d → (E + off (r .zone) E - bias) / day < d
+  last-behind : (d : ℕ) → lastDate (r .zone) E < d → (E + offsetNanos (r .zone) E - bias) / day < d
   last-behind d h = let q = day-is (r .zone) (ok .sound) E in let p = last-from (r .zone) (ok .sound) E in omega arith
 
   ends-early : (d : ℕ) → firstDay ≤ d → d ≤ lastDay → d < firstDate (r .zone) S → endOf r d ≤ lo
@@ -328,7 +328,7 @@ module _ (S E : ℕ) (low : firstInstant ≤ S) (up : E ≤ lastInstant) where
       let z = r .zone in
       let sd = ok .0 .sound in
       ap₂ _++_
-      (rule-week r (ok .0) S E (off z S) low up (λ u p q. same-off z sd S E low (k .0) u p q) (off-low z sd S) (off-high z sd S) (w .0) lo hi a h b)
+      (rule-week r (ok .0) S E (offsetNanos z S) low up (λ u p q. same-off z sd S E low (k .0) u p q) (off-low z sd S) (off-high z sd S) (w .0) lo hi a h b)
       (rules-week lo hi a h b l (ok .1) (w .1) (k .1))
       ∙ sym (moves-append week (blocksOf lo hi r) (blocksOfAll lo hi l))
 

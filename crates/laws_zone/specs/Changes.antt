@@ -9,17 +9,17 @@ use native.Mathlib.Decide.{decLe}
 use lib.Dec.{leb, ltb, eqb}
 use borrow.Author.Tests.{le-leb, lt-ltb, leb-true, leb-false, ltb-true, eq-eqb, eqb-true}
 use Rattle.model.specs.Basic.{run, any}
-use Rattle.model.specs.Footer.{Footer, empty, fixed, rules, Turn, changeIn}
+use Rattle.model.specs.Footer.{Footer, empty, fixed, rules, ChangeRule, changeIn}
 use Rattle.model.specs.Tzif.{Zone, Change}
 use Rattle.model.specs.Zone.{latest, yearAt, ruledAt, offsetFrom, offsetAt, footerChanges, changesIn, isChange, steady}
 use Rattle.laws_base.specs.Test.{by-test, by-either, and-both, both-and, not-true, true-not, clash}
-use Rattle.laws_base.specs.Members.{In, filter-passes, filter-keeps, in-map, in-right, in-run}
-use Rattle.laws_zone.specs.Turns.{TurnFits, latest-is, latest-le, latest-of-all, change-rises, two-before, two-after}
+use Rattle.laws_base.specs.Members.{Member, filter-passes, filter-keeps, in-map, in-right, in-run}
+use Rattle.laws_zone.specs.FooterChanges.{ChangeRuleFits, latest-is, latest-le, latest-of-all, change-rises, two-before, two-after}
 use Rattle.laws_zone.specs.Grammar.{FooterFits}
 
 -- ---- lists
 
-in-left : (a b : List ℕ) (u : ℕ) → In u a → In u (a ++ b)
+in-left : (a b : List ℕ) (u : ℕ) → Member u a → Member u (a ++ b)
 in-left [] b u h = absurd h
 in-left (n ∷ a) b u (inl p) = inl p
 in-left (n ∷ a) b u (inr q) = inr (in-left a b u q)
@@ -31,10 +31,10 @@ abbrev pub Turns : (ℕ → ℕ) → ℕ → Type 0
 Turns change e = (y : ℕ) × (change y ≡ e)
 
 -- the changes of the years that `changesIn` looks at
-abbrev looked : ℕ → Turn → ℕ → ℕ → List ℕ
+abbrev looked : ℕ → ChangeRule → ℕ → ℕ → List ℕ
 looked o r a b = map (changeIn o r) (run (yearAt a - 2) (yearAt b + 5 - yearAt a))
 
-module _ (o : ℕ) (r : Turn) (ho : o ≤ 187199) (f : TurnFits r) where
+module _ (o : ℕ) (r : ChangeRule) (ho : o ≤ 187199) (f : ChangeRuleFits r) where
   abbrev change : ℕ → ℕ
   change = changeIn o r
 
@@ -59,7 +59,7 @@ module _ (o : ℕ) (r : Turn) (ho : o ≤ 187199) (f : TurnFits r) where
           inl (omega (arith, p .1, not-later e, latest-of-all o r ho f (e - 1) (p .0) k))
 
   -- they hold all changes behind a, up to b
-  turn-in : (a b e : ℕ) → a < e → e ≤ b → Turns change e → In e (looked o r a b)
+  turn-in : (a b e : ℕ) → a < e → e ≤ b → Turns change e → Member e (looked o r a b)
   turn-in a b e ha hb (y, p) =
       let lo : yearAt a - 2 ≤ y = low (decLe (yearAt a - 2) y) in
       let hi : y < yearAt b + 2 = high (decLe (yearAt b + 2) y) in
@@ -74,12 +74,12 @@ module _ (o : ℕ) (r : Turn) (ho : o ≤ 187199) (f : TurnFits r) where
       high (no h) = omega arith
 
 -- e is a change of the footer
-abbrev pub FooterTurns : Footer → ℕ → Type 0
-FooterTurns empty e = ⊥
-FooterTurns (fixed o) e = ⊥
-FooterTurns (rules std dst start end) e = Turns (changeIn std start) e ⊎ Turns (changeIn dst end) e
+abbrev pub FooterChangeRules : Footer → ℕ → Type 0
+FooterChangeRules empty e = ⊥
+FooterChangeRules (fixed o) e = ⊥
+FooterChangeRules (rules std dst start end) e = Turns (changeIn std start) e ⊎ Turns (changeIn dst end) e
 
-ruled-steps : (f : Footer) → FooterFits f → (o e : ℕ) → (ruledAt f o (e - 1) ≡ ruledAt f o e) ⊎ FooterTurns f e
+ruled-steps : (f : Footer) → FooterFits f → (o e : ℕ) → (ruledAt f o (e - 1) ≡ ruledAt f o e) ⊎ FooterChangeRules f e
 unfolding ruledAt
 ruled-steps empty h o e = inl refl
 ruled-steps (fixed g) h o e = inl refl
@@ -89,7 +89,7 @@ ruled-steps (rules std dst start end) h o e =
     (λ (q : Turns (changeIn dst end) e). inr (inr q)) (latest-steps dst end (h .1 .1) (h .3) e))
     (λ (p : Turns (changeIn std start) e). inr (inl p)) (latest-steps std start (h .0 .1) (h .2) e)
 
-footer-in : (f : Footer) → FooterFits f → (a b e : ℕ) → a < e → e ≤ b → FooterTurns f e → In e (footerChanges f (yearAt a - 2) (yearAt b + 5 - yearAt a))
+footer-in : (f : Footer) → FooterFits f → (a b e : ℕ) → a < e → e ≤ b → FooterChangeRules f e → Member e (footerChanges f (yearAt a - 2) (yearAt b + 5 - yearAt a))
 footer-in empty h a b e ha hb t = absurd t
 footer-in (fixed g) h a b e ha hb t = absurd t
 footer-in (rules std dst start end) h a b e ha hb (inl t) =
@@ -103,7 +103,7 @@ abbrev timeOf : Change → ℕ
 timeOf c = c .time
 
 offset-steps : (o : ℕ) (l : List Change) (f : Footer) → FooterFits f → (e : ℕ)
-    → (offsetFrom o l f (e - 1) ≡ offsetFrom o l f e) ⊎ (In e (map timeOf l) ⊎ FooterTurns f e)
+    → (offsetFrom o l f (e - 1) ≡ offsetFrom o l f e) ⊎ (Member e (map timeOf l) ⊎ FooterChangeRules f e)
 unfolding offsetFrom
 offset-steps o [] f h e = by-either (λ p. inl p) (λ q. inr (inr q)) (ruled-steps f h o e)
 offset-steps o (c ∷ l) f h e =
@@ -120,33 +120,33 @@ not-false : (b : Bool) → not b ≡ false → b ≡ true
 not-false true e = refl
 not-false false e = clash true refl e
 
-pub any-none : (t : ℕ → Bool) (l : List ℕ) (u : ℕ) → any t l ≡ false → In u l → t u ≡ false
+pub any-none : (t : ℕ → Bool) (l : List ℕ) (u : ℕ) → any t l ≡ false → Member u l → t u ≡ false
 unfolding any
-any-none t (n ∷ l) u h i = by-test (t n) (λ e. clash true refl (rw e at h)) (λ e. by-either (λ (p : u ≡ n). rw p e) (λ (q : In u l). any-none t l u (rw e at h) q) i)
+any-none t (n ∷ l) u h i = by-test (t n) (λ e. clash true refl (rw e at h)) (λ e. by-either (λ (p : u ≡ n). rw p e) (λ (q : Member u l). any-none t l u (rw e at h) q) i)
 any-none t [] u h i = absurd i
 
-pub none-any : (t : ℕ → Bool) (l : List ℕ) → ((u : ℕ) → In u l → t u ≡ false) → any t l ≡ false
+pub none-any : (t : ℕ → Bool) (l : List ℕ) → ((u : ℕ) → Member u l → t u ≡ false) → any t l ≡ false
 unfolding any
 none-any t [] f = refl
 none-any t (n ∷ l) f = rw (f n (inl refl)) (none-any t l (λ u i. f u (inr i)))
 
 module _ (z : Zone) (f : FooterFits (z .footer)) where
   -- behind a and up to b the offset changes at the listed seconds alone
-  pub step : (a b e : ℕ) → a < e → e ≤ b → (offsetAt z (e - 1) ≡ offsetAt z e) ⊎ In e (changesIn z a b)
+  pub step : (a b e : ℕ) → a < e → e ≤ b → (offsetAt z (e - 1) ≡ offsetAt z e) ⊎ Member e (changesIn z a b)
   unfolding offsetAt changesIn
   step a b e ha hb =
       by-either (λ p. inl p) (λ q. inr (
       filter-keeps (λ e. ltb a e && leb e b) _ e
-      (by-either (λ (r : In e (map timeOf (z .changes))). in-left (map timeOf (z .changes)) _ e r)
-      (λ (r : FooterTurns (z .footer) e). in-right (map timeOf (z .changes)) _ e (footer-in (z .footer) f a b e ha hb r)) q)
+      (by-either (λ (r : Member e (map timeOf (z .changes))). in-left (map timeOf (z .changes)) _ e r)
+      (λ (r : FooterChangeRules (z .footer) e). in-right (map timeOf (z .changes)) _ e (footer-in (z .footer) f a b e ha hb r)) q)
       (both-and (ltb a e) (leb e b) (lt-ltb a e ha) (le-leb e b hb))))
       (offset-steps (z .initial) (z .changes) (z .footer) f e)
 
-  pub change-listed : (a b e : ℕ) → a < e → e ≤ b → (offsetAt z (e - 1) ≡ offsetAt z e → ⊥) → In e (changesIn z a b)
+  pub change-listed : (a b e : ℕ) → a < e → e ≤ b → (offsetAt z (e - 1) ≡ offsetAt z e → ⊥) → Member e (changesIn z a b)
   change-listed a b e ha hb d = by-either (λ p. absurd (d p)) (λ q. q) (step a b e ha hb)
 
   -- each second of [a, b] has the offset of a or of a listed second
-  offset-tried : (a b n : ℕ) → a + n ≤ b → (e : ℕ) × (In e (a ∷ changesIn z a b)) × (offsetAt z e ≡ offsetAt z (a + n))
+  offset-tried : (a b n : ℕ) → a + n ≤ b → (e : ℕ) × (Member e (a ∷ changesIn z a b)) × (offsetAt z e ≡ offsetAt z (a + n))
   offset-tried a b zero h = let s : a ≡ a + 0 = omega arith in (a, inl refl, ap (offsetAt z) s)
   offset-tried a b (suc n) h =
       let r = offset-tried a b n (omega arith) in
@@ -154,7 +154,7 @@ module _ (z : Zone) (f : FooterFits (z .footer)) where
       by-either (λ (p : offsetAt z (a + suc n - 1) ≡ offsetAt z (a + suc n)). (r .0, r .1, r .2 ∙ (rw s at p)))
       (λ q. (a + suc n, inr q, refl)) (step a b (a + suc n) (omega arith) h)
 
-  pub has-tried : (a b u : ℕ) → a ≤ u → u ≤ b → (e : ℕ) × (In e (a ∷ changesIn z a b)) × (offsetAt z e ≡ offsetAt z u)
+  pub has-tried : (a b u : ℕ) → a ≤ u → u ≤ b → (e : ℕ) × (Member e (a ∷ changesIn z a b)) × (offsetAt z e ≡ offsetAt z u)
   has-tried a b u ha hb =
       let s : a + (u - a) ≡ u = omega arith in
       rw s at (offset-tried a b (u - a) (omega arith))
@@ -184,7 +184,7 @@ pub same-steady : (z : Zone) (a b : ℕ) → ((u : ℕ) → a ≤ u → u ≤ b 
 unfolding steady changesIn
 same-steady z a b f = true-not _ (none-any (isChange z) (changesIn z a b) none)
   where
-    none : (e : ℕ) → In e (changesIn z a b) → isChange z e ≡ false
+    none : (e : ℕ) → Member e (changesIn z a b) → isChange z e ≡ false
     none e i =
         let t = and-both (ltb a e) (leb e b) (filter-passes (λ e. ltb a e && leb e b) _ e i) in
         let lo : a < e = ltb-true a e (t .0) in

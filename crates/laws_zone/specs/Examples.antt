@@ -9,13 +9,13 @@ use native.Mathlib.Omega.{arith}
 use Rattle.model.specs.Basic.{_>>=_}
 use Rattle.model.specs.Bytes.{hex, text}
 use Rattle.model.specs.Calendar.{isLeap, dayNumber}
-use Rattle.model.specs.Footer.{Turn, julian, plain, fixed, rules, dayIn, changeIn}
+use Rattle.model.specs.Footer.{ChangeRule, julian, plain, fixed, rules, dayIn, changeIn}
 use Rattle.model.specs.Tzif.{Zone, Change, zoneOf}
 use Rattle.model.specs.Zone.{latest, offsetFrom, offsetAt, secondOf}
 use Rattle.model.specs.All.{everything}
 use Rattle.laws_base.specs.Test.{by-test, by-either}
 use Rattle.laws_calendar.specs.Dates.{year-step}
-use Rattle.laws_zone.specs.Turns.{latest-is, latest-le, latest-of-all, daylight}
+use Rattle.laws_zone.specs.FooterChanges.{latest-is, latest-le, latest-of-all, daylight}
 
 -- ---- times
 
@@ -153,10 +153,10 @@ dublin-footer = record { summer-ends = refl; winter = refl; winter-ends = refl; 
 abbrev allYear : List ℕ
 allYear = ruledBy (text "2") (text "XXX3EDT4,0/0,J365/23")
 
-abbrev start : Turn
+abbrev start : ChangeRule
 start = record { day = plain 0; time = 0 }
 
-abbrev end : Turn
+abbrev end : ChangeRule
 end = record { day = julian 365; time = 82800 }
 
 abbrev allYearZone : Zone

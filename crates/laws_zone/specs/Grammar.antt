@@ -4,10 +4,10 @@ use mathlib.Core.Option.{some}
 use mathlib.Core.List.{List}
 use Prim.Native.Nat.{ℕ, _≤_}
 use native.Mathlib.Omega.{arith}
-use Rattle.model.specs.Footer.{Day, Turn, Footer, empty, fixed, rules, footerOf}
+use Rattle.model.specs.Footer.{Day, ChangeRule, Footer, empty, fixed, rules, footerOf}
 use Rattle.laws_bytes.specs.TzGrammar.{Number, number, Sixty, sixty, Clock, hours, minutes, seconds, Offset, unsigned, west, east, Date, dateJ, dateN, dateM, Rule, untimed, timed, Ahead, hour, written, TzString, standard, daylight}
 use Rattle.laws_bytes.specs.TzSound.{tz-sound}
-use Rattle.laws_zone.specs.Turns.{DayFits, TurnFits}
+use Rattle.laws_zone.specs.FooterChanges.{DayFits, ChangeRuleFits}
 
 abbrev Bounds : ℕ → ℕ → ℕ → Type 0
 Bounds lo hi n = (lo ≤ n) × (n ≤ hi)
@@ -37,7 +37,7 @@ date-fits (dateM g h k) =
     let w = number-in h in
     (m .0, m .1, w .0, w .1, number-in k .1)
 
-rule-fits : {r : Turn} {s : List ℕ} → Rule s r → TurnFits r
+rule-fits : {r : ChangeRule} {s : List ℕ} → Rule s r → ChangeRuleFits r
 rule-fits (untimed g) = record { day-fits = date-fits g; time-fits = omega arith }
 rule-fits (timed g h) = record { day-fits = date-fits g; time-fits = clock-in h }
 
@@ -48,7 +48,7 @@ OffsetFits o = (1 ≤ o) × (o ≤ 187199)
 abbrev pub FooterFits : Footer → Type 0
 FooterFits empty = Unit {0}
 FooterFits (fixed o) = OffsetFits o
-FooterFits (rules std dst start end) = OffsetFits std × OffsetFits dst × TurnFits start × TurnFits end
+FooterFits (rules std dst start end) = OffsetFits std × OffsetFits dst × ChangeRuleFits start × ChangeRuleFits end
 
 offset-fits : {o : ℕ} {s : List ℕ} → Offset s o → OffsetFits o
 offset-fits g = let b = offset-in g in (omega arith, omega arith)

@@ -1,5 +1,5 @@
 pub mod Sound
-pub mod Turns
+pub mod FooterChanges
 pub mod Days
 pub mod Grammar
 pub mod Changes

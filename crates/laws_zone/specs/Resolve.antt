@@ -12,7 +12,7 @@ use Rattle.model.specs.Basic.{filter, leastOr}
 use Rattle.model.specs.Tzif.{Zone}
 use Rattle.model.specs.Zone.{offsetAt, changesIn, reads, jumps, secondOf}
 use Rattle.laws_base.specs.Test.{and-both, both-and}
-use Rattle.laws_base.specs.Members.{In, filter-passes, filter-keeps, in-map, or-in, or-least}
+use Rattle.laws_base.specs.Members.{Member, filter-passes, filter-keeps, in-map, or-in, or-least}
 use Rattle.laws_zone.specs.Grammar.{FooterFits}
 use Rattle.laws_zone.specs.Changes.{change-listed, has-tried}
 
@@ -90,7 +90,7 @@ module _ (z : Zone) (f : FooterFits (z .footer)) (low : (u : ℕ) → 1 ≤ offs
   tries = map (λ e. l - offsetAt z e) (begin ∷ changesIn z begin l)
 
   -- the seconds that read l are among those tried
-  read-tried : (u : ℕ) → Reads (offsetAt z) l u → In u (filter (reads z l) tries)
+  read-tried : (u : ℕ) → Reads (offsetAt z) l u → Member u (filter (reads z l) tries)
   read-tried u p =
       let r = has-tried z f begin l u (omega (arith, p, high u)) (omega (arith, p)) in
       let e : l - offsetAt z (r .0) ≡ u = omega (arith, p, r .2) in
@@ -100,13 +100,13 @@ module _ (z : Zone) (f : FooterFits (z .footer)) (low : (u : ℕ) → 1 ≤ offs
   overs = filter (jumps z l) (changesIn z begin l)
 
   -- the jumps over l are among the changes looked at
-  jump-listed : (e : ℕ) → Jumps (offsetAt z) l e → In e overs
+  jump-listed : (e : ℕ) → Jumps (offsetAt z) l e → Member e overs
   jump-listed e j =
       filter-keeps (jumps z l) (changesIn z begin l) e
       (change-listed z f begin l e (omega (arith, high e)) (omega (arith, low (e - 1))) (λ (p : offsetAt z (e - 1) ≡ offsetAt z e). omega arith))
       (both-and (leb (e + offsetAt z (e - 1)) l) (ltb l (e + offsetAt z e)) (le-leb _ _ (j .from)) (lt-ltb _ _ (j .to)))
 
-  listed-jump : (e : ℕ) → In e overs → Jumps (offsetAt z) l e
+  listed-jump : (e : ℕ) → Member e overs → Jumps (offsetAt z) l e
   listed-jump e i =
       let t = and-both (leb (e + offsetAt z (e - 1)) l) (ltb l (e + offsetAt z e)) (filter-passes (jumps z l) (changesIn z begin l) e i) in
       record { from = leb-true _ _ (t .0); to = ltb-true _ _ (t .1) }
@@ -123,8 +123,8 @@ module _ (z : Zone) (f : FooterFits (z .footer)) (low : (u : ℕ) → 1 ≤ offs
   answered : (rs : List ℕ) → filter (reads z l) tries ≡ rs → Resolves (offsetAt z) l (leastOr (l - offsetAt z (leastOr 0 overs - 1)) rs)
   answered [] e = by-jump (λ v p. rw e at (read-tried v p))
   answered (n ∷ rs) e =
-      let i : In (leastOr 0 (n ∷ rs)) (n ∷ rs) = or-in 0 (n ∷ rs) n (inl refl) in
-      read (eqb-true _ _ (filter-passes (reads z l) tries _ (subst (λ (x : List ℕ). In (leastOr 0 (n ∷ rs)) x) (sym e) i)))
+      let i : Member (leastOr 0 (n ∷ rs)) (n ∷ rs) = or-in 0 (n ∷ rs) n (inl refl) in
+      read (eqb-true _ _ (filter-passes (reads z l) tries _ (subst (λ (x : List ℕ). Member (leastOr 0 (n ∷ rs)) x) (sym e) i)))
       (λ v p q. let m : leastOr 0 (n ∷ rs) ≤ v = or-least 0 (n ∷ rs) v (rw e at (read-tried v q)) in omega arith)
 
   pub second-means : Resolves (offsetAt z) l (secondOf z l)

@@ -17,7 +17,7 @@ pub data Day : Type 0 where
   plain : ℕ → Day
 
 -- a change: its day, and its second of that day by the clock that it ends
-pub record Turn : Type 0 where
+pub record ChangeRule : Type 0 where
   pub day : Day
   pub time : ℕ
 
@@ -25,7 +25,7 @@ pub data Footer : Type 0 where
   empty : Footer
   fixed : ℕ → Footer
   -- standard offset, daylight offset, start and end of daylight time
-  rules : ℕ → ℕ → Turn → Turn → Footer
+  rules : ℕ → ℕ → ChangeRule → ChangeRule → Footer
 
 -- ---- the grammar. A parser takes what it reads from the front of the text and hands on the rest
 
@@ -135,8 +135,8 @@ dayText = do
     if j then (number 3 1 365 >>= λ n. pure (julian n)) else (number 3 0 365 >>= λ n. pure (plain n)))
 
 -- "/time" is 02:00:00 where it isn't written
-unfoldable pub turnText : Parser Turn
-turnText = do
+unfoldable pub changeRuleText : Parser ChangeRule
+changeRuleText = do
   d ← dayText
   timed ← has 47
   t ← (if timed then clock else pure 7200)
@@ -148,9 +148,9 @@ daylightText std = do
   _ ← name
   short ← has 44
   dst ← (if short then pure (std + 3600) else (offset >>= λ o. byte 44 >>= λ _. pure o))
-  start ← turnText
+  start ← changeRuleText
   _ ← byte 44
-  end ← turnText
+  end ← changeRuleText
   done ← atEnd
   only done (rules std dst start end)
 
@@ -181,9 +181,9 @@ dayIn y (julian n) = daysBeforeYear y + (n - 1) + (if isLeap y && leb 60 n then 
 dayIn y (plain n) = daysBeforeYear y + n
 
 -- the second at which the change comes in the year y, by a clock that shows the given offset
-unfoldable pub changeIn : ℕ → Turn → ℕ → ℕ
+unfoldable pub changeIn : ℕ → ChangeRule → ℕ → ℕ
 changeIn o r y = dayIn y (r .day) * 86400 + r .time + 93600 - o
 
 unfoldable pub footers : Unit {0}
-unfolding spanned digits number sixty clock isNameByte name offset monthText dayText turnText daylightText footerText footerOf dayIn changeIn
+unfolding spanned digits number sixty clock isNameByte name offset monthText dayText changeRuleText daylightText footerText footerOf dayIn changeIn
 footers = tt

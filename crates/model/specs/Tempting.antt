@@ -9,7 +9,7 @@ use Rattle.model.specs.Bytes.{hex}
 use Rattle.model.specs.Instant.{second}
 use Rattle.model.specs.Blocks.{block, union}
 use Rattle.model.specs.Build.{build}
-use Rattle.model.specs.Walk.{found, gap, spend}
+use Rattle.model.specs.Walk.{found, gap, searchBlocks}
 use Rattle.model.specs.Calls.{add}
 use Rattle.model.specs.Label.{office, noZones, hour, is, isBuilt}
 use Rattle.model.specs.All.{everything}
@@ -29,8 +29,8 @@ pub record Tempting : Type 0 where
   -- keeping blocks that merely touch as two
   pub joins-touching : union (block 7 9 ∷ block 5 7 ∷ []) ≡ block 5 9 ∷ []
   -- refusing at a gap equal to the limit
-  pub crosses-limit : spend limit (limit + 9) 0 3 (block limit (limit + 5) ∷ []) ≡ found (limit + 3)
-  pub not-more : spend limit (limit + 9) 0 3 (block (limit + 1) (limit + 5) ∷ []) ≡ gap
+  pub crosses-limit : searchBlocks limit (limit + 9) 0 3 (block limit (limit + 5) ∷ []) ≡ found (limit + 3)
+  pub not-more : searchBlocks limit (limit + 9) 0 3 (block (limit + 1) (limit + 5) ∷ []) ≡ gap
   -- taking the later of two repeated times: case 12. Counting holidays in the build check:
   pub builds-closed : isBuilt (build holidays2001 noZones) ≡ true
 

@@ -63,11 +63,11 @@ pub data Step : Type 0 where
   left : ℕ → ℕ → Step
 
 -- look for d more of working time in the blocks of a window that ends at y. "A search refuses only when a gap is strictly longer" than the limit
-unfoldable pub spend : ℕ → ℕ → ℕ → ℕ → List Block → Step
-spend limit y last d [] = if ltb limit (y - last) then gap else left d last
-spend limit y last d (b ∷ l) =
+unfoldable pub searchBlocks : ℕ → ℕ → ℕ → ℕ → List Block → Step
+searchBlocks limit y last d [] = if ltb limit (y - last) then gap else left d last
+searchBlocks limit y last d (b ∷ l) =
     let n = b .end - b .start in
-    let r = spend limit y (b .end) (d - n) l in
+    let r = searchBlocks limit y (b .end) (d - n) l in
     if ltb limit (b .start - last) then gap else
     if leb d n then found (b .start + d) else r
 
@@ -76,7 +76,7 @@ unfoldable pub searchFrom : ℕ → (ℕ → ℕ → List Block) → ℕ → ℕ
 searchFrom zero look limit end x last d = refuses 7 0
 searchFrom (suc n) look limit end x last d =
     let y = min (x + week) end in
-    elim (spend limit y last d (look x y)) [
+    elim (searchBlocks limit y last d (look x y)) [
       | found z ↦ gives z
       | gap ↦ refuses 6 0
       | left e l ↦ searchFrom n look limit end y l e
@@ -92,43 +92,43 @@ search w s t d = searchIn (ahead w s t) (s .limit) (reach w t) d
 -- ---- next and previous
 
 -- nothing so far, a period that may go on, one that has ended, or a first block too far off
-pub data Hunt : Type 0 where
-  nothing : Hunt
-  growing : ℕ → ℕ → Hunt
-  ended : ℕ → ℕ → Hunt
-  tooFar : Hunt
+pub data PeriodSoFar : Type 0 where
+  nothing : PeriodSoFar
+  growing : ℕ → ℕ → PeriodSoFar
+  ended : ℕ → ℕ → PeriodSoFar
+  tooFar : PeriodSoFar
 
-unfoldable pub hunt : ℕ → Hunt → List Block → Hunt
-hunt limit h [] = h
-hunt limit nothing (b ∷ l) = let r = hunt limit (growing (b .start) (b .end)) l in if ltb limit (b .start) then tooFar else r
-hunt limit (growing f e) (b ∷ l) = let r = hunt limit (growing f (b .end)) l in if eqb (b .start) e then r else ended f e
-hunt limit (ended f e) (b ∷ l) = ended f e
-hunt limit tooFar (b ∷ l) = tooFar
+unfoldable pub periodIn : ℕ → PeriodSoFar → List Block → PeriodSoFar
+periodIn limit h [] = h
+periodIn limit nothing (b ∷ l) = let r = periodIn limit (growing (b .start) (b .end)) l in if ltb limit (b .start) then tooFar else r
+periodIn limit (growing f e) (b ∷ l) = let r = periodIn limit (growing f (b .end)) l in if eqb (b .start) e then r else ended f e
+periodIn limit (ended f e) (b ∷ l) = ended f e
+periodIn limit tooFar (b ∷ l) = tooFar
 
 -- "are cut to the search limit"
 abbrev pub capped : ℕ → ℕ → ℕ → Block
 capped limit f e = block f (min e (f + limit))
 
-abbrev pub atRangeEnd : ℕ → Hunt → Answer Block
+abbrev pub atRangeEnd : ℕ → PeriodSoFar → Answer Block
 atRangeEnd limit nothing = refuses 7 0
 atRangeEnd limit (growing f e) = gives (capped limit f e)
 atRangeEnd limit (ended f e) = gives (capped limit f e)
 atRangeEnd limit tooFar = refuses 6 0
 
-unfoldable pub huntFrom : ℕ → (ℕ → ℕ → List Block) → ℕ → ℕ → ℕ → Hunt → Answer Block
-huntFrom zero look limit end x h = atRangeEnd limit h
-huntFrom (suc n) look limit end x h =
+unfoldable pub periodFrom : ℕ → (ℕ → ℕ → List Block) → ℕ → ℕ → ℕ → PeriodSoFar → Answer Block
+periodFrom zero look limit end x h = atRangeEnd limit h
+periodFrom (suc n) look limit end x h =
     let y = min (x + week) end in
-    elim (hunt limit h (look x y)) [
-      | nothing ↦ (let r = huntFrom n look limit end y nothing in if ltb limit y then refuses 6 0 else r)
-      | growing f e ↦ (let r = huntFrom n look limit end y (growing f e) in if ltb e y || leb limit (e - f) then gives (capped limit f e) else r)
+    elim (periodIn limit h (look x y)) [
+      | nothing ↦ (let r = periodFrom n look limit end y nothing in if ltb limit y then refuses 6 0 else r)
+      | growing f e ↦ (let r = periodFrom n look limit end y (growing f e) in if ltb e y || leb limit (e - f) then gives (capped limit f e) else r)
       | ended f e ↦ gives (capped limit f e)
       | tooFar ↦ refuses 6 0
     ]
 
 -- the distances of the nearest period
 abbrev pub period : Way → Schedule → ℕ → Answer Block
-period w s t = huntFrom (begun (reach w t)) (ahead w s t) (s .limit) (reach w t) 0 nothing
+period w s t = periodFrom (begun (reach w t)) (ahead w s t) (s .limit) (reach w t) 0 nothing
 
 -- ---- the listing
 
@@ -142,5 +142,5 @@ abbrev pub stretches : Schedule → ℕ → ℕ → List Block
 stretches s lo hi = merged (listed (begun (hi - lo)) (working s) lo hi)
 
 unfoldable pub walks : Unit {0}
-unfolding timeFrom onward backward ahead spend searchFrom searchIn hunt huntFrom listed
+unfolding timeFrom onward backward ahead searchBlocks searchFrom searchIn periodIn periodFrom listed
 walks = tt

@@ -17,16 +17,16 @@ use Rattle.model.specs.Instant as M
 use Rattle.model.specs.Instant.{second, firstInstant, lastInstant, isBelow0, secondFrom, instantOf, instant, areOpposite, durationOf, duration, negated}
 use Rattle.instant.specs.Instant.{nanos}
 use Rattle.instant.specs.declared.Instant.{Instant}
-use Rattle.dates.specs.Dates.{InRange}
-use Rattle.edge.specs.Reads.{ofNanos, instantRead, secondsFrom}
-use Rattle.edge.specs.Durations.{signedPair, spanRead, negatedRead, negation}
-use Rattle.edge.specs.declared.InstantRead.{InstantRead}
-use Rattle.edge.specs.declared.InstantRead.the-variants as R
-use Rattle.edge.specs.declared.SpanRead.{SpanRead}
-use Rattle.edge.specs.declared.SpanRead.the-variants as S
-use Rattle.edge.specs.declared.Duration.{Duration}
-use Rattle.edge.specs.declared.DurationMade.{DurationMade}
-use Rattle.edge.specs.declared.DurationMade.the-variants as D
+use Rattle.zone_local.specs.Dates.{InRange}
+use Rattle.instant_signed.specs.Reads.{ofNanos, instantRead, secondsFrom}
+use Rattle.instant_signed.specs.Durations.{signedPair, durationRead, negatedRead, negation}
+use Rattle.instant_signed.specs.declared.InstantRead.{InstantRead}
+use Rattle.instant_signed.specs.declared.InstantRead.the-variants as R
+use Rattle.instant_signed.specs.declared.DurationRead.{DurationRead}
+use Rattle.instant_signed.specs.declared.DurationRead.the-variants as S
+use Rattle.instant_signed.specs.declared.Duration.{Duration}
+use Rattle.instant_signed.specs.declared.DurationMade.{DurationMade}
+use Rattle.instant_signed.specs.declared.DurationMade.the-variants as D
 
 never : {P : Type 0} → _≡_ {A = ℕ} 0 1 → P
 never z = absurd (omega arith)
@@ -106,8 +106,8 @@ sizeOf s n = natAbs s * second + natAbs n
 abbrev span : Bool → ℕ → M.Duration
 span m d = record { minus = m; size = d }
 
-no-span-read : (s n : ℤ) → spanRead (durationOf s n) ≡ S.Malformed → durationOf s n ≡ refuses 9 0
-unfolding spanRead durationOf
+no-span-read : (s n : ℤ) → durationRead (durationOf s n) ≡ S.Malformed → durationOf s n ≡ refuses 9 0
+unfolding durationRead durationOf
 no-span-read s n e =
     by-test (isDuration s n)
     (λ t. let q : S.Signed (isBelow0 s || isBelow0 n) (sizeOf s n / second) (sizeOf s n % second) ≡ S.Malformed = simp t at e in never (cc))
@@ -124,8 +124,8 @@ pub record Lasts (s n : ℤ) (m : Bool) (a b : ℕ) : Type 0 where
   pub rest : b < second
   pub short : m ≡ false → a < 2 ^ 63
 
-span-read : (s n : ℤ) (m : Bool) (a b : ℕ) → SFits w64 s → spanRead (durationOf s n) ≡ S.Signed m a b → Lasts s n m a b
-unfolding spanRead durationOf
+span-read : (s n : ℤ) (m : Bool) (a b : ℕ) → SFits w64 s → durationRead (durationOf s n) ≡ S.Signed m a b → Lasts s n m a b
+unfolding durationRead durationOf
 span-read s n m a b f e =
     by-test (isDuration s n)
     (λ t.
@@ -146,12 +146,12 @@ pub span-most : (a b : ℕ) → b < second → a < 2 ^ 63 → a * second + b < 2
 span-most a b h k = omega arith
 
 -- a duration that was read
-module _ (s n : ℤ) (f : SFits w64 s) (g : SFits w64 n) {r : SpanRead} (e : r ≡ spanRead (durationOf (toZ w64 (ofZ w64 s)) (toZ w64 (ofZ w64 n)))) where
+module _ (s n : ℤ) (f : SFits w64 s) (g : SFits w64 n) {r : DurationRead} (e : r ≡ durationRead (durationOf (toZ w64 (ofZ w64 s)) (toZ w64 (ofZ w64 n)))) where
   pub span-no : r ≡ S.Malformed → durationOf s n ≡ refuses 9 0
-  span-no h = no-span-read s n (sym (whole s n f g (λ a b. spanRead (durationOf a b)) e) ∙ h)
+  span-no h = no-span-read s n (sym (whole s n f g (λ a b. durationRead (durationOf a b)) e) ∙ h)
 
   pub span-yes : {m : Bool} {a b : ℕ} → r ≡ S.Signed m a b → Lasts s n m a b
-  span-yes {m} {a} {b} h = span-read s n m a b f (sym (whole s n f g (λ a b. spanRead (durationOf a b)) e) ∙ h)
+  span-yes {m} {a} {b} h = span-read s n m a b f (sym (whole s n f g (λ a b. durationRead (durationOf a b)) e) ∙ h)
 
 -- ---- the negation of a negative duration of d nanoseconds
 

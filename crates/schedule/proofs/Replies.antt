@@ -22,12 +22,12 @@ use Rattle.laws_blocks.specs.Members.{covers}
 use Rattle.laws_skip.specs.Skips.{needed-most}
 use Rattle.laws_skip.specs.Schedules.{working-lists, search-skipping}
 use Rattle.laws_skip.specs.Books.{BuiltWell}
-use Rattle.spend.specs.Spending.{wayOf}
-use Rattle.rules.specs.Rules.{scheduleIs}
+use Rattle.walk_step.specs.Spending.{wayOf}
+use Rattle.rule.specs.Rules.{scheduleIs}
 use Rattle.build.specs.declared.Built.{Built}
 use Rattle.build.specs.Read.{answerIs}
-use Rattle.blocks.specs.Counted.{size}
-use Rattle.blocks.specs.declared.Span.{Span}
+use Rattle.block.specs.Counted.{size}
+use Rattle.block.specs.declared.Span.{Span}
 use Rattle.walk.specs.Walks.{Counts, found-at}
 use Rattle.walk.specs.declared.Reached.{Reached}
 use Rattle.walk.specs.declared.Reached.the-variants as R

@@ -9,10 +9,10 @@ use Rattle.model.specs.Answer.{gives, refuses}
 use Rattle.model.specs.Working.{Schedule}
 use Rattle.model.specs.Build.{build}
 use Rattle.model.specs.Calls.{between, add, sub, said}
-use Rattle.laws.specs.Pairs.{Pair, nanos, IsInstant, IsDuration, shown}
-use Rattle.laws.specs.Zones.{Each, zonesOf, WithinDay}
-use Rattle.laws.specs.Demand3 as laws
-use Rattle.laws.specs.Demand3.{Given, demand-3}
+use Rattle.laws_demand3.specs.Pairs.{Pair, nanos, IsInstant, IsDuration, shown}
+use Rattle.laws_demand3.specs.Zones.{Each, zonesOf, WithinDay}
+use Rattle.laws_demand3.specs.Demand3 as laws
+use Rattle.laws_demand3.specs.Demand3.{Given, demand-3}
 use Rattle.schedule.specs.declared.TimeAnswer.{TimeAnswer}
 use Rattle.schedule.specs.declared.AddAnswer.{AddAnswer}
 use Rattle.schedule.specs.declared.SubAnswer.{SubAnswer}

@@ -15,8 +15,8 @@ use Rattle.model.specs.Build.{build}
 use Rattle.model.specs.Walk.{Way, on, back, reach, ahead, begun, search}
 use Rattle.model.specs.Skip.{anyTime, someTime}
 use Rattle.model.specs.Calls.{Reply, turned, betweenCall, moved, moveCall, between, add, sub, said, leastOf, mostOf, Windows}
-use Rattle.laws.specs.Pairs.{Pair}
-use Rattle.laws.specs.Zones.{Each, zonesOf, WithinDay}
+use Rattle.laws_demand3.specs.Pairs.{Pair}
+use Rattle.laws_demand3.specs.Zones.{Each, zonesOf, WithinDay}
 use Rattle.laws_skip.specs.Skips.{needed-most}
 use Rattle.schedule.specs.declared.TimeAnswer.{TimeAnswer}
 use Rattle.schedule.specs.declared.TimeAnswer.the-variants as T

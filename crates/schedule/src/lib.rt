@@ -9,19 +9,19 @@ ghost use Rattle.model.specs.Calls as definition;
 ghost use Rattle.model.specs.Walk as way;
 ghost use Rattle.model.specs.Calls.{said, Windows};
 ghost use Rattle.instant.specs.Instant.{nanos};
-ghost use Rattle.blocks.specs.Counted.{size, most};
-ghost use Rattle.dates.specs.Dates.{InRange};
-ghost use Rattle.rules.specs.Rules.{scheduleIs, ScheduleFits};
-ghost use Rattle.spend.specs.Spending.{wayOf};
-ghost use Rattle.windows.specs.Distances.{Short};
+ghost use Rattle.block.specs.Counted.{size, most};
+ghost use Rattle.zone_local.specs.Dates.{InRange};
+ghost use Rattle.rule.specs.Rules.{scheduleIs, ScheduleFits};
+ghost use Rattle.walk_step.specs.Spending.{wayOf};
+ghost use Rattle.walk_distance.specs.Distances.{Short};
 ghost use Rattle.schedule.specs.Answers.{timeIs, timeCount, movedIs, movedCount, addIs, addCount, subIs, subCount};
-use blocks::Span;
-use edge::Duration;
-use edge::DurationMade;
-use edge::InstantRead;
-use edge::SpanRead;
+use block::Span;
 use instant::Instant;
-use rules::Schedule;
+use instant_signed::Duration;
+use instant_signed::DurationMade;
+use instant_signed::DurationRead;
+use instant_signed::InstantRead;
+use rule::Schedule;
 use walk::Reached;
 use walk::Summed;
 
@@ -52,12 +52,12 @@ pub enum Moved {
 // ---- the working time between two instants
 
 // A sum of working time as a duration, negative where the instants were turned round.
-fn told(minus: bool, r: Summed) -> TimeAnswer
+fn time_answer(minus: bool, r: Summed) -> TimeAnswer
     requires { ⌜ (r .time .sec < 2 ^ 63) × (r .time .ns < 1000000000) ⌝ }
     ensures { λ a. ⌜ (timeIs a ≡ gives (duration (record { minus = minus; size = size (r .time) }))) × (timeCount a ≡ r .windows) ⌝ }
 {
     let time = r.time;
-    let d = edge::pair(minus, time.sec, time.ns);
+    let d = instant_signed::pair(minus, time.sec, time.ns);
     TimeAnswer::Is(d.secs, d.nanos, r.windows)
 }
 
@@ -74,16 +74,16 @@ pub fn between_in(
     requires { ⌜ ScheduleFits (now book) (now pack) s ⌝ }
     ensures { λ r. ⌜ (timeIs r ≡ said (definition.betweenCall (scheduleIs (now (book .entry)) (now (pack .entry)) s) «a_sec» «a_ns» «b_sec» «b_ns»)) × Windows (timeCount r) (definition.betweenCall (scheduleIs (now (book .entry)) (now (pack .entry)) s) «a_sec» «a_ns» «b_sec» «b_ns») ⌝ }
 {
-    let InstantRead::At(a) = edge::instant_of(a_sec, a_ns) else {
+    let InstantRead::At(a) = instant_signed::instant_of(a_sec, a_ns) else {
         return TimeAnswer::Refused(8, 0);
     };
-    let InstantRead::At(b) = edge::instant_of(b_sec, b_ns) else {
+    let InstantRead::At(b) = instant_signed::instant_of(b_sec, b_ns) else {
         return TimeAnswer::Refused(8, 0);
     };
     if instant::precedes(b, a) {
-        return told(true, walk::between_walk(book, pack, s, b, a));
+        return time_answer(true, walk::between_walk(book, pack, s, b, a));
     }
-    told(false, walk::between_walk(book, pack, s, a, b))
+    time_answer(false, walk::between_walk(book, pack, s, a, b))
 }
 
 // The working time from the instant a to the instant b.
@@ -101,21 +101,21 @@ pub fn between(book: &[u8], pack: &[u8], a_sec: i64, a_ns: i64, b_sec: i64, b_ns
 // ---- an instant moved by working time
 
 // The instant at the distance x from t, on or back, which a search found in that number of windows.
-fn landed(t: Instant, back: bool, x: Span, windows: u64) -> Moved
+fn moved_to(t: Instant, back: bool, x: Span, windows: u64) -> Moved
     requires { ⌜ InRange t × Short x × (size x ≤ way.reach (wayOf back) (nanos t)) ⌝ }
     ensures { λ r. ⌜ (movedIs r ≡ gives (instant (way.at (wayOf back) (nanos t) (size x)))) × (movedCount r ≡ windows) ⌝ }
 {
-    let u = windows::at(t, back, x);
-    Moved::At(edge::seconds_of(u.sec), u.ns as i64, windows)
+    let u = walk_distance::at(t, back, x);
+    Moved::At(instant_signed::seconds_of(u.sec), u.ns as i64, windows)
 }
 
 // The instant that is d of working time on from t, or back from it.
-fn found(book: &[u8], pack: &[u8], s: Schedule, t: Instant, back: bool, d: Span) -> Moved
+fn search(book: &[u8], pack: &[u8], s: Schedule, t: Instant, back: bool, d: Span) -> Moved
     requires { ⌜ ScheduleFits (now book) (now pack) s × InRange t × (size d < most) × (d .ns < 1000000000) ⌝ }
     ensures { λ r. ⌜ (movedIs r ≡ said (definition.moved (wayOf back) (scheduleIs (now (book .entry)) (now (pack .entry)) s) (nanos t) (size d))) × Windows (movedCount r) (definition.moved (wayOf back) (scheduleIs (now (book .entry)) (now (pack .entry)) s) (nanos t) (size d)) ⌝ }
 {
     match walk::search_walk(book, pack, s, t, back, d) {
-        Reached::At(x, windows) => landed(t, back, x, windows),
+        Reached::At(x, windows) => moved_to(t, back, x, windows),
         Reached::NoWork => Moved::Refused(6, 0),
         Reached::OutOfRange => Moved::Refused(7, 0),
     }
@@ -136,21 +136,21 @@ pub fn move_in(
     requires { ⌜ ScheduleFits (now book) (now pack) s ⌝ }
     ensures { λ r. ⌜ (movedIs r ≡ said (definition.moveCall (wayOf back) (scheduleIs (now (book .entry)) (now (pack .entry)) s) «t_sec» «t_ns» «d_sec» «d_ns»)) × Windows (movedCount r) (definition.moveCall (wayOf back) (scheduleIs (now (book .entry)) (now (pack .entry)) s) «t_sec» «t_ns» «d_sec» «d_ns») ⌝ }
 {
-    let InstantRead::At(t) = edge::instant_of(t_sec, t_ns) else {
+    let InstantRead::At(t) = instant_signed::instant_of(t_sec, t_ns) else {
         return Moved::Refused(8, 0);
     };
-    let SpanRead::Signed(minus, sec, ns) = edge::span_of(d_sec, d_ns) else {
+    let DurationRead::Signed(minus, sec, ns) = instant_signed::duration_of(d_sec, d_ns) else {
         return Moved::Refused(9, 0);
     };
     let d = Span { sec, ns };
     if !minus {
-        return found(book, pack, s, t, back, d);
+        return search(book, pack, s, t, back, d);
     }
-    match edge::negate(Duration {
+    match instant_signed::negate(Duration {
         secs: d_sec,
         nanos: d_ns,
     }) {
-        DurationMade::Is(_) => found(book, pack, s, t, !back, d),
+        DurationMade::Is(_) => search(book, pack, s, t, !back, d),
         DurationMade::OutOfRange => Moved::Refused(7, 0),
         DurationMade::Malformed => Moved::Refused(9, 0),
     }

@@ -9,14 +9,14 @@ use Rattle.model.specs.Answer.{Answer, gives, refuses}
 use Rattle.model.specs.Instant.{week}
 use Rattle.model.specs.Blocks.{Block, total}
 use Rattle.model.specs.Working.{Schedule}
-use Rattle.model.specs.Walk.{Way, at, reach, ahead, search, found, gap, left, spend}
+use Rattle.model.specs.Walk.{Way, at, reach, ahead, search, found, gap, left, searchBlocks}
 use Rattle.model.specs.Skip.{repeats, neededSearch}
-use Rattle.laws_skip.specs.Edges.{Inside, spend-left, end-upto}
-use Rattle.laws_skip.specs.Skips.{Kept, fresh, known, keep, maySkip, Counted, counted, skipIn, Answers}
+use Rattle.laws_skip.specs.WindowEnds.{Inside, search-blocks-left, end-upto}
+use Rattle.laws_skip.specs.Skips.{Previous, fresh, known, keep, maySkip, Counted, counted, skipIn, Answers}
 use Rattle.laws_skip.specs.Loops.{searchRest, more, search-start, search-done, search-finds, search-gap, search-left, search-run}
 use Rattle.laws_skip.specs.Schedules.{search-skipping}
 use Rattle.laws_skip.specs.Books.{BuiltWell}
-use Rattle.seek.proofs.Moved.{spend-rest}
+use Rattle.walk_search_week.proofs.Moved.{search-blocks-rest}
 
 more-more : (c k : ℕ) (r : Counted) → more c (more k r) ≡ more (c + k) r
 more-more c k r = let q : c + (k + r .count) ≡ c + k + r .count = omega arith in λ i. record { answer = r .answer; count = q i }
@@ -26,7 +26,7 @@ more-nothing r = let q : 0 + r .count ≡ r .count = omega arith in λ i. record
 
 module _ (look : ℕ → ℕ → List Block) (rep : ℕ → Bool) (limit end d : ℕ) where
   -- at the distance x, with `rest` left to find: what is resolved so far, and the search from there, are the whole search
-  pub record Seeking (x last rest windows edge : ℕ) (k : Kept) : Type 0 where
+  pub record Seeking (x last rest windows edge : ℕ) (k : Previous) : Type 0 where
     pub upto : x ≤ end
     -- work last ended so far before x
     pub since : edge + last ≡ x
@@ -36,7 +36,7 @@ module _ (look : ℕ → ℕ → List Block) (rep : ℕ → Bool) (limit end d :
     pub few : x < end → windows * week ≤ x
     pub same : more windows (searchRest look rep limit end x last rest k) ≡ searchRest look rep limit end 0 0 d fresh
 
-  pub seeking-starts : 0 < d → (k : Kept) → k ≡ fresh → Seeking 0 0 d 0 0 k
+  pub seeking-starts : 0 < d → (k : Previous) → k ≡ fresh → Seeking 0 0 d 0 0 k
   seeking-starts h k e = record {
     upto = omega arith;
     since = omega arith;
@@ -47,7 +47,7 @@ module _ (look : ℕ → ℕ → List Block) (rep : ℕ → Bool) (limit end d :
     same = rw e (more-nothing (searchRest look rep limit end 0 0 d fresh));
   }
 
-  module _ (x last rest windows edge : ℕ) (k : Kept) (m : Seeking x last rest windows edge k) where
+  module _ (x last rest windows edge : ℕ) (k : Previous) (m : Seeking x last rest windows edge k) where
     -- windows that are skipped
     runs-on : (t n : ℕ) → k ≡ known t edge → 0 < n → x + n * week ≤ end → ((i : ℕ) → i < n → rep (x + i * week) ≡ true) → n * t < rest
         → Seeking (x + n * week) (last + n * week) (rest - n * t) windows edge (known t edge)
@@ -70,27 +70,27 @@ module _ (look : ℕ → ℕ → List Block) (rep : ℕ → Bool) (limit end d :
     module _ (h : x < end) (y : ℕ) (e : y ≡ min (x + week) end) where
       -- one that is resolved
       module _ (no-skip : maySkip k rest (eqb (min (x + week) end - x) week && rep x) ≡ false) where
-        pub seeking-finds : (z : ℕ) → found z ≡ spend limit y last rest (look x y) → counted (gives z) (windows + 1) ≡ searchRest look rep limit end 0 0 d fresh
+        pub seeking-finds : (z : ℕ) → found z ≡ searchBlocks limit y last rest (look x y) → counted (gives z) (windows + 1) ≡ searchRest look rep limit end 0 0 d fresh
         seeking-finds z f =
             ap (more windows) (sym (search-finds look rep limit end x last rest k h no-skip z (rw e at (sym f)))) ∙ m .same
 
-        pub seeking-gap : gap ≡ spend limit y last rest (look x y) → counted (refuses 6 0) (windows + 1) ≡ searchRest look rep limit end 0 0 d fresh
+        pub seeking-gap : gap ≡ searchBlocks limit y last rest (look x y) → counted (refuses 6 0) (windows + 1) ≡ searchRest look rep limit end 0 0 d fresh
         seeking-gap f =
             ap (more windows) (sym (search-gap look rep limit end x last rest k h no-skip (rw e at (sym f)))) ∙ m .same
 
-        pub seeking-left : (tidy : Inside x y (look x y)) (r l : ℕ) → left r l ≡ spend limit y last rest (look x y)
-            → (k′ : Kept) → k′ ≡ keep (eqb (y - x) week && ltb 0 (rest - r)) (rest - r) (y - l) → (edge′ : ℕ) → edge′ ≡ y - l
+        pub seeking-left : (tidy : Inside x y (look x y)) (r l : ℕ) → left r l ≡ searchBlocks limit y last rest (look x y)
+            → (k′ : Previous) → k′ ≡ keep (eqb (y - x) week && ltb 0 (rest - r)) (rest - r) (y - l) → (edge′ : ℕ) → edge′ ≡ y - l
             → Seeking y l r (windows + 1) edge′ k′
         seeking-left tidy r l f k′ g edge′ ee =
             let o = m .some in let i = m .less in let n = m .few h in let j = m .upto in let w = m .since in
-            let v = spend-left limit x y (look x y) tidy last rest o r l (sym f) in
+            let v = search-blocks-left limit x y (look x y) tidy last rest o r l (sym f) in
             let v0 = v .0 in let v1 = v .1 in let v2 = v .2 in
             let z = end-upto x y (look x y) tidy last (omega arith) in
             let t : total (look x y) ≡ rest - r = omega arith in
             record {
               upto = omega arith;
               since = omega arith;
-              near = (let q = spend-rest limit y last rest (look x y) r l (sym f) .1 in omega arith);
+              near = (let q = search-blocks-rest limit y last rest (look x y) r l (sym f) .1 in omega arith);
               some = omega arith;
               less = omega arith;
               few = λ z. omega arith;

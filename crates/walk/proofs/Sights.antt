@@ -7,7 +7,7 @@ use native.Mathlib.Omega.{arith}
 use Rattle.model.specs.Blocks.{Block, total}
 use Rattle.model.specs.Instant.{week}
 use Rattle.model.specs.Working.{Schedule, working}
-use Rattle.model.specs.Walk.{Way, on, back, reach, ahead, spend, backward}
+use Rattle.model.specs.Walk.{Way, on, back, reach, ahead, searchBlocks, backward}
 use Rattle.model.specs.Walk as walk
 use Rattle.laws_blocks.specs.Count.{span}
 use Rattle.laws_blocks.specs.Lists.{Lists}
@@ -15,13 +15,13 @@ use Rattle.laws_blocks.specs.Members.{covers, NonEmpty, Ends}
 use Rattle.laws_blocks.specs.Move.{moves}
 use Rattle.laws_blocks.specs.Totals.{lists-total}
 use Rattle.laws_blocks.specs.Turn.{after, behind, onward-lists, backward-lists}
-use Rattle.laws_skip.specs.Edges.{Inside}
+use Rattle.laws_skip.specs.WindowEnds.{Inside}
 use Rattle.laws_skip.specs.Schedules.{working-lists}
-use Rattle.pairs.specs.Pairs.{pairs}
-use Rattle.seek.specs.Steps.{takenIs, restOf, shifted, more}
-use Rattle.seek.specs.declared.Taken.{Taken}
-use Rattle.seek.specs.declared.Taken.the-variants as T
-use Rattle.seek.proofs.Moved.{spend-near}
+use Rattle.block_pairs.specs.Pairs.{pairs}
+use Rattle.walk_search_week.specs.Steps.{weekStepIs, restOf, shifted, more}
+use Rattle.walk_search_week.specs.declared.WeekStep.{WeekStep}
+use Rattle.walk_search_week.specs.declared.WeekStep.the-variants as T
+use Rattle.walk_search_week.proofs.Moved.{search-blocks-near}
 use Rattle.walk.proofs.Sums.{count-most}
 
 -- ---- the blocks
@@ -62,32 +62,32 @@ ahead-most back s t x y h k =
 
 -- from where work last ended to t
 module _ (s : Schedule) (t limit x y last D g w d : ℕ) (h : x ≤ y) (i : y ≤ x + week) (j : last ≤ x) (a : g ≡ x - last) (b : w ≡ y - x) (e : d ≡ min D (week + 1)) (q : walk.Step) (P : List Block) where
-  pub sight-on : y ≤ reach on t → moves x P ≡ ahead on s t x y → q ≡ spend limit (w + g) 0 d (moves g P) → shifted last (more (D - d) q) ≡ spend limit y last D (ahead on s t x y)
+  pub sight-on : y ≤ reach on t → moves x P ≡ ahead on s t x y → q ≡ searchBlocks limit (w + g) 0 d (moves g P) → shifted last (more (D - d) q) ≡ searchBlocks limit y last D (ahead on s t x y)
   sight-on k f r =
       let m = ahead-most on s t x y h k in
       ap (λ (z : walk.Step). shifted last (more (D - d) z)) r
-      ∙ sym (spend-near (week + 1) limit x y last g w D d (ahead on s t x y) P f (omega arith) (omega arith) (omega arith) e)
+      ∙ sym (search-blocks-near (week + 1) limit x y last g w D d (ahead on s t x y) P f (omega arith) (omega arith) (omega arith) e)
 
-  pub sight-back : y ≤ reach back t → moves x (backward (y - x) P) ≡ ahead back s t x y → q ≡ spend limit (w + g) 0 d (moves g (backward w P)) → shifted last (more (D - d) q) ≡ spend limit y last D (ahead back s t x y)
+  pub sight-back : y ≤ reach back t → moves x (backward (y - x) P) ≡ ahead back s t x y → q ≡ searchBlocks limit (w + g) 0 d (moves g (backward w P)) → shifted last (more (D - d) q) ≡ searchBlocks limit y last D (ahead back s t x y)
   sight-back k f r =
       let m = ahead-most back s t x y h k in
       let v : moves x (backward w P) ≡ ahead back s t x y = ap (λ (z : ℕ). moves x (backward z P)) b ∙ f in
       ap (λ (z : walk.Step). shifted last (more (D - d) z)) r
-      ∙ sym (spend-near (week + 1) limit x y last g w D d (ahead back s t x y) (backward w P) v (omega arith) (omega arith) (omega arith) e)
+      ∙ sym (search-blocks-near (week + 1) limit x y last g w D d (ahead back s t x y) (backward w P) v (omega arith) (omega arith) (omega arith) e)
 
 -- ---- from where work last ended, one answer
 
-module _ {r : Taken} (last k : ℕ) where
-  pub further-found : {z x : ℕ} → r ≡ T.Found z → x ≡ last + z → walk.found x ≡ shifted last (more k (takenIs r))
+module _ {r : WeekStep} (last k : ℕ) where
+  pub further-found : {z x : ℕ} → r ≡ T.Found z → x ≡ last + z → walk.found x ≡ shifted last (more k (weekStepIs r))
   further-found {z} p q = let e : last + z ≡ z + last = omega arith in rw p (ap walk.found (q ∙ e))
 
-  pub further-gap : r ≡ T.Gap → walk.gap ≡ shifted last (more k (takenIs r))
+  pub further-gap : r ≡ T.Gap → walk.gap ≡ shifted last (more k (weekStepIs r))
   further-gap p = rw p
 
-pub further-rest : {r : Taken} {rest m d : ℕ} → r ≡ T.Left rest m → restOf r ≤ d → rest ≤ d
+pub further-rest : {r : WeekStep} {rest m d : ℕ} → r ≡ T.Left rest m → restOf r ≤ d → rest ≤ d
 further-rest p h = rw p at h
 
-pub further-left : {r : Taken} (last D d : ℕ) {rest m a x : ℕ} → r ≡ T.Left rest m → restOf r ≤ d → d ≤ D → a ≡ D - (d - rest) → x ≡ last + m → walk.left a x ≡ shifted last (more (D - d) (takenIs r))
+pub further-left : {r : WeekStep} (last D d : ℕ) {rest m a x : ℕ} → r ≡ T.Left rest m → restOf r ≤ d → d ≤ D → a ≡ D - (d - rest) → x ≡ last + m → walk.left a x ≡ shifted last (more (D - d) (weekStepIs r))
 further-left {r} last D d {rest} {m} {a} {x} p h k e f =
     let i : rest ≤ d = further-rest p h in
     let u : a ≡ rest + (D - d) = omega arith in

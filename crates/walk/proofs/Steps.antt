@@ -11,17 +11,17 @@ use borrow.Author.Tests.{eq-eqb, ne-eqb, eqb-true, eqb-false, le-ltb}
 use Rattle.model.specs.Instant.{second, week, lastInstant}
 use Rattle.model.specs.Blocks.{Block, total}
 use Rattle.model.specs.Working.{Schedule, working}
-use Rattle.model.specs.Walk.{Step as Taken}
+use Rattle.model.specs.Walk.{Step as WeekStep}
 use Rattle.model.specs.Walk.{at}
 use Rattle.model.specs.Skip.{repeats}
 use Rattle.laws_base.specs.Test.{by-test}
 use Rattle.laws_skip.specs.Skips.{fresh, keep, maySkip}
-use Rattle.calm.specs.Calm.{beyond, Calm}
-use Rattle.blocks.specs.Counted.{size, most}
-use Rattle.walk.specs.declared.Kept.{Kept}
+use Rattle.walk_skip.specs.Repeating.{beyond, Repeating}
+use Rattle.block.specs.Counted.{size, most}
+use Rattle.walk.specs.declared.Previous.{Previous}
 use Rattle.walk.specs.Walks.{Reused, Skipped}
-use Rattle.spend.specs.Spending.{wayOf, stepIs}
-use Rattle.spend.specs.declared.Step.{Step}
+use Rattle.walk_step.specs.Spending.{wayOf, stepIs}
+use Rattle.walk_step.specs.declared.Step.{Step}
 use Rattle.walk.proofs.Sums.{working-most}
 
 -- ---- a week
@@ -56,7 +56,7 @@ kept-part w f g p = rw p
 
 -- ---- what is answered of a window
 
-pub took : {r r′ : Step} {x : Taken} → r ≡ r′ → stepIs r ≡ x → stepIs r′ ≡ x
+pub took : {r r′ : Step} {x : WeekStep} → r ≡ r′ → stepIs r ≡ x → stepIs r′ ≡ x
 took p q = rw (← p) q
 
 -- ---- many windows at once
@@ -136,7 +136,7 @@ may-not true t g left test (inr (inr e)) = rw e (only (ltb t left))
     only false = refl
 may-not false t g left test (inr (inr e)) = refl
 
-module _ (k : Kept) (left : ℕ) (rep : ℕ → Bool) (x end : ℕ) (h : x ≤ end) where
+module _ (k : Previous) (left : ℕ) (rep : ℕ → Bool) (x end : ℕ) (h : x ≤ end) where
   no-skip : (k .known ≡ false) ⊎ ((ltb (size (k .time)) left ≡ false) ⊎ ((eqb (min (x + week) end - x) week && rep x) ≡ false)) → Skipped k left rep x end 0
   no-skip w = record {
     none = λ q. may-not (k .known) (size (k .time)) (size (k .edge)) left (eqb (min (x + week) end - x) week && rep x) w;
@@ -195,7 +195,7 @@ module _ (k : Kept) (left : ℕ) (rep : ℕ → Bool) (x end : ℕ) (h : x ≤ e
         fewer f r t a b = let q = mul-le-mul-right t a in omega arith
 
 -- the borders from an instant on, as distances
-pub skipped-from : (s : Schedule) (w : Bool) (t x p : ℕ) {m : ℕ} → p ≡ at (wayOf w) t x → Calm w s p m
+pub skipped-from : (s : Schedule) (w : Bool) (t x p : ℕ) {m : ℕ} → p ≡ at (wayOf w) t x → Repeating w s p m
     → (m ≡ 0 → repeats s (at (wayOf w) t x) ≡ false) × ((i : ℕ) → i < m → repeats s (at (wayOf w) t (x + i * week)) ≡ true)
 skipped-from s w t x p e c =
     (λ z. sym (ap (repeats s) e) ∙ c .none z, λ i q. sym (ap (repeats s) (ap (λ v. beyond w v (i * week)) e ∙ beyond-at w t x (i * week))) ∙ c .each i q)

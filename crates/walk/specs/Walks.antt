@@ -8,13 +8,13 @@ use Rattle.model.specs.Instant.{week}
 use Rattle.model.specs.Walk.{Way, search}
 use Rattle.model.specs.Working as model
 use Rattle.model.specs.Skip.{neededSearch}
-use Rattle.laws_skip.specs.Skips.{Kept as Kept′, keep, maySkip}
+use Rattle.laws_skip.specs.Skips.{Previous as Previous′, keep, maySkip}
 use Rattle.instant.specs.Instant.{nanos}
 use Rattle.instant.specs.declared.Instant.{Instant}
-use Rattle.blocks.specs.Counted.{size}
-use Rattle.blocks.specs.declared.Span.{Span}
-use Rattle.dates.specs.Dates.{InRange}
-use Rattle.walk.specs.declared.Kept.{Kept}
+use Rattle.block.specs.Counted.{size}
+use Rattle.block.specs.declared.Span.{Span}
+use Rattle.zone_local.specs.Dates.{InRange}
+use Rattle.walk.specs.declared.Previous.{Previous}
 use Rattle.walk.specs.declared.Reached.{Reached}
 use Rattle.walk.specs.declared.Reached.the-variants as R
 
@@ -25,10 +25,10 @@ pub record Stretch (a b : Instant) : Type 0 where
   pub order : nanos a ≤ nanos b
 
 -- what is kept of a window
-abbrev pub keptIs : Kept → Kept′
-keptIs k = keep (k .known) (size (k .time)) (size (k .edge))
+abbrev pub previousIs : Previous → Previous′
+previousIs k = keep (k .known) (size (k .time)) (size (k .edge))
 
-pub record KeptExact (k : Kept) : Type 0 where
+pub record PreviousExact (k : Previous) : Type 0 where
   pub time : k .time .ns < 1000000000
   pub edge : k .edge .ns < 1000000000
 
@@ -40,8 +40,8 @@ pub record Reused (known : Bool) (rep : ℕ → Bool) (x end n : ℕ) : Type 0 w
   pub inside : x + n * week ≤ end
 
 -- n windows from the distance x on may be skipped in a search; and there is none only if the first may not
-pub record Skipped (k : Kept) (left : ℕ) (rep : ℕ → Bool) (x end n : ℕ) : Type 0 where
-  pub none : n ≡ 0 → maySkip (keptIs k) left (eqb (min (x + week) end - x) week && rep x) ≡ false
+pub record Skipped (k : Previous) (left : ℕ) (rep : ℕ → Bool) (x end n : ℕ) : Type 0 where
+  pub none : n ≡ 0 → maySkip (previousIs k) left (eqb (min (x + week) end - x) week && rep x) ≡ false
   pub some : 0 < n → k .known ≡ true
   pub less : 0 < n → n * size (k .time) < left
   pub each : (i : ℕ) → i < n → rep (x + i * week) ≡ true

@@ -12,22 +12,22 @@ ghost use Rattle.model.specs.Skip as model;
 ghost use Rattle.model.specs.Walk.{timeBetween, search, ahead};
 ghost use Rattle.model.specs.Walk as way;
 ghost use Rattle.laws_skip.specs.Skips as skips;
-ghost use Rattle.blocks.specs.Counted.{size, most};
-ghost use Rattle.rules.specs.Rules.{scheduleIs, ScheduleFits};
-ghost use Rattle.dates.specs.Dates.{InRange};
-ghost use Rattle.spend.specs.Spending.{wayOf, stepIs, Exact};
-ghost use Rattle.seek.specs.Steps.{takenIs, restOf, shifted, more};
-ghost use Rattle.week.specs.Room.{room};
-ghost use Rattle.windows.specs.Distances.{Short, Ahead};
-ghost use Rattle.walk.specs.Walks.{Stretch, keptIs, KeptExact, Reused, Skipped, reachedIs, Counts};
-use blocks::Span;
+ghost use Rattle.block.specs.Counted.{size, most};
+ghost use Rattle.rule.specs.Rules.{scheduleIs, ScheduleFits};
+ghost use Rattle.zone_local.specs.Dates.{InRange};
+ghost use Rattle.walk_step.specs.Spending.{wayOf, stepIs, Exact};
+ghost use Rattle.walk_search_week.specs.Steps.{weekStepIs, restOf, shifted, more};
+ghost use Rattle.window_week.specs.Room.{room};
+ghost use Rattle.walk_distance.specs.Distances.{Short, Ahead};
+ghost use Rattle.walk.specs.Walks.{Stretch, previousIs, PreviousExact, Reused, Skipped, reachedIs, Counts};
+use block::Span;
 use instant::Instant;
-use rules::Schedule;
-use seek::Taken;
-use spend::Step;
+use rule::Schedule;
+use walk_search_week::WeekStep;
+use walk_step::Step;
 
 // What is kept of a whole window with working time: that time, and the distance from where its work last ended to its end.
-pub struct Kept {
+pub struct Previous {
     pub known: bool,
     pub time: Span,
     pub edge: Span,
@@ -72,7 +72,7 @@ fn window_end(lo: Instant, b: Instant) -> Instant
         sec: b.sec,
         ns: b.ns,
     };
-    let y = windows::week_on(x, end);
+    let y = walk_distance::week_on(x, end);
     Instant {
         sec: y.sec,
         ns: y.ns,
@@ -111,7 +111,7 @@ fn weeks(x: Span, end: Span) -> u64
     requires { ⌜ Short x × Short end × (size x ≤ size end) ⌝ }
     ensures { λ r. ⌜ r ≡ (size end - size x) / week ⌝ }
 {
-    let d = spend::minus(end, x);
+    let d = walk_step::minus(end, x);
     d.sec / 604800
 }
 
@@ -169,7 +169,7 @@ fn repeated(book: &[u8], pack: &[u8], s: Schedule, known: bool, lo: Instant, b: 
     if n == 0 {
         return 0;
     }
-    least(n, calm::borders(book, pack, s, lo, false))
+    least(n, walk_skip::borders(book, pack, s, lo, false))
 }
 
 // A number of nanoseconds as seconds and nanoseconds.
@@ -196,13 +196,13 @@ pub fn between_walk(book: &[u8], pack: &[u8], s: Schedule, a: Instant, b: Instan
         let n = repeated(book, pack, s, known, lo, b);
         if n == 0 {
             let hi = window_end(lo, b);
-            kept = spanned(week::week_time(book, pack, s, lo, hi));
+            kept = spanned(window_week::week_time(book, pack, s, lo, hi));
             known = is_whole(lo, hi);
-            sum = blocks::added(sum, kept);
+            sum = block::added(sum, kept);
             windows += 1;
             lo = hi;
         } else {
-            sum = blocks::added(sum, times(kept, n));
+            sum = block::added(sum, times(kept, n));
             lo = weeks_after(lo, n, b);
         }
     }
@@ -216,7 +216,7 @@ fn fitting(time: Span, left: Span) -> u64
     requires { ⌜ (time .ns < 1000000000) × (size left < most) ⌝ }
     ensures { λ r. ⌜ (r ≡ 0 → size left ≤ size time) × (0 < r → r * size time < size left) ⌝ }
 {
-    if !spend::less(time, left) {
+    if !walk_step::less(time, left) {
         return 0;
     }
     let n = left.sec / (time.sec + 1);
@@ -234,12 +234,12 @@ fn skips(
     s: Schedule,
     t: Instant,
     back: bool,
-    k: Kept,
+    k: Previous,
     left: Span,
     x: Span,
     end: Span,
 ) -> u64
-    requires { ⌜ ScheduleFits (now book) (now pack) s × InRange t × Short x × Short end × (size x ≤ size end) × (size end ≤ way.reach (wayOf back) (nanos t)) × KeptExact k × (size left < most) ⌝ }
+    requires { ⌜ ScheduleFits (now book) (now pack) s × InRange t × Short x × Short end × (size x ≤ size end) × (size end ≤ way.reach (wayOf back) (nanos t)) × PreviousExact k × (size left < most) ⌝ }
     ensures { λ r. ⌜ Skipped k (size left) (λ y. model.repeats (scheduleIs (now (book .entry)) (now (pack .entry)) s) (way.at (wayOf back) (nanos t) y)) (size x) (size end) r ⌝ }
 {
     if !k.known {
@@ -254,22 +254,22 @@ fn skips(
     if m == 0 {
         return 0;
     }
-    let p = windows::at(t, back, x);
-    least(least(n, m), calm::borders(book, pack, s, p, back))
+    let p = walk_distance::at(t, back, x);
+    least(least(n, m), walk_skip::borders(book, pack, s, p, back))
 }
 
 // What is kept of the window from x to y, where `left` was to find before it, and `rest` after it, and work last ended at m.
-fn keep(x: Span, y: Span, left: Span, rest: Span, m: Span) -> Kept
+fn keep(x: Span, y: Span, left: Span, rest: Span, m: Span) -> Previous
     requires { ⌜ Short x × Short y × (size left < most) ⌝ }
-    ensures { λ r. ⌜ (keptIs r ≡ skips.keep (eqb (size y - size x) week && ltb 0 (size left - size rest)) (size left - size rest) (size y - size m)) × KeptExact r × (size (r .edge) ≡ size y - size m) ⌝ }
+    ensures { λ r. ⌜ (previousIs r ≡ skips.keep (eqb (size y - size x) week && ltb 0 (size left - size rest)) (size left - size rest) (size y - size m)) × PreviousExact r × (size (r .edge) ≡ size y - size m) ⌝ }
 {
-    let time = spend::minus(left, rest);
-    let edge = spend::minus(y, m);
+    let time = walk_step::minus(left, rest);
+    let edge = walk_step::minus(y, m);
     let mut known = false;
     if is_week(x, y) {
-        known = spend::less(Span { sec: 0, ns: 0 }, time);
+        known = walk_step::less(Span { sec: 0, ns: 0 }, time);
     }
-    Kept { known, time, edge }
+    Previous { known, time, edge }
 }
 
 // A length of time in nanoseconds.
@@ -281,7 +281,7 @@ fn nanoseconds(x: Span) -> u64
 }
 
 // What is looked for in a window: what is left to find, or a nanosecond more than a week if that is less. No window has so much.
-fn sought(left: Span) -> u64
+fn wanted(left: Span) -> u64
     requires { ⌜ left .ns < 1000000000 ⌝ }
     ensures { λ r. ⌜ r ≡ min (size left) (week + 1) ⌝ }
 {
@@ -292,23 +292,23 @@ fn sought(left: Span) -> u64
 }
 
 // What a window leaves, its distances from where work last ended, as distances from t. Of what is left to find, d was looked for.
-fn further(r: Taken, last: Span, left: Span, d: u64) -> Step
+fn further(r: WeekStep, last: Span, left: Span, d: u64) -> Step
     requires { ⌜ Short last × (size left < most) × (left .ns < 1000000000) × (d ≤ size left) × (restOf r ≤ d) ⌝ }
-    ensures { λ x. ⌜ (stepIs x ≡ shifted (size last) (more (size left - d) (takenIs r))) × Exact x ⌝ }
+    ensures { λ x. ⌜ (stepIs x ≡ shifted (size last) (more (size left - d) (weekStepIs r))) × Exact x ⌝ }
 {
     match r {
-        Taken::Found(z) => Step::Found(blocks::added(last, spanned(z))),
-        Taken::Gap => Step::Gap,
-        Taken::Left(rest, m) => {
+        WeekStep::Found(z) => Step::Found(block::added(last, spanned(z))),
+        WeekStep::Gap => Step::Gap,
+        WeekStep::Left(rest, m) => {
             let time = spanned(d - rest);
-            Step::Left(spend::minus(left, time), blocks::added(last, spanned(m)))
+            Step::Left(walk_step::minus(left, time), block::added(last, spanned(m)))
         }
     }
 }
 
 // What the window from x to y leaves, where `left` is to find and work last ended at `last`, no more than the limit before x. Its blocks are found
 // in lent memory.
-fn look_into(
+fn search_window(
     book: &[u8],
     pack: &[u8],
     s: Schedule,
@@ -323,17 +323,27 @@ fn look_into(
     out: &mut [u64],
 ) -> Step
     requires { ⌜ ScheduleFits (now book) (now pack) s × InRange t × Ahead (wayOf back) (nanos t) x y × (last .ns < 1000000000) × (size left < most) × (left .ns < 1000000000) × (size last ≤ size x) × (size x ≤ size last + s .limit * second) × (room s ≤ length (now on)) × (room s ≤ length (now off)) × (room s ≤ length (now out)) ⌝ }
-    ensures { λ r. ⌜ (stepIs r ≡ way.spend (s .limit * second) (size y) (size last) (size left) (ahead (wayOf back) (scheduleIs (now (book .entry)) (now (pack .entry)) s) (nanos t) (size x) (size y))) × Exact r ⌝ }
+    ensures { λ r. ⌜ (stepIs r ≡ way.searchBlocks (s .limit * second) (size y) (size last) (size left) (ahead (wayOf back) (scheduleIs (now (book .entry)) (now (pack .entry)) s) (nanos t) (size x) (size y))) × Exact r ⌝ }
 {
-    let g = nanoseconds(spend::minus(x, last));
-    let w = nanoseconds(spend::minus(y, x));
-    let d = sought(left);
+    let g = nanoseconds(walk_step::minus(x, last));
+    let w = nanoseconds(walk_step::minus(y, x));
+    let d = wanted(left);
     let limit = s.limit * 1000000000;
-    let n = windows::window_into(book, pack, s, t, back, x, y, on, off, out);
+    let n = walk_distance::window_into(book, pack, s, t, back, x, y, on, off, out);
     if back {
-        return further(seek::spend_back(out, n, limit, g, w, d), last, left, d);
+        return further(
+            walk_search_week::search_backward(out, n, limit, g, w, d),
+            last,
+            left,
+            d,
+        );
     }
-    further(seek::spend_on(out, n, limit, g, w, d), last, left, d)
+    further(
+        walk_search_week::search_forward(out, n, limit, g, w, d),
+        last,
+        left,
+        d,
+    )
 }
 
 // The same, for a schedule of any size.
@@ -349,12 +359,12 @@ fn large_look(
     left: Span,
 ) -> Step
     requires { ⌜ ScheduleFits (now book) (now pack) s × InRange t × Ahead (wayOf back) (nanos t) x y × (last .ns < 1000000000) × (size left < most) × (left .ns < 1000000000) × (size last ≤ size x) × (size x ≤ size last + s .limit * second) ⌝ }
-    ensures { λ r. ⌜ (stepIs r ≡ way.spend (s .limit * second) (size y) (size last) (size left) (ahead (wayOf back) (scheduleIs (now (book .entry)) (now (pack .entry)) s) (nanos t) (size x) (size y))) × Exact r ⌝ }
+    ensures { λ r. ⌜ (stepIs r ≡ way.searchBlocks (s .limit * second) (size y) (size last) (size left) (ahead (wayOf back) (scheduleIs (now (book .entry)) (now (pack .entry)) s) (nanos t) (size x) (size y))) × Exact r ⌝ }
 {
     let mut on = [0u64; 1122];
     let mut off = [0u64; 1122];
     let mut out = [0u64; 1122];
-    look_into(
+    search_window(
         book,
         pack,
         s,
@@ -383,7 +393,7 @@ fn look(
     left: Span,
 ) -> Step
     requires { ⌜ ScheduleFits (now book) (now pack) s × InRange t × Ahead (wayOf back) (nanos t) x y × (last .ns < 1000000000) × (size left < most) × (left .ns < 1000000000) × (size last ≤ size x) × (size x ≤ size last + s .limit * second) ⌝ }
-    ensures { λ r. ⌜ (stepIs r ≡ way.spend (s .limit * second) (size y) (size last) (size left) (ahead (wayOf back) (scheduleIs (now (book .entry)) (now (pack .entry)) s) (nanos t) (size x) (size y))) × Exact r ⌝ }
+    ensures { λ r. ⌜ (stepIs r ≡ way.searchBlocks (s .limit * second) (size y) (size last) (size left) (ahead (wayOf back) (scheduleIs (now (book .entry)) (now (pack .entry)) s) (nanos t) (size x) (size y))) × Exact r ⌝ }
 {
     if 4 < s.works + s.pauses + s.closings {
         return large_look(book, pack, s, t, back, x, y, last, left);
@@ -391,7 +401,7 @@ fn look(
     let mut on = [0u64; 114];
     let mut off = [0u64; 114];
     let mut out = [0u64; 114];
-    look_into(
+    search_window(
         book,
         pack,
         s,
@@ -408,7 +418,7 @@ fn look(
 }
 
 // The distance from t at which d of working time is spent, d not zero; `end` is the distance of the range's end.
-fn seek(
+fn search_from(
     book: &[u8],
     pack: &[u8],
     s: Schedule,
@@ -424,16 +434,16 @@ fn seek(
     let mut x = zero;
     let mut last = zero;
     let mut left = d;
-    let mut kept = Kept {
+    let mut kept = Previous {
         known: false,
         time: zero,
         edge: zero,
     };
     let mut resolved: u64 = 0;
-    while spend::less(x, end) {
+    while walk_step::less(x, end) {
         let n = skips(book, pack, s, t, back, kept, left, x, end);
         if n == 0 {
-            let y = windows::week_on(x, end);
+            let y = walk_distance::week_on(x, end);
             let step = look(book, pack, s, t, back, x, y, last, left);
             resolved += 1;
             match step {
@@ -448,7 +458,7 @@ fn seek(
             }
         } else {
             let time = kept.time;
-            left = spend::minus(left, times(time, n));
+            left = walk_step::minus(left, times(time, n));
             last = weeks_on(last, n);
             x = weeks_on(x, n);
         }
@@ -469,9 +479,9 @@ pub fn search_walk(
     ensures { λ r. ⌜ (reachedIs r ≡ search (wayOf back) (scheduleIs (now (book .entry)) (now (pack .entry)) s) (nanos t) (size d)) × Counts (wayOf back) (scheduleIs (now (book .entry)) (now (pack .entry)) s) (nanos t) (size d) r ⌝ }
 {
     let zero = Span { sec: 0, ns: 0 };
-    if !spend::less(zero, d) {
+    if !walk_step::less(zero, d) {
         return Reached::At(zero, 0);
     }
-    let end = windows::reach(t, back);
-    seek(book, pack, s, t, back, end, d)
+    let end = walk_distance::reach(t, back);
+    search_from(book, pack, s, t, back, end, d)
 }

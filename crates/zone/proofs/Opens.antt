@@ -8,18 +8,18 @@ use Rattle.model.specs.Footer as model
 use Rattle.model.specs.Tzif.{zoneOf}
 use Rattle.model.specs.Zone.{utc}
 use Rattle.laws_zone.specs.Zones.{ZoneFits, zone-fits}
-use Rattle.tzif.specs.declared.Layout.{Layout}
-use Rattle.tzif.specs.declared.TzifRead.the-variants as T
-use Rattle.tzif.specs.Places.{readOf, lineAt}
-use Rattle.tzif.specs.Opened.{utcLayout, utc-opened, utc-zone}
-use Rattle.tzif.proofs.Laws.{opened, zone-read}
-use Rattle.footer.specs.declared.Footer.{Footer}
-use Rattle.footer.specs.declared.Footer.the-variants.{Empty, Fixed, Rules, Broken}
-use Rattle.footer.specs.Parsed.{footerIs}
+use Rattle.zone_tzif.specs.declared.Layout.{Layout}
+use Rattle.zone_tzif.specs.declared.TzifRead.the-variants as T
+use Rattle.zone_tzif.specs.Places.{readOf, lineAt}
+use Rattle.zone_tzif.specs.Opened.{utcLayout, utc-opened, utc-zone}
+use Rattle.zone_tzif.proofs.Laws.{opened, zone-read}
+use Rattle.zone_footer.specs.declared.Footer.{Footer}
+use Rattle.zone_footer.specs.declared.Footer.the-variants.{Empty, Fixed, Rules, Broken}
+use Rattle.zone_footer.specs.Parsed.{footerIs}
 use Rattle.zone.specs.declared.Zone.{Zone}
 use Rattle.zone.specs.declared.ZoneRead.{ZoneRead}
 use Rattle.zone.specs.declared.ZoneRead.the-variants as R
-use Rattle.zone.specs.Zones.{meant, ZoneOk, zoneRead, Fine, opened as fine-zone, refused, ruled}
+use Rattle.zone.specs.Zones.{meant, ZoneOk, zoneRead, ReadOk, opened as fine-zone, refused, ruled}
 
 abbrev zone : Layout → Footer → Zone
 zone l foot = record { table = l; footer = foot }
@@ -34,7 +34,7 @@ ruled-broken l e = rw e
 
 -- what `open` promises of its answer
 abbrev Opens : List ℕ → ZoneRead → Type 0
-Opens f r = (zoneRead f r ≡ zoneOf f) × Fine f r
+Opens f r = (zoneRead f r ≡ zoneOf f) × ReadOk f r
 
 module _ (f : List ℕ) (l : Layout) (e : readOf f ≡ T.Table l) where
   whole : (foot : Footer) → zoneOf f ≡ some (meant f (zone l foot)) → Opens f (R.Opened (zone l foot))

@@ -12,10 +12,10 @@ use Rattle.laws_zone.specs.Resolve.{Resolves}
 use Rattle.laws_zone.specs.Runs.{Run, Low, Past, low-start, low-found, low-next, low-jump, past-found, past-next}
 use Rattle.model.specs.Footer.{Footer}
 use Rattle.model.specs.Zone.{offsetAt, ruledAt}
-use Rattle.tzif.specs.declared.Layout.{Layout}
-use Rattle.tzif.specs.Places.{offsetAfter, timeAt}
-use Rattle.tzif.specs.Opened.{Opened, zoneAt, countAt}
-use Rattle.tzif.proofs.Laws.{offset-early, offset-late, count-end, table-run}
+use Rattle.zone_tzif.specs.declared.Layout.{Layout}
+use Rattle.zone_tzif.specs.Places.{offsetAfter, timeAt}
+use Rattle.zone_tzif.specs.Opened.{Opened, zoneAt, countAt}
+use Rattle.zone_tzif.proofs.Laws.{offset-early, offset-late, count-end, table-run}
 use Rattle.zone.specs.Zones.{inRun}
 
 pub in-run-yes : (u o e x : ℕ) → inRun u o e x ≡ true → (u + o ≤ x) × (x - o < e)

@@ -7,11 +7,11 @@ use Prim.Native.Nat.{ℕ, _+_, _-_}
 use lib.Dec.{leb, ltb}
 use Rattle.model.specs.Tzif as model
 use Rattle.laws_zone.specs.Zones.{ZoneFits}
-use Rattle.tzif.specs.Opened.{Opened, zoneAt}
-use Rattle.tzif.specs.declared.Layout.{Layout}
-use Rattle.footer.specs.declared.Footer.{Footer}
-use Rattle.footer.specs.declared.Footer.the-variants as F
-use Rattle.turns.specs.Turning.{theFooter}
+use Rattle.zone_tzif.specs.Opened.{Opened, zoneAt}
+use Rattle.zone_tzif.specs.declared.Layout.{Layout}
+use Rattle.zone_footer.specs.declared.Footer.{Footer}
+use Rattle.zone_footer.specs.declared.Footer.the-variants as F
+use Rattle.zone_changes.specs.Meaning.{theFooter}
 use Rattle.zone.specs.declared.Zone.{Zone}
 use Rattle.zone.specs.declared.ZoneRead.{ZoneRead}
 use Rattle.zone.specs.declared.ZoneRead.the-variants as R
@@ -37,14 +37,14 @@ ruled l (F.Rules a b s e) = R.Opened (record { table = l; footer = F.Rules a b s
 ruled l F.Broken = R.Unusable
 
 -- a zone that it opened is one to look up in
-pub data Fine (f : List ℕ) : ZoneRead → Type 0 where
-  opened : {z : Zone} → ZoneOk f z → Fine f (R.Opened z)
-  refused : Fine f R.Unusable
+pub data ReadOk (f : List ℕ) : ZoneRead → Type 0 where
+  opened : {z : Zone} → ZoneOk f z → ReadOk f (R.Opened z)
+  refused : ReadOk f R.Unusable
 
-pub zone-inside : {f : List ℕ} {r : ZoneRead} {z : Zone} → Fine f r → r ≡ R.Opened z → ZoneOk f z
+pub zone-inside : {f : List ℕ} {r : ZoneRead} {z : Zone} → ReadOk f r → r ≡ R.Opened z → ZoneOk f z
 zone-inside {f} {r} {z} k e = go (rw e at k)
   where
-    go : Fine f (R.Opened z) → ZoneOk f z
+    go : ReadOk f (R.Opened z) → ZoneOk f z
     go (opened o) = o
 
 -- a run from u up to e with the offset o holds a second that reads x

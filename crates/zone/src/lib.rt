@@ -7,12 +7,12 @@ ghost use Rattle.model.specs.Zone as model;
 ghost use Rattle.model.specs.Tzif.{zoneOf};
 ghost use Rattle.laws_zone.specs.Resolve.{Resolves};
 ghost use Rattle.laws_zone.specs.Runs as runs;
-ghost use Rattle.zone.specs.Zones.{meant, ZoneOk, zoneRead, Fine, ruled, inRun};
-use footer::Footer;
+ghost use Rattle.zone.specs.Zones.{meant, ZoneOk, zoneRead, ReadOk, ruled, inRun};
 use instant::Instant;
-use turns::Span;
-use tzif::Layout;
-use tzif::TzifRead;
+use zone_changes::OffsetUntil;
+use zone_footer::Footer;
+use zone_tzif::Layout;
+use zone_tzif::TzifRead;
 
 pub struct Zone {
     pub table: Layout,
@@ -38,14 +38,14 @@ fn joined(table: Layout, footer: Footer) -> ZoneRead
 
 // The zone of a file, where it is usable.
 pub fn open(f: &[u8]) -> ZoneRead
-    ensures { λ r. ⌜ (zoneRead (now (f .entry)) r ≡ zoneOf (now (f .entry))) × Fine (now (f .entry)) r ⌝ }
+    ensures { λ r. ⌜ (zoneRead (now (f .entry)) r ≡ zoneOf (now (f .entry))) × ReadOk (now (f .entry)) r ⌝ }
 {
-    let TzifRead::Table(table) = tzif::read(f) else {
+    let TzifRead::Table(table) = zone_tzif::read(f) else {
         return ZoneRead::Unusable;
     };
     let at = table.line;
     let len = table.len;
-    let footer = footer::parse(be::part(f, at, len));
+    let footer = zone_footer::parse(big_endian::part(f, at, len));
     joined(table, footer)
 }
 
@@ -53,27 +53,27 @@ pub fn open(f: &[u8]) -> ZoneRead
 pub fn utc() -> Zone
     ensures { λ r. ⌜ ((f : List ℕ) → (meant f r ≡ model.utc) × ZoneOk f r) ⌝ }
 {
-    let table = tzif::utc();
+    let table = zone_tzif::utc();
     let footer = Footer::Empty;
     Zone { table, footer }
 }
 
 // The offset at u, and a second before which it stays.
-pub fn run_at(f: &[u8], z: Zone, u: u64) -> Span
+pub fn run_at(f: &[u8], z: Zone, u: u64) -> OffsetUntil
     requires { ⌜ ZoneOk (now f) z × (u < 656384601600) ⌝ }
     ensures { λ r. ⌜ (r .offset ≡ model.offsetAt (meant (now (f .entry)) z) u) × runs.Run (model.offsetAt (meant (now (f .entry)) z)) u (r .until) ⌝ }
 {
     let table = z.table;
-    let k = tzif::count_at(f, table, u);
-    let offset = tzif::table_offset(f, table, k);
+    let k = zone_tzif::count_at(f, table, u);
+    let offset = zone_tzif::table_offset(f, table, k);
     if k < table.count {
-        return Span {
+        return OffsetUntil {
             offset,
-            until: tzif::time_at(f, table, k),
+            until: zone_tzif::time_at(f, table, k),
         };
     }
     let footer = z.footer;
-    turns::span_at(footer, offset, u)
+    zone_changes::footer_run_at(footer, offset, u)
 }
 
 // A run from u up to e with the offset o holds a second that reads x.

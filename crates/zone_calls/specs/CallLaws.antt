@@ -27,19 +27,19 @@ use Rattle.civil.specs.declared.TimeRead.{TimeRead}
 use Rattle.civil.specs.declared.TimeRead.the-variants as T
 use Rattle.instant.specs.Instant.{nanos}
 use Rattle.instant.specs.declared.Instant.{Instant}
-use Rattle.edge.specs.Signed.{off, unoff, sub-nat, sub-neg, off-plus, off-minus, unoff-low, unoff-high}
-use Rattle.edge.specs.Reads.{ofNanos, instantRead, secondsFrom}
-use Rattle.edge.specs.declared.InstantRead.{InstantRead}
-use Rattle.edge.specs.declared.InstantRead.the-variants as I
+use Rattle.instant_signed.specs.Signed.{biased, unbiased, sub-nat, sub-neg, biased-plus, biased-minus, unbiased-low, unbiased-high}
+use Rattle.instant_signed.specs.Reads.{ofNanos, instantRead, secondsFrom}
+use Rattle.instant_signed.specs.declared.InstantRead.{InstantRead}
+use Rattle.instant_signed.specs.declared.InstantRead.the-variants as I
 use Rattle.zone.specs.Zones.{meant, zoneRead}
 use Rattle.zone.specs.declared.Zone.{Zone}
 use Rattle.zone.specs.declared.ZoneRead.{ZoneRead}
 use Rattle.zone.specs.declared.ZoneRead.the-variants as Z
 use Rattle.model.specs.NextChange.{nextChange}
-use Rattle.next_change.specs.NextIs.{theNext}
-use Rattle.next_change.specs.NextLaws.{next-in}
-use Rattle.next_change.specs.declared.Next.{Next}
-use Rattle.next_change.specs.declared.Next.the-variants as N
+use Rattle.zone_next_change.specs.NextIs.{theNext}
+use Rattle.zone_next_change.specs.NextLaws.{next-in}
+use Rattle.zone_next_change.specs.declared.Next.{Next}
+use Rattle.zone_next_change.specs.declared.Next.the-variants as N
 use Rattle.model.specs.ZoneCalls.{zoneIn, east, offsetCall, changeCall, yearFrom, dayGiven, timeGiven, resolveCall}
 use Rattle.zone_calls.specs.Given.{capped, dayIs}
 
@@ -110,12 +110,12 @@ written i n h e p q =
 
 -- ---- the offset and the next change
 
-pub east-is : (o k : ℕ) → k + 93600 ≡ 2 ^ 63 + o → unoff k ≡ east o
+pub east-is : (o k : ℕ) → k + 93600 ≡ 2 ^ 63 + o → unbiased k ≡ east o
 unfolding east
 east-is o k e =
     by-test (ltb o 93600)
-    (λ t. let h = ltb-true o 93600 t in unoff-low k (omega arith) ∙ ap negsuc (omega arith) ∙ sym (sub-neg o 93600 h))
-    (λ t. let h = ltb-false o 93600 t in unoff-high k (omega arith) ∙ ap pos (omega arith) ∙ sym (sub-nat o 93600 h))
+    (λ t. let h = ltb-true o 93600 t in unbiased-low k (omega arith) ∙ ap negsuc (omega arith) ∙ sym (sub-neg o 93600 h))
+    (λ t. let h = ltb-false o 93600 t in unbiased-high k (omega arith) ∙ ap pos (omega arith) ∙ sym (sub-nat o 93600 h))
 
 module _ (f : List ℕ) {r : ZoneRead} (e : zoneRead f r ≡ zoneOf f) (s n : ℤ) where
   pub offset-unusable : r ≡ Z.Unusable → refuses 5 0 ≡ offsetCall f s n
@@ -160,32 +160,32 @@ change-in z u {n} {v} h k = next-in z u v (sym h ∙ ap theNext k)
 
 -- ---- numbers with a cap
 
-pub cap-low : (z : ℤ) (cap : ℕ) → SFits w64 z → off z < 2 ^ 63 → cap ≡ capped z cap
+pub cap-low : (z : ℤ) (cap : ℕ) → SFits w64 z → biased z < 2 ^ 63 → cap ≡ capped z cap
 unfolding capped
-cap-low (pos n) cap f h = absurd (omega (arith, off-plus n))
+cap-low (pos n) cap f h = absurd (omega (arith, biased-plus n))
 cap-low (negsuc n) cap f h = refl
 
-pub cap-high : (z : ℤ) (cap : ℕ) → SFits w64 z → cap < off z - 2 ^ 63 → cap ≡ capped z cap
+pub cap-high : (z : ℤ) (cap : ℕ) → SFits w64 z → cap < biased z - 2 ^ 63 → cap ≡ capped z cap
 unfolding capped
-cap-high (pos n) cap f h = omega (arith, off-plus n)
+cap-high (pos n) cap f h = omega (arith, biased-plus n)
 cap-high (negsuc n) cap f h = refl
 
-pub cap-is : (z : ℤ) (cap : ℕ) {x : ℕ} → SFits w64 z → 2 ^ 63 ≤ off z → x ≤ cap → x ≡ off z - 2 ^ 63 → x ≡ capped z cap
+pub cap-is : (z : ℤ) (cap : ℕ) {x : ℕ} → SFits w64 z → 2 ^ 63 ≤ biased z → x ≤ cap → x ≡ biased z - 2 ^ 63 → x ≡ capped z cap
 unfolding capped
-cap-is (pos n) cap f h k e = omega (arith, off-plus n)
-cap-is (negsuc n) cap f h k e = absurd (omega (arith, off-minus n (f .sfits), f .sfits))
+cap-is (pos n) cap f h k e = omega (arith, biased-plus n)
+cap-is (negsuc n) cap f h k e = absurd (omega (arith, biased-minus n (f .sfits), f .sfits))
 
-pub year-low : (z : ℤ) → SFits w64 z → off z < 2 ^ 63 - 10400 → 0 ≡ min (yearFrom z) 20800
-year-low (pos n) f h = absurd (omega (arith, off-plus n))
-year-low (negsuc n) f h = omega (arith, off-minus n (f .sfits), f .sfits)
+pub year-low : (z : ℤ) → SFits w64 z → biased z < 2 ^ 63 - 10400 → 0 ≡ min (yearFrom z) 20800
+year-low (pos n) f h = absurd (omega (arith, biased-plus n))
+year-low (negsuc n) f h = omega (arith, biased-minus n (f .sfits), f .sfits)
 
-pub year-high : (z : ℤ) → SFits w64 z → 2 ^ 63 + 10400 < off z → 20800 ≡ min (yearFrom z) 20800
-year-high (pos n) f h = omega (arith, off-plus n)
-year-high (negsuc n) f h = absurd (omega (arith, off-minus n (f .sfits), f .sfits))
+pub year-high : (z : ℤ) → SFits w64 z → 2 ^ 63 + 10400 < biased z → 20800 ≡ min (yearFrom z) 20800
+year-high (pos n) f h = omega (arith, biased-plus n)
+year-high (negsuc n) f h = absurd (omega (arith, biased-minus n (f .sfits), f .sfits))
 
-pub year-is : (z : ℤ) {x : ℕ} → SFits w64 z → off z ≤ 2 ^ 63 + 10400 → x + 2 ^ 63 ≡ off z + 10400 → x ≡ min (yearFrom z) 20800
-year-is (pos n) f h e = omega (arith, off-plus n)
-year-is (negsuc n) f h e = omega (arith, off-minus n (f .sfits), f .sfits)
+pub year-is : (z : ℤ) {x : ℕ} → SFits w64 z → biased z ≤ 2 ^ 63 + 10400 → x + 2 ^ 63 ≡ biased z + 10400 → x ≡ min (yearFrom z) 20800
+year-is (pos n) f h e = omega (arith, biased-plus n)
+year-is (negsuc n) f h e = omega (arith, biased-minus n (f .sfits), f .sfits)
 
 -- what is below the cap is the number itself
 kept : (z : ℤ) (cap : ℕ) → capped z cap < cap → z ≡ pos (capped z cap)

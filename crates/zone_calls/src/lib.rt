@@ -10,9 +10,9 @@ use book::Time;
 use civil::Date;
 use civil::DayRead;
 use civil::TimeRead;
-use edge::InstantRead;
-use next_change::Next;
+use instant_signed::InstantRead;
 use zone::ZoneRead;
+use zone_next_change::Next;
 
 // 2^63, which `lift` adds and `lower` takes off.
 const HALF: u64 = 9223372036854775808;
@@ -29,7 +29,7 @@ pub enum OffsetAnswer {
 fn east(offset: u32) -> i64
     ensures { λ r. ⌜ r ≡ definition.east offset ⌝ }
 {
-    edge::lower(HALF + offset as u64 - 93600)
+    instant_signed::lower(HALF + offset as u64 - 93600)
 }
 
 // The offset at an instant.
@@ -39,7 +39,7 @@ pub fn offset_in(file: &[u8], sec: i64, ns: i64) -> OffsetAnswer
     let ZoneRead::Opened(z) = zone::open(file) else {
         return OffsetAnswer::Refused(5, 0);
     };
-    let InstantRead::At(t) = edge::instant_of(sec, ns) else {
+    let InstantRead::At(t) = instant_signed::instant_of(sec, ns) else {
         return OffsetAnswer::Refused(8, 0);
     };
     let r = zone::run_at(file, z, t.sec);
@@ -62,13 +62,13 @@ pub fn next_change_in(file: &[u8], sec: i64, ns: i64) -> ChangeAnswer
     let ZoneRead::Opened(z) = zone::open(file) else {
         return ChangeAnswer::Refused(5, 0);
     };
-    let InstantRead::At(t) = edge::instant_of(sec, ns) else {
+    let InstantRead::At(t) = instant_signed::instant_of(sec, ns) else {
         return ChangeAnswer::Refused(8, 0);
     };
-    let Next::At(v) = next_change::next_change(file, z, t.sec) else {
+    let Next::At(v) = zone_next_change::next_change(file, z, t.sec) else {
         return ChangeAnswer::Never;
     };
-    ChangeAnswer::At(edge::seconds_of(v), 0)
+    ChangeAnswer::At(instant_signed::seconds_of(v), 0)
 }
 
 // ---- the instant of a local time
@@ -83,7 +83,7 @@ pub enum ResolveAnswer {
 fn capped(x: i64, cap: u32) -> u32
     ensures { λ r. ⌜ r ≡ capped x cap ⌝ }
 {
-    let k = edge::lift(x);
+    let k = instant_signed::lift(x);
     if k < HALF {
         return cap;
     }
@@ -97,7 +97,7 @@ fn capped(x: i64, cap: u32) -> u32
 fn year_from(year: i64) -> u32
     ensures { λ r. ⌜ r ≡ min (definition.yearFrom year) 20800 ⌝ }
 {
-    let k = edge::lift(year);
+    let k = instant_signed::lift(year);
     if k < HALF - 10400 {
         return 0;
     }
@@ -141,6 +141,6 @@ pub fn resolve_in(
         return ResolveAnswer::Refused(8, 0);
     };
     let time = Time { seconds, nanos };
-    let t = dates::resolve(file, z, d, time);
-    ResolveAnswer::At(edge::seconds_of(t.sec), t.ns as i64)
+    let t = zone_local::resolve(file, z, d, time);
+    ResolveAnswer::At(instant_signed::seconds_of(t.sec), t.ns as i64)
 }

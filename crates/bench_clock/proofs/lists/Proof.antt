@@ -7,7 +7,7 @@ use lib.ListN.{length}
 use native.Mathlib.Omega.{arith}
 use borrow.Author.Needs.{needs}
 use mir.Facts.{toZ-ofZ}
-use Rattle.rules.specs.Rules.{scheduleIs}
+use Rattle.rule.specs.Rules.{scheduleIs}
 use Rattle.bench_clock.specs.Asked.{listed}
 use Rattle.bench_clock.proofs.Steps.{lists-turned, lists-none}
 use Rattle.bench_clock.proofs.lists.Statement.{statement}

@@ -4,7 +4,7 @@ use mathlib.Core.Path.{_≡_, refl, sym, _∙_, ap}
 use lib.ListN.{length}
 use native.Mathlib.Omega.{arith}
 use borrow.Author.Needs.{needs}
-use Rattle.rules.specs.Rules.{scheduleIs}
+use Rattle.rule.specs.Rules.{scheduleIs}
 use Rattle.bench_clock.specs.Asked.{groupsFrom}
 use Rattle.bench_clock.proofs.Steps.{groups-turned, groups-none}
 use Rattle.bench_clock.proofs.turns.Statement.{statement}

@@ -1,5 +1,5 @@
 -- `weeks` fills in place: the first i are done.
-use Rattle.rules.specs.Rules.{scheduleIs}
+use Rattle.rule.specs.Rules.{scheduleIs}
 use Rattle.bench_week.specs.Weeks.{weekIn}
 use lib.ListN.{length, length-set}
 use Prim.Native.Nat.{_≤_, _-_}

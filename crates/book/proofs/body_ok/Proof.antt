@@ -1,6 +1,6 @@
 -- `book::body_ok` meets its contract.
 use borrow.Author.Needs.{needs}
-use Rattle.be.proofs.Tests.{tests}
+use Rattle.big_endian.proofs.Tests.{tests}
 use Rattle.book.proofs.Bytes.{bodyTest, body-says}
 use Rattle.book.proofs.body_ok.Statement.{statement}
 use Rattle.book.proofs.body_ok.Tie as tie

@@ -2,7 +2,7 @@
 use mathlib.Core.Path.{_∙_, ap}
 use Prim.Native.Nat.{ℕ, _+_}
 use lib.ListN.{getD}
-use Rattle.be.specs.Be.{be16}
+use Rattle.big_endian.specs.Be.{be16}
 use Rattle.book.proofs.Entries.{dates-read}
 use borrow.Author.Needs.{needs}
 use Rattle.book.proofs.dates_in.Statement.{statement}

@@ -1,6 +1,6 @@
 -- `book::holidays_ok` meets its contract.
 use borrow.Author.Needs.{needs}
-use Rattle.be.proofs.Tests.{tests}
+use Rattle.big_endian.proofs.Tests.{tests}
 use Rattle.book.proofs.Bytes.{holidaysTest, dates-says}
 use Rattle.book.proofs.holidays_ok.Statement.{statement}
 use Rattle.book.proofs.holidays_ok.Tie as tie

@@ -1,6 +1,6 @@
 -- `book::record_ok` meets its contract.
 use borrow.Author.Needs.{needs}
-use Rattle.be.proofs.Tests.{tests}
+use Rattle.big_endian.proofs.Tests.{tests}
 use Rattle.book.proofs.Bytes.{recordTest, record-says}
 use Rattle.book.proofs.record_ok.Statement.{statement}
 use Rattle.book.proofs.record_ok.Tie as tie

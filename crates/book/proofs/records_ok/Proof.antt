@@ -4,8 +4,8 @@ use Prim.Native.Nat.{ℕ, _-_, _≤_}
 use native.Mathlib.Nat.{sub-zero}
 use native.Mathlib.Omega.{arith}
 use borrow.Author.Tests.{not-true, not-false}
-use Rattle.be.proofs.Walk.{all-no, all-yes, all-end}
-use Rattle.be.specs.Walk.{allFrom}
+use Rattle.big_endian.proofs.Walk.{all-no, all-yes, all-end}
+use Rattle.big_endian.specs.Walk.{allFrom}
 use Rattle.book.specs.Accepts.{isRecord, isRecordAt}
 use Rattle.book.proofs.records_ok.Statement.{statement}
 use Rattle.book.proofs.records_ok.Tie as tie

@@ -1,5 +1,5 @@
 -- `build::default_zone` meets its contract.
-use Rattle.build.proofs.Seek.{default-named, default-utc}
+use Rattle.build.proofs.Lookups.{default-named, default-utc}
 use borrow.Author.Needs.{needs}
 use Rattle.build.proofs.default_zone.Statement.{statement}
 use Rattle.build.proofs.default_zone.Tie as tie

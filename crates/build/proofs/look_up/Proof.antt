@@ -1,7 +1,7 @@
 -- `build::look_up` meets its contract.
 use mathlib.Core.Path.{refl}
 use borrow.Author.Tests.{not-true, not-false}
-use Rattle.build.proofs.Seek.{no-zone, no-use, is-found}
+use Rattle.build.proofs.Lookups.{no-zone, no-use, is-found}
 use borrow.Author.Needs.{needs}
 use Rattle.build.proofs.look_up.Statement.{statement}
 use Rattle.build.proofs.look_up.Tie as tie

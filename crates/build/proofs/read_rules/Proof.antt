@@ -4,14 +4,14 @@ use Prim.Native.Nat.{_+_, _*_, _-_, _≤_, _<_}
 use lib.ListN.{length}
 use borrow.Author.Needs.{needs}
 use mathlib.Core.Path.{_≡_, refl, sym, _∙_}
-use Rattle.build.specs.Read.{Long, Knows, nothing, zoneMeant}
+use Rattle.build.specs.Read.{Long, LooksUp, nothing, zoneMeant}
 use Rattle.build.proofs.Grow.{work-room, pause-room, kind-none, dates-inside, closed-fits, long-work, long-break, long-closed, grown-none, grown-work, grown-break, grown-closed}
 use Rattle.build.proofs.Turn.{Reading, reading-start, reading-end, room-is, turn-more, turn-knows, turn-refused}
 use Rattle.build.proofs.read_rules.Statement.{statement}
 use Rattle.build.proofs.read_rules.Tie as tie
 
 abbrev Inv-loop : tie.InvT-loop
-Inv-loop book pack d n s₀ k₀ i₀ s k i = (i ≤ n) × Reading book pack (zoneMeant pack d) i s × Long s × Knows book pack k
+Inv-loop book pack d n s₀ k₀ i₀ s k i = (i ≤ n) × Reading book pack (zoneMeant pack d) i s × Long s × LooksUp book pack k
 
 abbrev μ-loop : tie.MeasureT-loop
 μ-loop book pack d n s₀ k₀ i₀ s k i = n - i
@@ -37,8 +37,8 @@ zone-used-requires c κs = ((c .before .before .before .before .before .before .
 enum-known-o : tie.Need-enum-known-o Inv-loop μ-loop
 enum-known-o c = search needs
 
-known-after-requires : tie.Need-known-after-requires Inv-loop μ-loop
-known-after-requires c κs = search needs
+lookup-after-requires : tie.Need-lookup-after-requires Inv-loop μ-loop
+lookup-after-requires c κs = search needs
 
 rule-of-requires : tie.Need-rule-of-requires Inv-loop μ-loop
 rule-of-requires c κs = search needs
@@ -56,7 +56,7 @@ loop-less : tie.Need-loop-less Inv-loop μ-loop
 loop-less c = omega (arith, (c .before .before .before .before .before .before .before .before .before .loop-test .taken))
 
 loop-again : tie.Need-loop-again Inv-loop μ-loop
-loop-again c = (omega (arith, (c .before .before .before .before .before .before .before .before .before .loop-test .taken)), turn-more (c .before .before .before .before .before .before .before .before .before .before .before .before .before .before .before .args .book .now) (c .before .before .before .before .before .before .before .before .before .before .before .before .before .before .before .args .pack .now) _ (c .before .before .before .before .before .before .before .before .before .before .loop .i) (c .before .before .before .before .before .before .before .before .before .before .loop .s) (c .before .before .before .before .before .before .before .before .before .before .loop .inv .1) (omega (arith, (c .before .before .before .before .before .before .before .before .before .before .before .before .count .ensures), (c .before .before .before .before .before .before .before .before .before .loop-test .taken))) (c .before .before .before .before .before .before .before .before .entry-at .result) (c .before .before .before .before .before .before .before .before .entry-at .ensures) (c .before .before .before .before .before .before .before .zone-used .result) (c .before .before .before .before .before .before .before .zone-used .ensures .0) (c .before .before .before .before .before .before .before .zone-used .ensures .1) (c .before .before .before .before .before .o .given .1) (grown-work _ _ _ _ _ (room-is (c .before .before .before .before .before .before .before .before .before .before .before .before .before .before .before .args .book .now) (c .before .before .before .before .before .before .before .before .before .before .before .before .before .before .before .args .pack .now) _ (c .before .before .before .before .before .before .before .before .before .before .loop .i) (c .before .before .before .before .before .before .before .before .before .before .loop .s) (c .before .before .before .before .before .before .before .before .before .before .loop .inv .1) (omega (arith, (c .before .before .before .before .before .before .before .before .before .before .before .before .count .ensures), (c .before .before .before .before .before .before .before .before .before .loop-test .taken))) (c .before .before .before .before .before .before .before .before .entry-at .result) (c .before .before .before .before .before .before .before .before .entry-at .ensures)) (c .before .if1 .taken) (c .rule-of .ensures) refl ((c .before .before .before .before .before .before .before .before .before .before .loop .inv .2) .work)), long-work _ (c .before .before .before .before .before .before .before .before .before .before .loop .inv .2) _, turn-knows (c .before .before .before .before .before .before .before .before .before .before .before .before .before .before .before .args .book .now) (c .before .before .before .before .before .before .before .before .before .before .before .before .before .before .before .args .pack .now) _ (c .before .before .before .before .before .before .before .before .before .before .loop .i) (c .before .before .before .before .before .before .before .before .before .before .loop .s) (c .before .before .before .before .before .before .before .before .before .before .loop .inv .1) (omega (arith, (c .before .before .before .before .before .before .before .before .before .before .before .before .count .ensures), (c .before .before .before .before .before .before .before .before .before .loop-test .taken))) (c .before .before .before .before .before .before .before .before .entry-at .result) (c .before .before .before .before .before .before .before .before .entry-at .ensures) (c .before .before .before .before .before .before .before .zone-used .result) (c .before .before .before .before .before .before .before .zone-used .ensures .0) (c .before .before .before .before .before .before .before .zone-used .ensures .1) (c .before .before .before .before .before .o .given .1) (c .before .before .before .before .before .before .before .before .before .before .loop .inv .3) (c .before .before .before .known-after .ensures))
+loop-again c = (omega (arith, (c .before .before .before .before .before .before .before .before .before .loop-test .taken)), turn-more (c .before .before .before .before .before .before .before .before .before .before .before .before .before .before .before .args .book .now) (c .before .before .before .before .before .before .before .before .before .before .before .before .before .before .before .args .pack .now) _ (c .before .before .before .before .before .before .before .before .before .before .loop .i) (c .before .before .before .before .before .before .before .before .before .before .loop .s) (c .before .before .before .before .before .before .before .before .before .before .loop .inv .1) (omega (arith, (c .before .before .before .before .before .before .before .before .before .before .before .before .count .ensures), (c .before .before .before .before .before .before .before .before .before .loop-test .taken))) (c .before .before .before .before .before .before .before .before .entry-at .result) (c .before .before .before .before .before .before .before .before .entry-at .ensures) (c .before .before .before .before .before .before .before .zone-used .result) (c .before .before .before .before .before .before .before .zone-used .ensures .0) (c .before .before .before .before .before .before .before .zone-used .ensures .1) (c .before .before .before .before .before .o .given .1) (grown-work _ _ _ _ _ (room-is (c .before .before .before .before .before .before .before .before .before .before .before .before .before .before .before .args .book .now) (c .before .before .before .before .before .before .before .before .before .before .before .before .before .before .before .args .pack .now) _ (c .before .before .before .before .before .before .before .before .before .before .loop .i) (c .before .before .before .before .before .before .before .before .before .before .loop .s) (c .before .before .before .before .before .before .before .before .before .before .loop .inv .1) (omega (arith, (c .before .before .before .before .before .before .before .before .before .before .before .before .count .ensures), (c .before .before .before .before .before .before .before .before .before .loop-test .taken))) (c .before .before .before .before .before .before .before .before .entry-at .result) (c .before .before .before .before .before .before .before .before .entry-at .ensures)) (c .before .if1 .taken) (c .rule-of .ensures) refl ((c .before .before .before .before .before .before .before .before .before .before .loop .inv .2) .work)), long-work _ (c .before .before .before .before .before .before .before .before .before .before .loop .inv .2) _, turn-knows (c .before .before .before .before .before .before .before .before .before .before .before .before .before .before .before .args .book .now) (c .before .before .before .before .before .before .before .before .before .before .before .before .before .before .before .args .pack .now) _ (c .before .before .before .before .before .before .before .before .before .before .loop .i) (c .before .before .before .before .before .before .before .before .before .before .loop .s) (c .before .before .before .before .before .before .before .before .before .before .loop .inv .1) (omega (arith, (c .before .before .before .before .before .before .before .before .before .before .before .before .count .ensures), (c .before .before .before .before .before .before .before .before .before .loop-test .taken))) (c .before .before .before .before .before .before .before .before .entry-at .result) (c .before .before .before .before .before .before .before .before .entry-at .ensures) (c .before .before .before .before .before .before .before .zone-used .result) (c .before .before .before .before .before .before .before .zone-used .ensures .0) (c .before .before .before .before .before .before .before .zone-used .ensures .1) (c .before .before .before .before .before .o .given .1) (c .before .before .before .before .before .before .before .before .before .before .loop .inv .3) (c .before .before .before .lookup-after .ensures))
 
 rule-of-requires-2 : tie.Need-rule-of-requires-2 Inv-loop μ-loop
 rule-of-requires-2 c κs = search needs
@@ -74,13 +74,13 @@ loop-less-2 : tie.Need-loop-less-2 Inv-loop μ-loop
 loop-less-2 c = omega (arith, (c .before .before .before .before .before .before .before .before .before .before .before .loop-test .taken))
 
 loop-again-2 : tie.Need-loop-again-2 Inv-loop μ-loop
-loop-again-2 c = (omega (arith, (c .before .before .before .before .before .before .before .before .before .before .before .loop-test .taken)), turn-more (c .before .before .before .before .before .before .before .before .before .before .before .before .before .before .before .before .before .args .book .now) (c .before .before .before .before .before .before .before .before .before .before .before .before .before .before .before .before .before .args .pack .now) _ (c .before .before .before .before .before .before .before .before .before .before .before .before .loop .i) (c .before .before .before .before .before .before .before .before .before .before .before .before .loop .s) (c .before .before .before .before .before .before .before .before .before .before .before .before .loop .inv .1) (omega (arith, (c .before .before .before .before .before .before .before .before .before .before .before .before .before .before .count .ensures), (c .before .before .before .before .before .before .before .before .before .before .before .loop-test .taken))) (c .before .before .before .before .before .before .before .before .before .before .entry-at .result) (c .before .before .before .before .before .before .before .before .before .before .entry-at .ensures) (c .before .before .before .before .before .before .before .before .before .zone-used .result) (c .before .before .before .before .before .before .before .before .before .zone-used .ensures .0) (c .before .before .before .before .before .before .before .before .before .zone-used .ensures .1) (c .before .before .before .before .before .before .before .o .given .1) (grown-break _ _ _ _ _ (room-is (c .before .before .before .before .before .before .before .before .before .before .before .before .before .before .before .before .before .args .book .now) (c .before .before .before .before .before .before .before .before .before .before .before .before .before .before .before .before .before .args .pack .now) _ (c .before .before .before .before .before .before .before .before .before .before .before .before .loop .i) (c .before .before .before .before .before .before .before .before .before .before .before .before .loop .s) (c .before .before .before .before .before .before .before .before .before .before .before .before .loop .inv .1) (omega (arith, (c .before .before .before .before .before .before .before .before .before .before .before .before .before .before .count .ensures), (c .before .before .before .before .before .before .before .before .before .before .before .loop-test .taken))) (c .before .before .before .before .before .before .before .before .before .before .entry-at .result) (c .before .before .before .before .before .before .before .before .before .before .entry-at .ensures)) (c .before .if2 .taken) (c .rule-of2 .ensures) refl ((c .before .before .before .before .before .before .before .before .before .before .before .before .loop .inv .2) .breaks)), long-break _ (c .before .before .before .before .before .before .before .before .before .before .before .before .loop .inv .2) _, turn-knows (c .before .before .before .before .before .before .before .before .before .before .before .before .before .before .before .before .before .args .book .now) (c .before .before .before .before .before .before .before .before .before .before .before .before .before .before .before .before .before .args .pack .now) _ (c .before .before .before .before .before .before .before .before .before .before .before .before .loop .i) (c .before .before .before .before .before .before .before .before .before .before .before .before .loop .s) (c .before .before .before .before .before .before .before .before .before .before .before .before .loop .inv .1) (omega (arith, (c .before .before .before .before .before .before .before .before .before .before .before .before .before .before .count .ensures), (c .before .before .before .before .before .before .before .before .before .before .before .loop-test .taken))) (c .before .before .before .before .before .before .before .before .before .before .entry-at .result) (c .before .before .before .before .before .before .before .before .before .before .entry-at .ensures) (c .before .before .before .before .before .before .before .before .before .zone-used .result) (c .before .before .before .before .before .before .before .before .before .zone-used .ensures .0) (c .before .before .before .before .before .before .before .before .before .zone-used .ensures .1) (c .before .before .before .before .before .before .before .o .given .1) (c .before .before .before .before .before .before .before .before .before .before .before .before .loop .inv .3) (c .before .before .before .before .before .known-after .ensures))
+loop-again-2 c = (omega (arith, (c .before .before .before .before .before .before .before .before .before .before .before .loop-test .taken)), turn-more (c .before .before .before .before .before .before .before .before .before .before .before .before .before .before .before .before .before .args .book .now) (c .before .before .before .before .before .before .before .before .before .before .before .before .before .before .before .before .before .args .pack .now) _ (c .before .before .before .before .before .before .before .before .before .before .before .before .loop .i) (c .before .before .before .before .before .before .before .before .before .before .before .before .loop .s) (c .before .before .before .before .before .before .before .before .before .before .before .before .loop .inv .1) (omega (arith, (c .before .before .before .before .before .before .before .before .before .before .before .before .before .before .count .ensures), (c .before .before .before .before .before .before .before .before .before .before .before .loop-test .taken))) (c .before .before .before .before .before .before .before .before .before .before .entry-at .result) (c .before .before .before .before .before .before .before .before .before .before .entry-at .ensures) (c .before .before .before .before .before .before .before .before .before .zone-used .result) (c .before .before .before .before .before .before .before .before .before .zone-used .ensures .0) (c .before .before .before .before .before .before .before .before .before .zone-used .ensures .1) (c .before .before .before .before .before .before .before .o .given .1) (grown-break _ _ _ _ _ (room-is (c .before .before .before .before .before .before .before .before .before .before .before .before .before .before .before .before .before .args .book .now) (c .before .before .before .before .before .before .before .before .before .before .before .before .before .before .before .before .before .args .pack .now) _ (c .before .before .before .before .before .before .before .before .before .before .before .before .loop .i) (c .before .before .before .before .before .before .before .before .before .before .before .before .loop .s) (c .before .before .before .before .before .before .before .before .before .before .before .before .loop .inv .1) (omega (arith, (c .before .before .before .before .before .before .before .before .before .before .before .before .before .before .count .ensures), (c .before .before .before .before .before .before .before .before .before .before .before .loop-test .taken))) (c .before .before .before .before .before .before .before .before .before .before .entry-at .result) (c .before .before .before .before .before .before .before .before .before .before .entry-at .ensures)) (c .before .if2 .taken) (c .rule-of2 .ensures) refl ((c .before .before .before .before .before .before .before .before .before .before .before .before .loop .inv .2) .breaks)), long-break _ (c .before .before .before .before .before .before .before .before .before .before .before .before .loop .inv .2) _, turn-knows (c .before .before .before .before .before .before .before .before .before .before .before .before .before .before .before .before .before .args .book .now) (c .before .before .before .before .before .before .before .before .before .before .before .before .before .before .before .before .before .args .pack .now) _ (c .before .before .before .before .before .before .before .before .before .before .before .before .loop .i) (c .before .before .before .before .before .before .before .before .before .before .before .before .loop .s) (c .before .before .before .before .before .before .before .before .before .before .before .before .loop .inv .1) (omega (arith, (c .before .before .before .before .before .before .before .before .before .before .before .before .before .before .count .ensures), (c .before .before .before .before .before .before .before .before .before .before .before .loop-test .taken))) (c .before .before .before .before .before .before .before .before .before .before .entry-at .result) (c .before .before .before .before .before .before .before .before .before .before .entry-at .ensures) (c .before .before .before .before .before .before .before .before .before .zone-used .result) (c .before .before .before .before .before .before .before .before .before .zone-used .ensures .0) (c .before .before .before .before .before .before .before .before .before .zone-used .ensures .1) (c .before .before .before .before .before .before .before .o .given .1) (c .before .before .before .before .before .before .before .before .before .before .before .before .loop .inv .3) (c .before .before .before .before .before .lookup-after .ensures))
 
 distinct-dates-requires : tie.Need-distinct-dates-requires Inv-loop μ-loop
 distinct-dates-requires c κs = dates-inside _ _ _ (room-is (c .before .before .before .before .before .before .before .before .before .before .before .before .before .before .before .before .before .before .args .book .now) (c .before .before .before .before .before .before .before .before .before .before .before .before .before .before .before .before .before .before .args .pack .now) _ (c .before .before .before .before .before .before .before .before .before .before .before .before .before .loop .i) (c .before .before .before .before .before .before .before .before .before .before .before .before .before .loop .s) (c .before .before .before .before .before .before .before .before .before .before .before .before .before .loop .inv .1) (omega (arith, (c .before .before .before .before .before .before .before .before .before .before .before .before .before .before .before .count .ensures), (c .before .before .before .before .before .before .before .before .before .before .before .before .loop-test .taken))) (c .before .before .before .before .before .before .before .before .before .before .before .entry-at .result) (c .before .before .before .before .before .before .before .before .before .before .before .entry-at .ensures)) (c .if3 .taken)
 
-closed-of-requires : tie.Need-closed-of-requires Inv-loop μ-loop
-closed-of-requires c κs = search needs
+holidays-of-requires : tie.Need-holidays-of-requires Inv-loop μ-loop
+holidays-of-requires c κs = search needs
 
 mul-t31 : tie.Need-mul-t31 Inv-loop μ-loop
 mul-t31 c = omega (arith, closed-fits _ _ _ (room-is (c .before .before .before .before .before .before .before .before .before .before .before .before .before .before .before .before .before .before .before .before .args .book .now) (c .before .before .before .before .before .before .before .before .before .before .before .before .before .before .before .before .before .before .before .before .args .pack .now) _ (c .before .before .before .before .before .before .before .before .before .before .before .before .before .before .before .loop .i) (c .before .before .before .before .before .before .before .before .before .before .before .before .before .before .before .loop .s) (c .before .before .before .before .before .before .before .before .before .before .before .before .before .before .before .loop .inv .1) (omega (arith, (c .before .before .before .before .before .before .before .before .before .before .before .before .before .before .before .before .before .count .ensures), (c .before .before .before .before .before .before .before .before .before .before .before .before .before .before .loop-test .taken))) (c .before .before .before .before .before .before .before .before .before .before .before .before .before .entry-at .result) (c .before .before .before .before .before .before .before .before .before .before .before .before .before .entry-at .ensures)) (c .before .before .if3 .taken) (c .before .distinct-dates .ensures .1) .0)
@@ -101,13 +101,13 @@ loop-less-3 : tie.Need-loop-less-3 Inv-loop μ-loop
 loop-less-3 c = omega (arith, (c .before .before .before .before .before .before .before .before .before .before .before .before .before .before .loop-test .taken))
 
 loop-again-3 : tie.Need-loop-again-3 Inv-loop μ-loop
-loop-again-3 c = (omega (arith, (c .before .before .before .before .before .before .before .before .before .before .before .before .before .before .loop-test .taken)), turn-more (c .before .before .before .before .before .before .before .before .before .before .before .before .before .before .before .before .before .before .before .before .args .book .now) (c .before .before .before .before .before .before .before .before .before .before .before .before .before .before .before .before .before .before .before .before .args .pack .now) _ (c .before .before .before .before .before .before .before .before .before .before .before .before .before .before .before .loop .i) (c .before .before .before .before .before .before .before .before .before .before .before .before .before .before .before .loop .s) (c .before .before .before .before .before .before .before .before .before .before .before .before .before .before .before .loop .inv .1) (omega (arith, (c .before .before .before .before .before .before .before .before .before .before .before .before .before .before .before .before .before .count .ensures), (c .before .before .before .before .before .before .before .before .before .before .before .before .before .before .loop-test .taken))) (c .before .before .before .before .before .before .before .before .before .before .before .before .before .entry-at .result) (c .before .before .before .before .before .before .before .before .before .before .before .before .before .entry-at .ensures) (c .before .before .before .before .before .before .before .before .before .before .before .before .zone-used .result) (c .before .before .before .before .before .before .before .before .before .before .before .before .zone-used .ensures .0) (c .before .before .before .before .before .before .before .before .before .before .before .before .zone-used .ensures .1) (c .before .before .before .before .before .before .before .before .before .before .o .given .1) (grown-closed _ _ _ _ _ (room-is (c .before .before .before .before .before .before .before .before .before .before .before .before .before .before .before .before .before .before .before .before .args .book .now) (c .before .before .before .before .before .before .before .before .before .before .before .before .before .before .before .before .before .before .before .before .args .pack .now) _ (c .before .before .before .before .before .before .before .before .before .before .before .before .before .before .before .loop .i) (c .before .before .before .before .before .before .before .before .before .before .before .before .before .before .before .loop .s) (c .before .before .before .before .before .before .before .before .before .before .before .before .before .before .before .loop .inv .1) (omega (arith, (c .before .before .before .before .before .before .before .before .before .before .before .before .before .before .before .before .before .count .ensures), (c .before .before .before .before .before .before .before .before .before .before .before .before .before .before .loop-test .taken))) (c .before .before .before .before .before .before .before .before .before .before .before .before .before .entry-at .result) (c .before .before .before .before .before .before .before .before .before .before .before .before .before .entry-at .ensures)) (c .before .before .if3 .taken) (c .closed-of .ensures) refl ((c .before .before .before .before .before .before .before .before .before .before .before .before .before .before .before .loop .inv .2) .closed) (c .before .distinct-dates .ensures .0) (c .before .distinct-dates .ensures .1)), long-closed _ (c .before .before .before .before .before .before .before .before .before .before .before .before .before .before .before .loop .inv .2) _ _, turn-knows (c .before .before .before .before .before .before .before .before .before .before .before .before .before .before .before .before .before .before .before .before .args .book .now) (c .before .before .before .before .before .before .before .before .before .before .before .before .before .before .before .before .before .before .before .before .args .pack .now) _ (c .before .before .before .before .before .before .before .before .before .before .before .before .before .before .before .loop .i) (c .before .before .before .before .before .before .before .before .before .before .before .before .before .before .before .loop .s) (c .before .before .before .before .before .before .before .before .before .before .before .before .before .before .before .loop .inv .1) (omega (arith, (c .before .before .before .before .before .before .before .before .before .before .before .before .before .before .before .before .before .count .ensures), (c .before .before .before .before .before .before .before .before .before .before .before .before .before .before .loop-test .taken))) (c .before .before .before .before .before .before .before .before .before .before .before .before .before .entry-at .result) (c .before .before .before .before .before .before .before .before .before .before .before .before .before .entry-at .ensures) (c .before .before .before .before .before .before .before .before .before .before .before .before .zone-used .result) (c .before .before .before .before .before .before .before .before .before .before .before .before .zone-used .ensures .0) (c .before .before .before .before .before .before .before .before .before .before .before .before .zone-used .ensures .1) (c .before .before .before .before .before .before .before .before .before .before .o .given .1) (c .before .before .before .before .before .before .before .before .before .before .before .before .before .before .before .loop .inv .3) (c .before .before .before .before .before .before .before .before .known-after .ensures))
+loop-again-3 c = (omega (arith, (c .before .before .before .before .before .before .before .before .before .before .before .before .before .before .loop-test .taken)), turn-more (c .before .before .before .before .before .before .before .before .before .before .before .before .before .before .before .before .before .before .before .before .args .book .now) (c .before .before .before .before .before .before .before .before .before .before .before .before .before .before .before .before .before .before .before .before .args .pack .now) _ (c .before .before .before .before .before .before .before .before .before .before .before .before .before .before .before .loop .i) (c .before .before .before .before .before .before .before .before .before .before .before .before .before .before .before .loop .s) (c .before .before .before .before .before .before .before .before .before .before .before .before .before .before .before .loop .inv .1) (omega (arith, (c .before .before .before .before .before .before .before .before .before .before .before .before .before .before .before .before .before .count .ensures), (c .before .before .before .before .before .before .before .before .before .before .before .before .before .before .loop-test .taken))) (c .before .before .before .before .before .before .before .before .before .before .before .before .before .entry-at .result) (c .before .before .before .before .before .before .before .before .before .before .before .before .before .entry-at .ensures) (c .before .before .before .before .before .before .before .before .before .before .before .before .zone-used .result) (c .before .before .before .before .before .before .before .before .before .before .before .before .zone-used .ensures .0) (c .before .before .before .before .before .before .before .before .before .before .before .before .zone-used .ensures .1) (c .before .before .before .before .before .before .before .before .before .before .o .given .1) (grown-closed _ _ _ _ _ (room-is (c .before .before .before .before .before .before .before .before .before .before .before .before .before .before .before .before .before .before .before .before .args .book .now) (c .before .before .before .before .before .before .before .before .before .before .before .before .before .before .before .before .before .before .before .before .args .pack .now) _ (c .before .before .before .before .before .before .before .before .before .before .before .before .before .before .before .loop .i) (c .before .before .before .before .before .before .before .before .before .before .before .before .before .before .before .loop .s) (c .before .before .before .before .before .before .before .before .before .before .before .before .before .before .before .loop .inv .1) (omega (arith, (c .before .before .before .before .before .before .before .before .before .before .before .before .before .before .before .before .before .count .ensures), (c .before .before .before .before .before .before .before .before .before .before .before .before .before .before .loop-test .taken))) (c .before .before .before .before .before .before .before .before .before .before .before .before .before .entry-at .result) (c .before .before .before .before .before .before .before .before .before .before .before .before .before .entry-at .ensures)) (c .before .before .if3 .taken) (c .holidays-of .ensures) refl ((c .before .before .before .before .before .before .before .before .before .before .before .before .before .before .before .loop .inv .2) .closed) (c .before .distinct-dates .ensures .0) (c .before .distinct-dates .ensures .1)), long-closed _ (c .before .before .before .before .before .before .before .before .before .before .before .before .before .before .before .loop .inv .2) _ _, turn-knows (c .before .before .before .before .before .before .before .before .before .before .before .before .before .before .before .before .before .before .before .before .args .book .now) (c .before .before .before .before .before .before .before .before .before .before .before .before .before .before .before .before .before .before .before .before .args .pack .now) _ (c .before .before .before .before .before .before .before .before .before .before .before .before .before .before .before .loop .i) (c .before .before .before .before .before .before .before .before .before .before .before .before .before .before .before .loop .s) (c .before .before .before .before .before .before .before .before .before .before .before .before .before .before .before .loop .inv .1) (omega (arith, (c .before .before .before .before .before .before .before .before .before .before .before .before .before .before .before .before .before .count .ensures), (c .before .before .before .before .before .before .before .before .before .before .before .before .before .before .loop-test .taken))) (c .before .before .before .before .before .before .before .before .before .before .before .before .before .entry-at .result) (c .before .before .before .before .before .before .before .before .before .before .before .before .before .entry-at .ensures) (c .before .before .before .before .before .before .before .before .before .before .before .before .zone-used .result) (c .before .before .before .before .before .before .before .before .before .before .before .before .zone-used .ensures .0) (c .before .before .before .before .before .before .before .before .before .before .before .before .zone-used .ensures .1) (c .before .before .before .before .before .before .before .before .before .before .o .given .1) (c .before .before .before .before .before .before .before .before .before .before .before .before .before .before .before .loop .inv .3) (c .before .before .before .before .before .before .before .before .lookup-after .ensures))
 
 loop-less-4 : tie.Need-loop-less-4 Inv-loop μ-loop
 loop-less-4 c = omega (arith, (c .before .before .before .before .before .before .before .before .before .before .before .before .loop-test .taken))
 
 loop-again-4 : tie.Need-loop-again-4 Inv-loop μ-loop
-loop-again-4 c = (omega (arith, (c .before .before .before .before .before .before .before .before .before .before .before .before .loop-test .taken)), turn-more (c .before .before .before .before .before .before .before .before .before .before .before .before .before .before .before .before .before .before .args .book .now) (c .before .before .before .before .before .before .before .before .before .before .before .before .before .before .before .before .before .before .args .pack .now) _ (c .before .before .before .before .before .before .before .before .before .before .before .before .before .loop .i) (c .before .before .before .before .before .before .before .before .before .before .before .before .before .loop .s) (c .before .before .before .before .before .before .before .before .before .before .before .before .before .loop .inv .1) (omega (arith, (c .before .before .before .before .before .before .before .before .before .before .before .before .before .before .before .count .ensures), (c .before .before .before .before .before .before .before .before .before .before .before .before .loop-test .taken))) (c .before .before .before .before .before .before .before .before .before .before .before .entry-at .result) (c .before .before .before .before .before .before .before .before .before .before .before .entry-at .ensures) (c .before .before .before .before .before .before .before .before .before .before .zone-used .result) (c .before .before .before .before .before .before .before .before .before .before .zone-used .ensures .0) (c .before .before .before .before .before .before .before .before .before .before .zone-used .ensures .1) (c .before .before .before .before .before .before .before .before .o .given .1) (grown-none _ _ _ _ _ (room-is (c .before .before .before .before .before .before .before .before .before .before .before .before .before .before .before .before .before .before .args .book .now) (c .before .before .before .before .before .before .before .before .before .before .before .before .before .before .before .before .before .before .args .pack .now) _ (c .before .before .before .before .before .before .before .before .before .before .before .before .before .loop .i) (c .before .before .before .before .before .before .before .before .before .before .before .before .before .loop .s) (c .before .before .before .before .before .before .before .before .before .before .before .before .before .loop .inv .1) (omega (arith, (c .before .before .before .before .before .before .before .before .before .before .before .before .before .before .before .count .ensures), (c .before .before .before .before .before .before .before .before .before .before .before .before .loop-test .taken))) (c .before .before .before .before .before .before .before .before .before .before .before .entry-at .result) (c .before .before .before .before .before .before .before .before .before .before .before .entry-at .ensures)) (kind-none _ _ _ (room-is (c .before .before .before .before .before .before .before .before .before .before .before .before .before .before .before .before .before .before .args .book .now) (c .before .before .before .before .before .before .before .before .before .before .before .before .before .before .before .before .before .before .args .pack .now) _ (c .before .before .before .before .before .before .before .before .before .before .before .before .before .loop .i) (c .before .before .before .before .before .before .before .before .before .before .before .before .before .loop .s) (c .before .before .before .before .before .before .before .before .before .before .before .before .before .loop .inv .1) (omega (arith, (c .before .before .before .before .before .before .before .before .before .before .before .before .before .before .before .count .ensures), (c .before .before .before .before .before .before .before .before .before .before .before .before .loop-test .taken))) (c .before .before .before .before .before .before .before .before .before .before .before .entry-at .result) (c .before .before .before .before .before .before .before .before .before .before .before .entry-at .ensures)) (c .before .before .before .before .if1 .left) (c .before .before .if2 .left) (c .if3 .left))), (c .before .before .before .before .before .before .before .before .before .before .before .before .before .loop .inv .2), turn-knows (c .before .before .before .before .before .before .before .before .before .before .before .before .before .before .before .before .before .before .args .book .now) (c .before .before .before .before .before .before .before .before .before .before .before .before .before .before .before .before .before .before .args .pack .now) _ (c .before .before .before .before .before .before .before .before .before .before .before .before .before .loop .i) (c .before .before .before .before .before .before .before .before .before .before .before .before .before .loop .s) (c .before .before .before .before .before .before .before .before .before .before .before .before .before .loop .inv .1) (omega (arith, (c .before .before .before .before .before .before .before .before .before .before .before .before .before .before .before .count .ensures), (c .before .before .before .before .before .before .before .before .before .before .before .before .loop-test .taken))) (c .before .before .before .before .before .before .before .before .before .before .before .entry-at .result) (c .before .before .before .before .before .before .before .before .before .before .before .entry-at .ensures) (c .before .before .before .before .before .before .before .before .before .before .zone-used .result) (c .before .before .before .before .before .before .before .before .before .before .zone-used .ensures .0) (c .before .before .before .before .before .before .before .before .before .before .zone-used .ensures .1) (c .before .before .before .before .before .before .before .before .o .given .1) (c .before .before .before .before .before .before .before .before .before .before .before .before .before .loop .inv .3) (c .before .before .before .before .before .before .known-after .ensures))
+loop-again-4 c = (omega (arith, (c .before .before .before .before .before .before .before .before .before .before .before .before .loop-test .taken)), turn-more (c .before .before .before .before .before .before .before .before .before .before .before .before .before .before .before .before .before .before .args .book .now) (c .before .before .before .before .before .before .before .before .before .before .before .before .before .before .before .before .before .before .args .pack .now) _ (c .before .before .before .before .before .before .before .before .before .before .before .before .before .loop .i) (c .before .before .before .before .before .before .before .before .before .before .before .before .before .loop .s) (c .before .before .before .before .before .before .before .before .before .before .before .before .before .loop .inv .1) (omega (arith, (c .before .before .before .before .before .before .before .before .before .before .before .before .before .before .before .count .ensures), (c .before .before .before .before .before .before .before .before .before .before .before .before .loop-test .taken))) (c .before .before .before .before .before .before .before .before .before .before .before .entry-at .result) (c .before .before .before .before .before .before .before .before .before .before .before .entry-at .ensures) (c .before .before .before .before .before .before .before .before .before .before .zone-used .result) (c .before .before .before .before .before .before .before .before .before .before .zone-used .ensures .0) (c .before .before .before .before .before .before .before .before .before .before .zone-used .ensures .1) (c .before .before .before .before .before .before .before .before .o .given .1) (grown-none _ _ _ _ _ (room-is (c .before .before .before .before .before .before .before .before .before .before .before .before .before .before .before .before .before .before .args .book .now) (c .before .before .before .before .before .before .before .before .before .before .before .before .before .before .before .before .before .before .args .pack .now) _ (c .before .before .before .before .before .before .before .before .before .before .before .before .before .loop .i) (c .before .before .before .before .before .before .before .before .before .before .before .before .before .loop .s) (c .before .before .before .before .before .before .before .before .before .before .before .before .before .loop .inv .1) (omega (arith, (c .before .before .before .before .before .before .before .before .before .before .before .before .before .before .before .count .ensures), (c .before .before .before .before .before .before .before .before .before .before .before .before .loop-test .taken))) (c .before .before .before .before .before .before .before .before .before .before .before .entry-at .result) (c .before .before .before .before .before .before .before .before .before .before .before .entry-at .ensures)) (kind-none _ _ _ (room-is (c .before .before .before .before .before .before .before .before .before .before .before .before .before .before .before .before .before .before .args .book .now) (c .before .before .before .before .before .before .before .before .before .before .before .before .before .before .before .before .before .before .args .pack .now) _ (c .before .before .before .before .before .before .before .before .before .before .before .before .before .loop .i) (c .before .before .before .before .before .before .before .before .before .before .before .before .before .loop .s) (c .before .before .before .before .before .before .before .before .before .before .before .before .before .loop .inv .1) (omega (arith, (c .before .before .before .before .before .before .before .before .before .before .before .before .before .before .before .count .ensures), (c .before .before .before .before .before .before .before .before .before .before .before .before .loop-test .taken))) (c .before .before .before .before .before .before .before .before .before .before .before .entry-at .result) (c .before .before .before .before .before .before .before .before .before .before .before .entry-at .ensures)) (c .before .before .before .before .if1 .left) (c .before .before .if2 .left) (c .if3 .left))), (c .before .before .before .before .before .before .before .before .before .before .before .before .before .loop .inv .2), turn-knows (c .before .before .before .before .before .before .before .before .before .before .before .before .before .before .before .before .before .before .args .book .now) (c .before .before .before .before .before .before .before .before .before .before .before .before .before .before .before .before .before .before .args .pack .now) _ (c .before .before .before .before .before .before .before .before .before .before .before .before .before .loop .i) (c .before .before .before .before .before .before .before .before .before .before .before .before .before .loop .s) (c .before .before .before .before .before .before .before .before .before .before .before .before .before .loop .inv .1) (omega (arith, (c .before .before .before .before .before .before .before .before .before .before .before .before .before .before .before .count .ensures), (c .before .before .before .before .before .before .before .before .before .before .before .before .loop-test .taken))) (c .before .before .before .before .before .before .before .before .before .before .before .entry-at .result) (c .before .before .before .before .before .before .before .before .before .before .before .entry-at .ensures) (c .before .before .before .before .before .before .before .before .before .before .zone-used .result) (c .before .before .before .before .before .before .before .before .before .before .zone-used .ensures .0) (c .before .before .before .before .before .before .before .before .before .before .zone-used .ensures .1) (c .before .before .before .before .before .before .before .before .o .given .1) (c .before .before .before .before .before .before .before .before .before .before .before .before .before .loop .inv .3) (c .before .before .before .before .before .before .lookup-after .ensures))
 
 enum-known-number : tie.Need-enum-known-number Inv-loop μ-loop
 enum-known-number c = search needs
@@ -134,7 +134,7 @@ read-rules-spec =
     add-i
     zone-used-requires
     enum-known-o
-    known-after-requires
+    lookup-after-requires
     rule-of-requires
     mul-t21
     element-set-from-s
@@ -148,7 +148,7 @@ read-rules-spec =
     loop-less-2
     loop-again-2
     distinct-dates-requires
-    closed-of-requires
+    holidays-of-requires
     mul-t31
     element-set-from-s-3
     add-s-3

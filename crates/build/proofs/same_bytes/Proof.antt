@@ -7,7 +7,7 @@ use Rattle.laws_base.specs.Test.{clash}
 use mathlib.Core.Path.{_≡_, refl}
 use mathlib.Core.Bool.{false}
 use Rattle.build.specs.Read.{SameBytes}
-use Rattle.build.proofs.Seek.{same-start, same-more}
+use Rattle.build.proofs.Lookups.{same-start, same-more}
 use Rattle.build.proofs.same_bytes.Statement.{statement}
 use Rattle.build.proofs.same_bytes.Tie as tie
 

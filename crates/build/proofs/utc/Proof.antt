@@ -1,5 +1,5 @@
 -- `build::utc` meets its contract.
-use Rattle.rules.specs.Rules.{fileAt}
+use Rattle.rule.specs.Rules.{fileAt}
 use borrow.Author.Needs.{needs}
 use Rattle.build.proofs.utc.Statement.{statement}
 use Rattle.build.proofs.utc.Tie as tie

@@ -1,5 +1,5 @@
 -- `build::zone_named` meets its contract.
-use Rattle.build.proofs.Seek.{last-is, known-named}
+use Rattle.build.proofs.Lookups.{last-is, known-named}
 use borrow.Author.Needs.{needs}
 use Rattle.build.proofs.zone_named.Statement.{statement}
 use Rattle.build.proofs.zone_named.Tie as tie

@@ -1,5 +1,5 @@
 -- `build::zone_used` meets its contract.
-use Rattle.build.proofs.Seek.{used-default, used-own, used-named}
+use Rattle.build.proofs.Lookups.{used-default, used-own, used-named}
 use Rattle.build.specs.Read.{found}
 use borrow.Author.Needs.{needs}
 use Rattle.build.proofs.zone_used.Statement.{statement}

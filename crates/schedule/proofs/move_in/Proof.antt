@@ -18,8 +18,8 @@ enum-told c = search needs
 returns : tie.Need-returns
 returns c = no-instant (c .before .before .before .before .before .args .back) _ _ _ _ _ (instant-no _ _ (c .before .before .before .before .before .fits .t-sec) (c .before .before .before .before .before .fits .t-ns) (c .before .before .instant-of .ensures) (c .enum-told .given .1))
 
-span-of-requires : tie.Need-span-of-requires
-span-of-requires c κs = search needs
+duration-of-requires : tie.Need-duration-of-requires
+duration-of-requires c κs = search needs
 
 enum-known-minus : tie.Need-enum-known-minus
 enum-known-minus c = search needs
@@ -28,13 +28,13 @@ enum-told-2 : tie.Need-enum-told-2
 enum-told-2 c = search needs
 
 returns-2 : tie.Need-returns-2
-returns-2 c = let t = instant-yes _ _ (c .before .before .before .before .before .before .before .before .before .fits .t-sec) (c .before .before .before .before .before .before .before .before .before .fits .t-ns) (c .before .before .before .before .before .before .instant-of .ensures) (c .before .before .before .before .t .given .1) in no-duration (c .before .before .before .before .before .before .before .before .before .args .back) _ _ _ _ _ _ (t .means) (span-no _ _ (c .before .before .before .before .before .before .before .before .before .fits .d-sec) (c .before .before .before .before .before .before .before .before .before .fits .d-ns) (c .before .before .span-of .ensures) (c .enum-told2 .given .1))
+returns-2 c = let t = instant-yes _ _ (c .before .before .before .before .before .before .before .before .before .fits .t-sec) (c .before .before .before .before .before .before .before .before .before .fits .t-ns) (c .before .before .before .before .before .before .instant-of .ensures) (c .before .before .before .before .t .given .1) in no-duration (c .before .before .before .before .before .before .before .before .before .args .back) _ _ _ _ _ _ (t .means) (span-no _ _ (c .before .before .before .before .before .before .before .before .before .fits .d-sec) (c .before .before .before .before .before .before .before .before .before .fits .d-ns) (c .before .before .duration-of .ensures) (c .enum-told2 .given .1))
 
-found-requires : tie.Need-found-requires
-found-requires c κs = let t = instant-yes _ _ (c .before .before .before .before .before .before .before .before .before .before .before .fits .t-sec) (c .before .before .before .before .before .before .before .before .before .before .before .fits .t-ns) (c .before .before .before .before .before .before .before .before .instant-of .ensures) (c .before .before .before .before .before .before .t .given .1) in let d = span-yes _ _ (c .before .before .before .before .before .before .before .before .before .before .before .fits .d-sec) (c .before .before .before .before .before .before .before .before .before .before .before .fits .d-ns) (c .before .before .before .before .span-of .ensures) (c .before .before .minus .given .1) in ((c .before .before .before .before .before .before .before .before .before .before .before .pre), t .in-range, span-most _ _ (d .rest) (d .short (not-true _ (c .if1 .taken))), d .rest)
+search-requires : tie.Need-search-requires
+search-requires c κs = let t = instant-yes _ _ (c .before .before .before .before .before .before .before .before .before .before .before .fits .t-sec) (c .before .before .before .before .before .before .before .before .before .before .before .fits .t-ns) (c .before .before .before .before .before .before .before .before .instant-of .ensures) (c .before .before .before .before .before .before .t .given .1) in let d = span-yes _ _ (c .before .before .before .before .before .before .before .before .before .before .before .fits .d-sec) (c .before .before .before .before .before .before .before .before .before .before .before .fits .d-ns) (c .before .before .before .before .duration-of .ensures) (c .before .before .minus .given .1) in ((c .before .before .before .before .before .before .before .before .before .before .before .pre), t .in-range, span-most _ _ (d .rest) (d .short (not-true _ (c .if1 .taken))), d .rest)
 
 returns-3 : tie.Need-returns-3
-returns-3 c = let t = instant-yes _ _ (c .before .before .before .before .before .before .before .before .before .before .before .before .fits .t-sec) (c .before .before .before .before .before .before .before .before .before .before .before .before .fits .t-ns) (c .before .before .before .before .before .before .before .before .before .instant-of .ensures) (c .before .before .before .before .before .before .before .t .given .1) in let d = span-yes _ _ (c .before .before .before .before .before .before .before .before .before .before .before .before .fits .d-sec) (c .before .before .before .before .before .before .before .before .before .before .before .before .fits .d-ns) (c .before .before .before .before .before .span-of .ensures) (c .before .before .before .minus .given .1) in this-way (c .before .before .before .before .before .before .before .before .before .before .before .before .args .back) _ _ _ _ _ _ (t .means) _ _ (d .means) (not-true _ (c .before .if1 .taken)) (c .found .ensures)
+returns-3 c = let t = instant-yes _ _ (c .before .before .before .before .before .before .before .before .before .before .before .before .fits .t-sec) (c .before .before .before .before .before .before .before .before .before .before .before .before .fits .t-ns) (c .before .before .before .before .before .before .before .before .before .instant-of .ensures) (c .before .before .before .before .before .before .before .t .given .1) in let d = span-yes _ _ (c .before .before .before .before .before .before .before .before .before .before .before .before .fits .d-sec) (c .before .before .before .before .before .before .before .before .before .before .before .before .fits .d-ns) (c .before .before .before .before .before .duration-of .ensures) (c .before .before .before .minus .given .1) in this-way (c .before .before .before .before .before .before .before .before .before .before .before .before .args .back) _ _ _ _ _ _ (t .means) _ _ (d .means) (not-true _ (c .before .if1 .taken)) (c .search .ensures)
 
 negate-requires : tie.Need-negate-requires
 negate-requires c κs = search needs
@@ -42,8 +42,8 @@ negate-requires c κs = search needs
 enum-told-3 : tie.Need-enum-told-3
 enum-told-3 c = search needs
 
-found-requires-2 : tie.Need-found-requires-2
-found-requires-2 c κs = let t = instant-yes _ _ (c .before .before .before .before .before .before .before .before .before .before .before .before .before .before .fits .t-sec) (c .before .before .before .before .before .before .before .before .before .before .before .before .before .before .fits .t-ns) (c .before .before .before .before .before .before .before .before .before .before .before .instant-of .ensures) (c .before .before .before .before .before .before .before .before .before .t .given .1) in let d = span-yes _ _ (c .before .before .before .before .before .before .before .before .before .before .before .before .before .before .fits .d-sec) (c .before .before .before .before .before .before .before .before .before .before .before .before .before .before .fits .d-ns) (c .before .before .before .before .before .before .before .span-of .ensures) (c .before .before .before .before .before .minus .given .1) in ((c .before .before .before .before .before .before .before .before .before .before .before .before .before .before .pre), t .in-range, negated-yes _ _ (c .before .before .before .before .before .before .before .before .before .before .before .before .before .before .fits .d-sec) (c .before .before .before .before .before .before .before .before .before .before .before .before .before .before .fits .d-ns) d (not-false _ (c .before .before .before .if1 .left)) (c .before .before .negate .ensures) (c .enum-told3 .given .1) .1, d .rest)
+search-requires-2 : tie.Need-search-requires-2
+search-requires-2 c κs = let t = instant-yes _ _ (c .before .before .before .before .before .before .before .before .before .before .before .before .before .before .fits .t-sec) (c .before .before .before .before .before .before .before .before .before .before .before .before .before .before .fits .t-ns) (c .before .before .before .before .before .before .before .before .before .before .before .instant-of .ensures) (c .before .before .before .before .before .before .before .before .before .t .given .1) in let d = span-yes _ _ (c .before .before .before .before .before .before .before .before .before .before .before .before .before .before .fits .d-sec) (c .before .before .before .before .before .before .before .before .before .before .before .before .before .before .fits .d-ns) (c .before .before .before .before .before .before .before .duration-of .ensures) (c .before .before .before .before .before .minus .given .1) in ((c .before .before .before .before .before .before .before .before .before .before .before .before .before .before .pre), t .in-range, negated-yes _ _ (c .before .before .before .before .before .before .before .before .before .before .before .before .before .before .fits .d-sec) (c .before .before .before .before .before .before .before .before .before .before .before .before .before .before .fits .d-ns) d (not-false _ (c .before .before .before .if1 .left)) (c .before .before .negate .ensures) (c .enum-told3 .given .1) .1, d .rest)
 
 enum-told-4 : tie.Need-enum-told-4
 enum-told-4 c = search needs
@@ -52,13 +52,13 @@ enum-told-5 : tie.Need-enum-told-5
 enum-told-5 c = search needs
 
 returns-4 : tie.Need-returns-4
-returns-4 c = let t = instant-yes _ _ (c .before .before .before .before .before .before .before .before .before .before .before .before .before .before .before .fits .t-sec) (c .before .before .before .before .before .before .before .before .before .before .before .before .before .before .before .fits .t-ns) (c .before .before .before .before .before .before .before .before .before .before .before .before .instant-of .ensures) (c .before .before .before .before .before .before .before .before .before .before .t .given .1) in let d = span-yes _ _ (c .before .before .before .before .before .before .before .before .before .before .before .before .before .before .before .fits .d-sec) (c .before .before .before .before .before .before .before .before .before .before .before .before .before .before .before .fits .d-ns) (c .before .before .before .before .before .before .before .before .span-of .ensures) (c .before .before .before .before .before .before .minus .given .1) in other-way (c .before .before .before .before .before .before .before .before .before .before .before .before .before .before .before .args .back) _ _ _ _ _ _ (t .means) _ _ (d .means) (not-false _ (c .before .before .before .before .if1 .left)) (negated-yes _ _ (c .before .before .before .before .before .before .before .before .before .before .before .before .before .before .before .fits .d-sec) (c .before .before .before .before .before .before .before .before .before .before .before .before .before .before .before .fits .d-ns) d (not-false _ (c .before .before .before .before .if1 .left)) (c .before .before .before .negate .ensures) (c .before .enum-told3 .given .1) .0) (c .found2 .ensures)
+returns-4 c = let t = instant-yes _ _ (c .before .before .before .before .before .before .before .before .before .before .before .before .before .before .before .fits .t-sec) (c .before .before .before .before .before .before .before .before .before .before .before .before .before .before .before .fits .t-ns) (c .before .before .before .before .before .before .before .before .before .before .before .before .instant-of .ensures) (c .before .before .before .before .before .before .before .before .before .before .t .given .1) in let d = span-yes _ _ (c .before .before .before .before .before .before .before .before .before .before .before .before .before .before .before .fits .d-sec) (c .before .before .before .before .before .before .before .before .before .before .before .before .before .before .before .fits .d-ns) (c .before .before .before .before .before .before .before .before .duration-of .ensures) (c .before .before .before .before .before .before .minus .given .1) in other-way (c .before .before .before .before .before .before .before .before .before .before .before .before .before .before .before .args .back) _ _ _ _ _ _ (t .means) _ _ (d .means) (not-false _ (c .before .before .before .before .if1 .left)) (negated-yes _ _ (c .before .before .before .before .before .before .before .before .before .before .before .before .before .before .before .fits .d-sec) (c .before .before .before .before .before .before .before .before .before .before .before .before .before .before .before .fits .d-ns) d (not-false _ (c .before .before .before .before .if1 .left)) (c .before .before .before .negate .ensures) (c .before .enum-told3 .given .1) .0) (c .search2 .ensures)
 
 returns-5 : tie.Need-returns-5
-returns-5 c = let t = instant-yes _ _ (c .before .before .before .before .before .before .before .before .before .before .before .before .before .before .fits .t-sec) (c .before .before .before .before .before .before .before .before .before .before .before .before .before .before .fits .t-ns) (c .before .before .before .before .before .before .before .before .before .before .before .instant-of .ensures) (c .before .before .before .before .before .before .before .before .before .t .given .1) in let d = span-yes _ _ (c .before .before .before .before .before .before .before .before .before .before .before .before .before .before .fits .d-sec) (c .before .before .before .before .before .before .before .before .before .before .before .before .before .before .fits .d-ns) (c .before .before .before .before .before .before .before .span-of .ensures) (c .before .before .before .before .before .minus .given .1) in no-way (c .before .before .before .before .before .before .before .before .before .before .before .before .before .before .args .back) _ _ _ _ _ _ (t .means) _ _ (d .means) (not-false _ (c .before .before .before .if1 .left)) (negated-no _ _ (c .before .before .before .before .before .before .before .before .before .before .before .before .before .before .fits .d-sec) (c .before .before .before .before .before .before .before .before .before .before .before .before .before .before .fits .d-ns) d (not-false _ (c .before .before .before .if1 .left)) (c .before .before .negate .ensures) (c .enum-told4 .given .1))
+returns-5 c = let t = instant-yes _ _ (c .before .before .before .before .before .before .before .before .before .before .before .before .before .before .fits .t-sec) (c .before .before .before .before .before .before .before .before .before .before .before .before .before .before .fits .t-ns) (c .before .before .before .before .before .before .before .before .before .before .before .instant-of .ensures) (c .before .before .before .before .before .before .before .before .before .t .given .1) in let d = span-yes _ _ (c .before .before .before .before .before .before .before .before .before .before .before .before .before .before .fits .d-sec) (c .before .before .before .before .before .before .before .before .before .before .before .before .before .before .fits .d-ns) (c .before .before .before .before .before .before .before .duration-of .ensures) (c .before .before .before .before .before .minus .given .1) in no-way (c .before .before .before .before .before .before .before .before .before .before .before .before .before .before .args .back) _ _ _ _ _ _ (t .means) _ _ (d .means) (not-false _ (c .before .before .before .if1 .left)) (negated-no _ _ (c .before .before .before .before .before .before .before .before .before .before .before .before .before .before .fits .d-sec) (c .before .before .before .before .before .before .before .before .before .before .before .before .before .before .fits .d-ns) d (not-false _ (c .before .before .before .if1 .left)) (c .before .before .negate .ensures) (c .enum-told4 .given .1))
 
 returns-6 : tie.Need-returns-6
-returns-6 c = let d = span-yes _ _ (c .before .before .before .before .before .before .before .before .before .before .before .before .before .before .fits .d-sec) (c .before .before .before .before .before .before .before .before .before .before .before .before .before .before .fits .d-ns) (c .before .before .before .before .before .before .before .span-of .ensures) (c .before .before .before .before .before .minus .given .1) in negated-well _ _ (c .before .before .before .before .before .before .before .before .before .before .before .before .before .before .fits .d-sec) (c .before .before .before .before .before .before .before .before .before .before .before .before .before .before .fits .d-ns) d (not-false _ (c .before .before .before .if1 .left)) (c .before .before .negate .ensures) (c .enum-told5 .given .1)
+returns-6 c = let d = span-yes _ _ (c .before .before .before .before .before .before .before .before .before .before .before .before .before .before .fits .d-sec) (c .before .before .before .before .before .before .before .before .before .before .before .before .before .before .fits .d-ns) (c .before .before .before .before .before .before .before .duration-of .ensures) (c .before .before .before .before .before .minus .given .1) in negated-well _ _ (c .before .before .before .before .before .before .before .before .before .before .before .before .before .before .fits .d-sec) (c .before .before .before .before .before .before .before .before .before .before .before .before .before .before .fits .d-ns) d (not-false _ (c .before .before .before .if1 .left)) (c .before .before .negate .ensures) (c .enum-told5 .given .1)
 
 pub move-in-spec : {M : Type 1} → statement M
 move-in-spec =
@@ -68,15 +68,15 @@ move-in-spec =
     enum-known-t
     enum-told
     returns
-    span-of-requires
+    duration-of-requires
     enum-known-minus
     enum-told-2
     returns-2
-    found-requires
+    search-requires
     returns-3
     negate-requires
     enum-told-3
-    found-requires-2
+    search-requires-2
     enum-told-4
     enum-told-5
     returns-4

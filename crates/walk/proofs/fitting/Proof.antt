@@ -1,6 +1,6 @@
 -- `walk::fitting` meets its contract: by its tests. Assumes nothing.
 use Rattle.walk.proofs.Steps.{fits-in}
-use Rattle.blocks.specs.Counted.{size}
+use Rattle.block.specs.Counted.{size}
 use native.Mathlib.Omega.{arith}
 use mathlib.Core.Path.{refl, sym, _∙_}
 use borrow.Author.Tests.{ltb-true, ltb-false, not-true, not-false}

@@ -1,8 +1,8 @@
 -- `walk::further` meets its contract: by its three answers. Assumes nothing.
 use mathlib.Core.Path.{sym, _∙_}
 use native.Mathlib.Omega.{arith}
-use Rattle.blocks.specs.Counted.{size}
-use Rattle.spend.specs.Spending.{exact-found, exact-gap, exact-left}
+use Rattle.block.specs.Counted.{size}
+use Rattle.walk_step.specs.Spending.{exact-found, exact-gap, exact-left}
 use Rattle.walk.proofs.Sights.{further-found, further-gap, further-rest, further-left}
 use borrow.Author.Needs.{needs}
 use Rattle.walk.proofs.further.Statement.{statement}

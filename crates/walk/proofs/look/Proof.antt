@@ -16,20 +16,20 @@ large-look-requires c κs = (((c .before .before .before .before .before .pre .0
 returns : tie.Need-returns
 returns c = ((c .large-look .ensures))
 
-slice-aggregate-look-into : tie.Need-slice-aggregate-look-into
-slice-aggregate-look-into c = search needs
+slice-aggregate-search-window : tie.Need-slice-aggregate-search-window
+slice-aggregate-search-window c = search needs
 
-slice-aggregate-look-into-2 : tie.Need-slice-aggregate-look-into-2
-slice-aggregate-look-into-2 c = search needs
+slice-aggregate-search-window-2 : tie.Need-slice-aggregate-search-window-2
+slice-aggregate-search-window-2 c = search needs
 
-slice-aggregate-look-into-3 : tie.Need-slice-aggregate-look-into-3
-slice-aggregate-look-into-3 c = search needs
+slice-aggregate-search-window-3 : tie.Need-slice-aggregate-search-window-3
+slice-aggregate-search-window-3 c = search needs
 
-look-into-requires : tie.Need-look-into-requires
-look-into-requires c κs = (((c .before .before .before .before .before .before .before .before .pre .0)), ((c .before .before .before .before .before .before .before .before .pre .1)), ((c .before .before .before .before .before .before .before .before .pre .2)), ((c .before .before .before .before .before .before .before .before .pre .3)), ((c .before .before .before .before .before .before .before .before .pre .4)), ((c .before .before .before .before .before .before .before .before .pre .5)), ((c .before .before .before .before .before .before .before .before .pre .6)), ((c .before .before .before .before .before .before .before .before .pre .7)), search needs, search needs, search needs)
+search-window-requires : tie.Need-search-window-requires
+search-window-requires c κs = (((c .before .before .before .before .before .before .before .before .pre .0)), ((c .before .before .before .before .before .before .before .before .pre .1)), ((c .before .before .before .before .before .before .before .before .pre .2)), ((c .before .before .before .before .before .before .before .before .pre .3)), ((c .before .before .before .before .before .before .before .before .pre .4)), ((c .before .before .before .before .before .before .before .before .pre .5)), ((c .before .before .before .before .before .before .before .before .pre .6)), ((c .before .before .before .before .before .before .before .before .pre .7)), search needs, search needs, search needs)
 
 returns-2 : tie.Need-returns-2
-returns-2 c = ((c .before .before .before .look-into .ensures))
+returns-2 c = ((c .before .before .before .search-window .ensures))
 
 pub look-spec : {M : Type 1} → statement M
 look-spec =
@@ -39,8 +39,8 @@ look-spec =
     add-if1-2
     large-look-requires
     returns
-    slice-aggregate-look-into
-    slice-aggregate-look-into-2
-    slice-aggregate-look-into-3
-    look-into-requires
+    slice-aggregate-search-window
+    slice-aggregate-search-window-2
+    slice-aggregate-search-window-3
+    search-window-requires
     returns-2)

@@ -1,7 +1,7 @@
--- `walk::search_walk` meets its contract: nothing to find, or by `seek`. Assumes nothing.
+-- `walk::search_walk` meets its contract: nothing to find, or by `search-from`. Assumes nothing.
 use Rattle.walk.specs.Walks.{found-at}
 use Rattle.walk.proofs.Seeks.{none-sought, none-count}
-use Rattle.blocks.specs.Counted.{size}
+use Rattle.block.specs.Counted.{size}
 use native.Mathlib.Omega.{arith}
 use mathlib.Core.Path.{sym, _∙_}
 use borrow.Author.Tests.{ltb-true, ltb-false, not-true, not-false}
@@ -18,12 +18,12 @@ returns c = (none-sought _ ((c .before .before .before .before .pre .0 .well)) _
 reach-requires : tie.Need-reach-requires
 reach-requires c κs = search needs
 
-seek-requires : tie.Need-seek-requires
-seek-requires c κs = ((c .before .before .before .before .before .pre .0), (c .before .before .before .before .before .pre .1), (c .reach .ensures .0), (c .reach .ensures .1), ltb-true 0 (size ((c .before .before .before .before .before .args .d))) (sym ((c .before .before .less .ensures)) ∙ not-false _ ((c .before .if1 .left))), (c .before .before .before .before .before .pre .2), (c .before .before .before .before .before .pre .3))
+search-from-requires : tie.Need-search-from-requires
+search-from-requires c κs = ((c .before .before .before .before .before .pre .0), (c .before .before .before .before .before .pre .1), (c .reach .ensures .0), (c .reach .ensures .1), ltb-true 0 (size ((c .before .before .before .before .before .args .d))) (sym ((c .before .before .less .ensures)) ∙ not-false _ ((c .before .if1 .left))), (c .before .before .before .before .before .pre .2), (c .before .before .before .before .before .pre .3))
 
 returns-2 : tie.Need-returns-2
 returns-2 c = search needs
 
 pub search-walk-spec : {M : Type 1} → statement M
 search-walk-spec =
-    tie.close (tie.spec less-requires returns reach-requires seek-requires returns-2)
+    tie.close (tie.spec less-requires returns reach-requires search-from-requires returns-2)

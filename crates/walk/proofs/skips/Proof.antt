@@ -1,6 +1,6 @@
 -- `walk::skips` meets its contract: by its tests, in order. Assumes nothing.
 use Rattle.walk.proofs.Steps.{skipped-fresh, skipped-full, skipped-part, skipped-run, skipped-from}
-use Rattle.blocks.specs.Counted.{size}
+use Rattle.block.specs.Counted.{size}
 use Rattle.instant.specs.Instant.{nanos}
 use borrow.Author.Tests.{not-true, not-false}
 use borrow.Author.Needs.{needs}

@@ -1,5 +1,5 @@
 use borrow.Author.Needs.{needs}
-use Rattle.be.proofs.Tests.{tests}
+use Rattle.big_endian.proofs.Tests.{tests}
 use Rattle.zone.specs.Zones.{inRun}
 use borrow.Author.Needs.{needs}
 use Rattle.zone.proofs.in_run.Statement.{statement}

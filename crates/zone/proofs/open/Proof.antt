@@ -1,5 +1,5 @@
 use mathlib.Core.Path.{sym, _∙_}
-use Rattle.tzif.proofs.Laws.{zone-unusable}
+use Rattle.zone_tzif.proofs.Laws.{zone-unusable}
 use Rattle.zone.specs.Zones.{refused}
 use Rattle.zone.proofs.Opens.{open-is}
 use borrow.Author.Needs.{needs}
@@ -7,9 +7,9 @@ use Rattle.zone.proofs.open.Statement.{statement}
 use Rattle.zone.proofs.open.Tie as tie
 use Rattle.zone.proofs.open.Reads as reads
 use Rattle.zone.proofs.open.Lts as lts
-use Rattle.be.proofs.part.Reads as part-reads
-use Rattle.footer.proofs.parse.Reads as parse-reads
-use Rattle.tzif.proofs.read.Reads as read-reads
+use Rattle.big_endian.proofs.part.Reads as part-reads
+use Rattle.zone_footer.proofs.parse.Reads as parse-reads
+use Rattle.zone_tzif.proofs.read.Reads as read-reads
 use Rattle.zone.proofs.joined.Reads as joined-reads
 
 -- src/lib.rt:44:34

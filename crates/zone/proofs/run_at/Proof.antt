@@ -17,11 +17,11 @@ time-at-requires c κs = (c .before .before .before .before .before .before .pre
 returns : tie.Need-returns
 returns c = (early-offset (c .before .before .before .before .before .before .before .pre .0 .table) _ _ (c .before .before .before .before .count-at .ensures .0) (omega arith) (c .before .before .before .table-offset .ensures .0), early-run (c .before .before .before .before .before .before .before .pre .0 .table) _ _ (c .before .before .before .before .count-at .ensures .0) (omega arith) (c .time-at .ensures))
 
-span-at-requires : tie.Need-span-at-requires
-span-at-requires c κs = search needs
+footer-run-at-requires : tie.Need-footer-run-at-requires
+footer-run-at-requires c κs = search needs
 
 returns-2 : tie.Need-returns-2
-returns-2 c = (late-offset (c .before .before .before .before .before .before .before .pre .0 .table) _ _ (c .before .before .before .before .count-at .ensures .0) (omega arith) (c .before .before .before .before .count-at .ensures .1) (c .before .before .before .table-offset .ensures .0) (c .span-at .ensures .0), late-run (c .before .before .before .before .before .before .before .pre .0 .table) _ _ (c .before .before .before .before .count-at .ensures .0) (omega arith) (c .before .before .before .before .count-at .ensures .1) (c .before .before .before .table-offset .ensures .0) (c .span-at .ensures .1))
+returns-2 c = (late-offset (c .before .before .before .before .before .before .before .pre .0 .table) _ _ (c .before .before .before .before .count-at .ensures .0) (omega arith) (c .before .before .before .before .count-at .ensures .1) (c .before .before .before .table-offset .ensures .0) (c .footer-run-at .ensures .0), late-run (c .before .before .before .before .before .before .before .pre .0 .table) _ _ (c .before .before .before .before .count-at .ensures .0) (omega arith) (c .before .before .before .before .count-at .ensures .1) (c .before .before .before .table-offset .ensures .0) (c .footer-run-at .ensures .1))
 
 pub run-at-spec : {M : Type 1} → statement M
 run-at-spec =
@@ -31,5 +31,5 @@ run-at-spec =
     table-offset-requires
     time-at-requires
     returns
-    span-at-requires
+    footer-run-at-requires
     returns-2)

@@ -4,7 +4,7 @@ use Rattle.zone.proofs.utc.Statement.{statement}
 use Rattle.zone.proofs.utc.Tie as tie
 use Rattle.zone.proofs.utc.Reads as reads
 use Rattle.zone.proofs.utc.Lts as lts
-use Rattle.tzif.proofs.utc.Reads as utc-reads
+use Rattle.zone_tzif.proofs.utc.Reads as utc-reads
 
 -- src/lib.rt:57:9
 utc-requires : tie.Need-utc-requires

@@ -1,0 +1,108 @@
+// Bytes and big-endian numbers at a place of a slice, and parts of a slice.
+// Each function but `eight_at` takes every place: a byte past the end reads as 0, and a part ends where the slice ends. So a caller shows nothing about
+// places; that a number lies inside is for the caller's own tests to say. A caller who has said so can use `eight_at`, which tests nothing.
+ghost use mathlib.Core.Path.{_≡_};
+ghost use Prim.Native.Nat.{_+_, _≤_, _<_};
+ghost use lib.ListN.{length, getD, take, drop};
+ghost use Rattle.big_endian.specs.Be.{be16, be32, be64};
+
+// A byte as a wider number.
+fn wide(x: u8) -> u32
+    ensures { λ r. ⌜ (r ≡ x) × (r < 256) ⌝ }
+{
+    x as u32
+}
+
+// A four-byte number as an eight-byte one.
+fn wide64(x: u32) -> u64
+    ensures { λ r. ⌜ (r ≡ x) × (r < 4294967296) ⌝ }
+{
+    x as u64
+}
+
+// The byte at i.
+pub fn byte_at(s: &[u8], i: usize) -> u8
+    ensures { λ r. ⌜ r ≡ getD (now (s .entry)) i 0 ⌝ }
+{
+    if i < s.len() { s[i] } else { 0 }
+}
+
+// The byte at i as a size.
+pub fn small_at(s: &[u8], i: usize) -> usize
+    ensures { λ r. ⌜ (r ≡ getD (now (s .entry)) i 0) × (r < 256) ⌝ }
+{
+    wide(byte_at(s, i)) as usize
+}
+
+// At most n bytes from a on: what is there of them.
+pub fn part(s: &[u8], a: usize, n: usize) -> &[u8]
+    ensures { λ r. ⌜ now r ≡ take n (drop a (now (s .entry))) ⌝ }
+{
+    if a > s.len() {
+        return &s[..0];
+    }
+    if n > s.len() - a {
+        return &s[a..];
+    }
+    &s[a..a + n]
+}
+
+// The number of two bytes at i.
+pub fn be16_at(s: &[u8], i: usize) -> u32
+    ensures { λ r. ⌜ (r ≡ be16 (now (s .entry)) i) × (r < 65536) ⌝ }
+{
+    if i >= s.len() {
+        return 0;
+    }
+    wide(byte_at(s, i)) * 256 + wide(byte_at(s, i + 1))
+}
+
+// The number of four bytes at i, all of which are there.
+fn four_at(s: &[u8], i: usize) -> u32
+    requires { ⌜ i + 4 ≤ length (now s) ⌝ }
+    ensures { λ r. ⌜ r ≡ be32 (now (s .entry)) i ⌝ }
+{
+    ((wide(s[i]) * 256 + wide(s[i + 1])) * 256 + wide(s[i + 2])) * 256 + wide(s[i + 3])
+}
+
+// The number of four bytes at i.
+pub fn be32_at(s: &[u8], i: usize) -> u32
+    ensures { λ r. ⌜ r ≡ be32 (now (s .entry)) i ⌝ }
+{
+    if i >= s.len() {
+        return 0;
+    }
+    if s.len() - i >= 4 {
+        return four_at(s, i);
+    }
+    ((wide(byte_at(s, i)) * 256 + wide(byte_at(s, i + 1))) * 256 + wide(byte_at(s, i + 2))) * 256
+        + wide(byte_at(s, i + 3))
+}
+
+// The number of four bytes at i as a size.
+pub fn size_at(s: &[u8], i: usize) -> usize
+    ensures { λ r. ⌜ (r ≡ be32 (now (s .entry)) i) × (r < 4294967296) ⌝ }
+{
+    wide64(be32_at(s, i)) as usize
+}
+
+// The number of eight bytes at i, all of which are there.
+pub fn eight_at(s: &[u8], i: usize) -> u64
+    requires { ⌜ i + 8 ≤ length (now s) ⌝ }
+    ensures { λ r. ⌜ r ≡ be64 (now (s .entry)) i ⌝ }
+{
+    wide64(four_at(s, i)) * 4294967296 + wide64(four_at(s, i + 4))
+}
+
+// The number of eight bytes at i.
+pub fn be64_at(s: &[u8], i: usize) -> u64
+    ensures { λ r. ⌜ r ≡ be64 (now (s .entry)) i ⌝ }
+{
+    if i >= s.len() {
+        return 0;
+    }
+    if s.len() - i >= 8 {
+        return eight_at(s, i);
+    }
+    wide64(be32_at(s, i)) * 4294967296 + wide64(be32_at(s, i + 4))
+}

@@ -1,0 +1,46 @@
+-- Dates as they are written in a list of bytes, one behind the other.
+use mathlib.Core.Bool.{Bool}
+use mathlib.Core.Path.{_≡_}
+use mathlib.Core.List.{List, [], _∷_}
+use Prim.Native.Nat.{ℕ, zero, suc, _+_, _-_, _%_}
+use lib.ListN.{getD, take, drop}
+use Rattle.big_endian.specs.Be.{be16}
+use Rattle.big_endian.specs.Maybe.{isSome}
+use Rattle.civil.specs.declared.Date.{Date}
+use Rattle.model.specs.Basic.{if_then_else_, each}
+use Rattle.model.specs.Book.{dateIn}
+use Rattle.model.specs.Bytes.{pieces}
+use Rattle.model.specs.Calendar.{isDate, dayNumber}
+
+-- the year that two bytes say, counted from -10400; 0 for those before
+abbrev pub yearOf : ℕ → ℕ
+yearOf n = (n + 32768) % 65536 - 22368
+
+-- the year written at p
+unfoldable pub yearAt : List ℕ → ℕ → ℕ
+yearAt b p = yearOf (be16 b p)
+
+-- d is the year, month and day written at p
+pub record IsWritten (b : List ℕ) (p : ℕ) (d : Date) : Type 0 where
+  pub year : d .year ≡ yearAt b p
+  pub month : d .month ≡ getD b (p + 2) 0
+  pub day : d .day ≡ getD b (p + 3) 0
+
+-- the day number of the date written at p, 0 where it is no date
+unfoldable pub dayAt : List ℕ → ℕ → ℕ
+dayAt b p =
+    if isDate (yearAt b p) (getD b (p + 2) 0) (getD b (p + 3) 0) then dayNumber (yearAt b p) (getD b (p + 2) 0) (getD b (p + 3) 0) else 0
+
+-- those of the n dates written from p on
+unfoldable pub datesAt : List ℕ → ℕ → ℕ → List ℕ
+datesAt b p zero = []
+datesAt b p (suc n) = dayAt b p ∷ datesAt b (p + 4) n
+
+-- ---- that the crate `model` reads a date at p, and n dates from p on
+
+unfoldable pub isDay : List ℕ → ℕ → Bool
+isDay l p = isSome (dateIn (take 4 (drop p l)))
+
+-- n dates
+unfoldable pub areDays : List ℕ → ℕ → ℕ → Bool
+areDays l p n = isSome (each dateIn (pieces 4 n (drop p l)))

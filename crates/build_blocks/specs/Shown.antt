@@ -1,0 +1,38 @@
+-- What the functions that fill a block list are asked and answer.
+use mathlib.Core.Path.{_≡_}
+use mathlib.Core.List.{List, [], map}
+use Prim.Native.Nat.{ℕ, _≤_, _<_}
+use lib.ListN.{take}
+use Rattle.model.specs.Blocks.{Block as Block′, put}
+use Rattle.model.specs.Walk.{onward}
+use Rattle.model.specs.Working.{blocksOfAll}
+use Rattle.instant.specs.Instant.{nanos}
+use Rattle.instant.specs.declared.Instant.{Instant}
+use Rattle.block_list.specs.Listed.{listOf}
+use Rattle.block_list.specs.declared.Block.{Block}
+use Rattle.block_list.specs.declared.Blocks.{Blocks}
+use Rattle.book.specs.Meaning.{timeIn}
+use Rattle.rule.specs.Rules.{ruleIs}
+use Rattle.rule.specs.declared.Rule.{Rule}
+use Rattle.zone_local.specs.Dates.{tillTime}
+use Rattle.window_dates.specs.Windows.{DaysOf}
+use Rattle.window_rule.specs.Filled.{IsFrame}
+use Rattle.build_blocks.specs.declared.Shifts.{Shifts}
+
+-- a block of a list, if it holds anything
+unfoldable pub held : Block → List Block′
+held b = put (b .start) (b .end) []
+
+-- the dates of a rule in the window [lo, hi), their frame, and the times of day of the shift's start and end
+pub record IsShifts (pack : List ℕ) (r : Rule) (lo hi : Instant) (x : Shifts) : Type 0 where
+  pub dates : DaysOf (ruleIs pack r .zone) lo hi (x .days)
+  pub framed : IsFrame (x .days) lo hi (x .frame)
+  pub from-is : x .from ≡ timeIn (r .from)
+  pub to-is : x .to ≡ tillTime (timeIn (r .from)) (timeIn (r .to))
+  pub early : x .from < 86400000000000
+  pub soon : x .to ≤ 172800000000000
+
+-- the blocks of the first n rules in the window [lo, hi), from lo; a rule shows at most 21 dates
+pub record Listed (pack : List ℕ) (rules : List Rule) (n : ℕ) (lo hi : Instant) (b : Blocks) : Type 0 where
+  pub same : listOf b ≡ onward (nanos lo) (blocksOfAll (nanos lo) (nanos hi) (map (ruleIs pack) (take n rules)))
+  pub few : b .len ≤ 336

@@ -1,0 +1,146 @@
+// The blocks of work or break rules in a window of at most 14 days, in a block list that is filled from the front, rule by rule and date by date. A block's
+// borders are nanoseconds from the window's start.
+ghost use mathlib.Core.Path.{_≡_};
+ghost use Prim.Native.Nat.{_+_, _≤_, _<_};
+ghost use lib.Dec.{ltb};
+ghost use lib.ListN.{take};
+ghost use Rattle.model.specs.Basic.{if_then_else_};
+ghost use Rattle.model.specs.Blocks.{clipped};
+ghost use Rattle.model.specs.Walk.{onward};
+ghost use Rattle.instant.specs.Instant.{nanos};
+ghost use Rattle.rule.specs.Rules.{ruleIs, RuleFits, All};
+ghost use Rattle.zone_local.specs.Dates as date;
+ghost use Rattle.window_dates.specs.Windows.{Window};
+ghost use Rattle.window_rule.specs.Filled.{Inside};
+ghost use Rattle.build_blocks.specs.Shown.{held, IsShifts, Listed};
+use block_list::Block;
+use block_list::Blocks;
+use instant::Instant;
+use rule::Rule;
+use window_dates::Days;
+use window_rule::Frame;
+
+// ---- one date
+
+// A block that holds nothing.
+fn nothing() -> Block
+    ensures { λ r. ⌜ (r .start ≡ 0) × (r .end ≡ 0) ⌝ }
+{
+    Block { start: 0, end: 0 }
+}
+
+// The part of [s, e) in [lo, hi), from lo.
+fn clipped(s: u64, e: u64, lo: u64, hi: u64) -> Block
+    ensures { λ r. ⌜ held r ≡ onward lo (clipped lo hi s e) ⌝ }
+{
+    let from = block_pairs::greatest(s, lo);
+    let to = block_pairs::least(e, hi);
+    if from < to {
+        return Block {
+            start: from - lo,
+            end: to - lo,
+        };
+    }
+    nothing()
+}
+
+// x from lo, if it holds anything.
+fn away(x: block::Block, lo: Instant) -> Block
+    requires { ⌜ Inside lo x ⌝ }
+    ensures { λ r. ⌜ held r ≡ onward (nanos lo) (date.held x) ⌝ }
+{
+    let s = x.start;
+    let e = x.end;
+    if instant::precedes(s, e) {
+        return Block {
+            start: window_rule::since(lo, s),
+            end: window_rule::since(lo, e),
+        };
+    }
+    nothing()
+}
+
+// A rule in a window: its dates, their frame, and the times of day of start and end, from a date's midnight.
+pub struct Shifts {
+    pub days: Days,
+    pub frame: Frame,
+    pub from: u64,
+    pub to: u64,
+}
+
+// Those of the rule in the window.
+fn shifts_of(pack: &[u8], r: Rule, lo: Instant, hi: Instant) -> Shifts
+    requires { ⌜ RuleFits (now pack) r × Window 14 lo hi ⌝ }
+    ensures { λ x. ⌜ IsShifts (now (pack .entry)) r lo hi x ⌝ }
+{
+    let z = r.zone;
+    let days = window_dates::days_in(pack, r.at, r.len, z, lo, hi);
+    let frame = window_rule::frame_of(days, lo, hi);
+    let a = r.from;
+    let b = r.to;
+    let from = window_rule::time_in(a);
+    let to = window_rule::till(from, window_rule::time_in(b));
+    Shifts {
+        days,
+        frame,
+        from,
+        to,
+    }
+}
+
+// What the rule shows of a date in the window: by the frame, where one offset holds around the window; else each end is looked up.
+fn piece_at(pack: &[u8], r: Rule, x: Shifts, day: u32, lo: Instant, hi: Instant) -> Block
+    requires { ⌜ RuleFits (now pack) r × Window 14 lo hi × IsShifts (now pack) r lo hi x × (x .days .first ≤ day) × (day ≤ x .days .last) ⌝ }
+    ensures { λ b. ⌜ held b ≡ onward (nanos lo) (date.pieceOf (ruleIs (now (pack .entry)) r) (nanos lo) (nanos hi) day) ⌝ }
+{
+    let f = x.frame;
+    let days = x.days;
+    if f.first == 0 {
+        return away(window_dates::piece_of(pack, r, days, day, lo, hi), lo);
+    }
+    let k = f.first + (day - days.first) as u64 * 86400000000000;
+    clipped(k + x.from, k + x.to, f.lo, f.hi)
+}
+
+// ---- a list
+
+// The place behind a block x that is stored at w: one further if it holds anything.
+fn past(w: usize, x: Block) -> usize
+    requires { ⌜ w < 672 ⌝ }
+    ensures { λ r. ⌜ r ≡ (if ltb (x .start) (x .end) then w + 1 else w) ⌝ }
+{
+    if x.start < x.end {
+        return w + 1;
+    }
+    w
+}
+
+// The blocks of the first n rules, in a list that starts as one block value repeated. A rule shows at most 21 dates of 14 days, so they are at most 336.
+pub fn shift_blocks(rules: [Rule; 16], n: usize, pack: &[u8], lo: Instant, hi: Instant) -> Blocks
+    requires { ⌜ (n ≤ 16) × All (RuleFits (now pack)) (take n rules) × Window 14 lo hi ⌝ }
+    ensures { λ r. ⌜ Listed (now (pack .entry)) rules n lo hi r ⌝ }
+{
+    let mut out = block_list::empty();
+    let mut w: usize = 0;
+    let mut i: usize = 0;
+    while i < n {
+        let r = rules[i];
+        let x = shifts_of(pack, r, lo, hi);
+        let days = x.days;
+        let last = days.last;
+        let mut d = days.first;
+        while d <= last {
+            if window_dates::shows(r, d) {
+                let y = piece_at(pack, r, x, d, lo, hi);
+                out.items[w] = y;
+                w = past(w, y);
+                d += 1;
+            } else {
+                d += 1;
+            }
+        }
+        i += 1;
+    }
+    out.len = w;
+    out
+}

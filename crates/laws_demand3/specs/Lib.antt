@@ -1,0 +1,13 @@
+pub mod Walks
+pub mod Distance
+pub mod Zones
+pub mod Local
+pub mod Windows
+pub mod Demand
+pub mod Built
+pub mod Diff
+pub mod Pairs
+pub mod SignedPairs
+pub mod Demand3
+pub mod Turned
+pub mod Sharp

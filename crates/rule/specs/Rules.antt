@@ -1,0 +1,65 @@
+-- What a schedule by value means: with the bytes of book and pack it is a schedule of the definitions.
+use mathlib.Core.Path.{_≡_}
+use mathlib.Core.List.{List, [], _∷_, map}
+use Prim.Native.Nat.{ℕ, _+_, _*_, _≤_, _<_}
+use lib.ListN.{length, take, drop}
+use Rattle.model.specs.Basic.{distinct}
+use Rattle.model.specs.Instant.{second}
+use Rattle.model.specs.Working as model
+use Rattle.laws_skip.specs.Books.{BuiltWell}
+use Rattle.book.specs.Meaning.{timeIn, datesAt}
+use Rattle.book.specs.declared.Time.{Time}
+use Rattle.zone.specs.Zones.{meant, ZoneOk}
+use Rattle.rule.specs.declared.Rule.{Rule}
+use Rattle.rule.specs.declared.HolidayDates.{HolidayDates}
+use Rattle.rule.specs.declared.Schedule.{Schedule}
+
+-- a part of the pack
+abbrev pub fileAt : List ℕ → ℕ → ℕ → List ℕ
+fileAt p at len = take len (drop at p)
+
+abbrev pub ruleIs : List ℕ → Rule → model.Rule
+ruleIs p r =
+    model.shiftRule (meant (fileAt p (r .at) (r .len)) (r .zone)) (record { days = r .days; from = timeIn (r .from); to = timeIn (r .to) })
+
+abbrev pub holidaysIs : List ℕ → List ℕ → HolidayDates → model.Holidays
+holidaysIs b p c = record { zone = meant (fileAt p (c .at) (c .len)) (c .zone); dates = distinct (datesAt b (c .dates) (c .count)) }
+
+abbrev pub scheduleIs : List ℕ → List ℕ → Schedule → model.Schedule
+scheduleIs b p s = record {
+  work = map (ruleIs p) (take (s .works) (s .work));
+  breaks = map (ruleIs p) (take (s .pauses) (s .breaks));
+  holidays = map (holidaysIs b p) (take (s .closings) (s .closed));
+  limit = s .limit * second;
+}
+
+-- ---- what the rules of a built schedule have
+
+pub record TimeFits (t : Time) : Type 0 where
+  pub seconds : t .seconds < 86400
+  pub nanos : t .nanos < 1000000000
+
+pub record RuleFits (p : List ℕ) (r : Rule) : Type 0 where
+  pub opened : ZoneOk (fileAt p (r .at) (r .len)) (r .zone)
+  pub days : r .days < 128
+  pub from : TimeFits (r .from)
+  pub to : TimeFits (r .to)
+
+pub record HolidaysFit (b p : List ℕ) (c : HolidayDates) : Type 0 where
+  pub opened : ZoneOk (fileAt p (c .at) (c .len)) (c .zone)
+  pub inside : c .dates + 4 * c .count ≤ length b
+
+abbrev pub All : {A : Type 0} → (A → Type 0) → List A → Type 0
+All P [] = Unit {0}
+All P (a ∷ l) = P a × All P l
+
+pub record ScheduleFits (b p : List ℕ) (s : Schedule) : Type 0 where
+  pub works : s .works ≤ 16
+  pub pauses : s .pauses ≤ 16
+  pub closings : s .closings ≤ 8
+  pub work-fits : All (RuleFits p) (take (s .works) (s .work))
+  pub breaks-fit : All (RuleFits p) (take (s .pauses) (s .breaks))
+  pub closed-fits : All (HolidaysFit b p) (take (s .closings) (s .closed))
+  -- what every book within the limits makes: 366 to 3,950 days as the search limit among it
+  pub well : BuiltWell (scheduleIs b p s)
+  pub limit : s .limit ≤ 341280000

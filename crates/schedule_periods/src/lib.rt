@@ -1,0 +1,98 @@
+// The calls `next_period` and `previous_period`, on the bytes of a rule book and a zone pack and on an instant as signed numbers: the period's
+// start and end, or a refusal.
+ghost use mathlib.Core.Path.{_≡_};
+ghost use mathlib.Core.List.{List, _++_};
+ghost use Prim.Native.Nat.{ℕ, _^_, _<_};
+ghost use Rattle.model.specs.Instant.{instant};
+ghost use Rattle.model.specs.Blocks.{block};
+ghost use Rattle.model.specs.Calls.{ends, periodCall, nextPeriod, previousPeriod};
+ghost use Rattle.instant.specs.Instant.{nanos};
+ghost use Rattle.block.specs.Counted.{size};
+ghost use Rattle.zone_local.specs.Dates.{InRange};
+ghost use Rattle.rule.specs.Rules.{scheduleIs, ScheduleFits};
+ghost use Rattle.walk_step.specs.Spending.{wayOf};
+ghost use Rattle.walk_distance.specs.Distances.{Short};
+ghost use Rattle.schedule_periods.specs.Replies.{periodIs, periodGiven, periodOf};
+use block::Span;
+use instant::Instant;
+use instant_signed::InstantRead;
+use rule::Schedule;
+use walk_period::Found;
+
+// What `next_period` and `previous_period` answer: the start's and the end's seconds from 1970 and nanoseconds, or a refusal's number and place.
+pub enum PeriodAnswer {
+    Is(i64, i64, i64, i64),
+    Refused(u32, usize),
+}
+
+// The period between two instants, as signed numbers.
+fn period_answer(start: Instant, end: Instant) -> PeriodAnswer
+    requires { ⌜ (start .sec < 2 ^ 63) × (start .ns < 1000000000) × (end .sec < 2 ^ 63) × (end .ns < 1000000000) ⌝ }
+    ensures { λ r. ⌜ periodIs r ≡ periodGiven (instant (nanos start) ++ instant (nanos end)) ⌝ }
+{
+    let a = instant_signed::seconds_of(start.sec);
+    let b = instant_signed::seconds_of(end.sec);
+    PeriodAnswer::Is(a, start.ns as i64, b, end.ns as i64)
+}
+
+// The period whose nearer border is at the distance f from t, on or back, and its further one at e. Going on the nearer border is its start, going
+// back it is its end.
+fn period_at(t: Instant, back: bool, f: Span, e: Span) -> PeriodAnswer
+    requires { ⌜ InRange t × Short f × Short e ⌝ }
+    ensures { λ r. ⌜ periodIs r ≡ periodGiven (ends (wayOf back) (nanos t) (block (size f) (size e))) ⌝ }
+{
+    let near = walk_distance::away(t, back, f);
+    let far = walk_distance::away(t, back, e);
+    if back {
+        return period_answer(far, near);
+    }
+    period_answer(near, far)
+}
+
+// On a built schedule: going on, the period at an instant or the first one after it; going back, the last period that begins before it, up to it.
+pub fn period_in(
+    book: &[u8],
+    pack: &[u8],
+    s: Schedule,
+    back: bool,
+    sec: i64,
+    ns: i64,
+) -> PeriodAnswer
+    requires { ⌜ ScheduleFits (now book) (now pack) s ⌝ }
+    ensures { λ r. ⌜ periodIs r ≡ periodCall (wayOf back) (scheduleIs (now (book .entry)) (now (pack .entry)) s) sec ns ⌝ }
+{
+    let InstantRead::At(t) = instant_signed::instant_of(sec, ns) else {
+        return PeriodAnswer::Refused(8, 0);
+    };
+    match walk_period::period_walk(book, pack, s, t, back) {
+        Found::NoWork => PeriodAnswer::Refused(6, 0),
+        Found::OutOfRange => PeriodAnswer::Refused(7, 0),
+        Found::Period(f, e) => period_at(t, back, f, e),
+    }
+}
+
+// The same from the bytes of book and pack: what `build` refuses comes first.
+fn period(book: &[u8], pack: &[u8], back: bool, sec: i64, ns: i64) -> PeriodAnswer
+    ensures { λ r. ⌜ periodIs r ≡ periodOf (wayOf back) (now (book .entry)) (now (pack .entry)) sec ns ⌝ }
+{
+    let r = build::build(book, pack);
+    if r.number != 0 {
+        return PeriodAnswer::Refused(r.number, r.place);
+    }
+    let s = r.schedule;
+    period_in(book, pack, s, back, sec, ns)
+}
+
+// The period at an instant or the first one after it. It starts at the instant if that lies inside, and is cut to the search limit.
+pub fn next_period(book: &[u8], pack: &[u8], sec: i64, ns: i64) -> PeriodAnswer
+    ensures { λ r. ⌜ periodIs r ≡ nextPeriod (now (book .entry)) (now (pack .entry)) sec ns ⌝ }
+{
+    period(book, pack, false, sec, ns)
+}
+
+// The last period that begins before an instant. It ends at the instant if that lies inside, and is cut to the search limit.
+pub fn previous_period(book: &[u8], pack: &[u8], sec: i64, ns: i64) -> PeriodAnswer
+    ensures { λ r. ⌜ periodIs r ≡ previousPeriod (now (book .entry)) (now (pack .entry)) sec ns ⌝ }
+{
+    period(book, pack, true, sec, ns)
+}

@@ -1,0 +1,34 @@
+-- A stored answer: where its two numbers stand, and what makes it the zone's own.
+use Rattle.model.specs.Basic.{if_then_else_}
+use mathlib.Core.Bool.{Bool, false}
+use mathlib.Core.Option.{Option, none, some}
+use mathlib.Core.List.{List}
+use Prim.Native.Nat.{ℕ, _+_, _*_, _-_, _%_, _^_}
+use lib.Dec.{ltb, leb, eqb}
+use Rattle.big_endian.specs.Be.{be64}
+use Rattle.big_endian.specs.Walk.{both}
+use Rattle.model.specs.Zone.{secondOf}
+use Rattle.model.specs.NextChange.{nextChange}
+use Rattle.zone.specs.Zones.{meant}
+use Rattle.zone.specs.declared.Zone.{Zone}
+
+-- a signed number of eight bytes, with k added
+unfoldable pub shifted : List ℕ → ℕ → ℕ → ℕ
+shifted a i k = (be64 a i + k) % 2 ^ 64
+
+abbrev pub localAt : List ℕ → ℕ → ℕ
+localAt a i = shifted a (16 * i) 390359613600
+
+abbrev pub answerAt : List ℕ → ℕ → ℕ
+answerAt a i = shifted a (16 * i + 8) 390359520000
+
+-- there is a next change, and it is at v
+unfoldable pub isNext : Option ℕ → ℕ → Bool
+isNext none v = false
+isNext (some w) v = eqb w v
+
+-- pair i is a local time that can be asked for, and the zone gives its second; or it lies beyond those, and the zone's next change is its second number
+unfoldable pub agreesAt : List ℕ → Zone → List ℕ → ℕ → Bool
+agreesAt f z a i =
+    both (leb 187200 (localAt a i))
+    (if ltb (localAt a i) 656384601600 then eqb (secondOf (meant f z) (localAt a i)) (answerAt a i) else isNext (nextChange (meant f z) (localAt a i - 656384601600)) (answerAt a i))

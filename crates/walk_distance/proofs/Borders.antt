@@ -1,0 +1,21 @@
+-- The borders of a window. Assumes nothing.
+use mathlib.Core.Path.{_≡_}
+use Prim.Native.Nat.{ℕ, _+_, _≤_, _<_, min}
+use native.Mathlib.Omega.{arith}
+use Rattle.model.specs.Instant.{week}
+use Rattle.model.specs.Walk.{Way, on, back, at, reach}
+use Rattle.instant.specs.Instant.{nanos}
+use Rattle.instant.specs.declared.Instant.{Instant}
+use Rattle.zone_local.specs.Dates.{InRange}
+use Rattle.block.specs.Counted.{size}
+use Rattle.block.specs.declared.Span.{Span}
+use Rattle.walk_distance.specs.Distances.{Short, Ahead}
+
+-- a window that begins before the range's end
+pub ahead-of : (w : Way) (t : ℕ) (x y end : Span) → Short x → Short y → size end ≡ reach w t → size x ≤ size end → size y ≡ min (size x + week) (size end) → Ahead w t x y
+ahead-of w t x y end h k e i f = record { start = h; end = k; order = omega arith; near = omega arith; short = omega arith }
+
+-- an instant at a distance up to the range's end lies in the range
+pub in-range : (w : Way) (t r : Instant) (x : ℕ) → InRange t → x ≤ reach w (nanos t) → nanos r ≡ at w (nanos t) x → r .ns < 1000000000 → InRange r
+in-range on t r x h k e n = let a = h .low in let b = h .high in let c = h .ns in record { low = omega arith; high = omega arith; ns = n }
+in-range back t r x h k e n = let a = h .low in let b = h .high in let c = h .ns in record { low = omega arith; high = omega arith; ns = n }

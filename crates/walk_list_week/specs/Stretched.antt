@@ -1,0 +1,84 @@
+-- Stretches as they are found block by block: those that are ended, the one that is still open, and the numbers that are written of them.
+use mathlib.Core.Path.{_≡_}
+use mathlib.Core.Bool.{Bool, true, false}
+use mathlib.Core.List.{List, [], _∷_, _++_, map}
+use Prim.Native.Nat.{ℕ, _+_, _*_, _≤_, _<_, max}
+use lib.Dec.{leb}
+use lib.IntN.{ℤ}
+use lib.ListN.{length, take, drop}
+use Rattle.model.specs.Basic.{if_then_else_, joined}
+use Rattle.model.specs.Blocks.{Block, block, merged, mergedFrom}
+use Rattle.model.specs.Instant.{instant}
+use Rattle.block.specs.Counted.{blockOf, most}
+use Rattle.walk_list_week.specs.declared.Open.{Open}
+
+-- ---- stretches
+
+-- the stretches of an open one, where there is one, and the blocks behind it
+unfoldable pub onFrom : Bool → Block → List Block → List Block
+onFrom true b l = mergedFrom b l
+onFrom false b l = merged l
+
+-- of these, the ones that end before the last: a block behind them is apart from them
+unfoldable pub ended : Bool → Block → List Block → List Block
+ended known b [] = []
+ended false b (c ∷ l) = ended true c l
+ended true b (c ∷ l) =
+    let joins = ended true (block (b .start) (max (b .end) (c .end))) l in
+    let apart = ended true c l in
+    if leb (c .start) (b .end) then joins else b ∷ apart
+
+-- and the last, which is still open behind all blocks
+unfoldable pub stillOpen : Bool → Block → List Block → Block
+stillOpen known b [] = b
+stillOpen false b (c ∷ l) = stillOpen true c l
+stillOpen true b (c ∷ l) =
+    let joins = stillOpen true (block (b .start) (max (b .end) (c .end))) l in
+    let apart = stillOpen true c l in
+    if leb (c .start) (b .end) then joins else apart
+
+-- whether there is one
+abbrev pub anyOpen : Bool → List Block → Bool
+anyOpen known [] = known
+anyOpen known (c ∷ l) = true
+
+-- ---- numbers
+
+-- l over the numbers of e, from i on
+unfoldable pub placed : ℕ → List ℤ → List ℤ → List ℤ
+placed i l e = take i e ++ (l ++ drop (i + length l) e)
+
+-- "start second, nanoseconds, end second, nanoseconds"
+abbrev pub fields : Block → List ℤ
+fields b = instant (b .start) ++ instant (b .end)
+
+-- the lent numbers e with the stretches l behind the first n stretches, where they are to be written; else e
+unfoldable pub stored : Bool → ℕ → List Block → List ℤ → List ℤ
+stored true n l e = placed (4 * n) (joined (map fields l)) e
+stored false n l e = e
+
+-- ---- what is asked of a window's blocks
+
+-- a block's borders are before 2^63 seconds
+abbrev pub Small : Block → Type 0
+Small b = (b .start < most) × (b .end < most)
+
+-- and those of all blocks
+abbrev pub Below : List Block → Type 0
+Below [] = Unit {0}
+Below (b ∷ l) = Small b × Below l
+
+-- the blocks l of a window, and the lent numbers: those that are written have room
+pub record Ready (l : List Block) (o : Open) (write : Bool) (e : List ℤ) : Type 0 where
+  pub few : length l ≤ 672
+  pub small : Small (blockOf (o .block))
+  pub below : Below l
+  pub count : o .count < 1000000000000
+  pub room : write ≡ true → 4 * (o .count + length (ended (o .known) (blockOf (o .block)) l)) ≤ length e
+
+-- what a window leaves: the stretch that is open, and how many have ended
+pub record Left (l : List Block) (o r : Open) : Type 0 where
+  pub known : r .known ≡ anyOpen (o .known) l
+  pub last : blockOf (r .block) ≡ stillOpen (o .known) (blockOf (o .block)) l
+  pub small : Small (blockOf (r .block))
+  pub count : r .count ≡ o .count + length (ended (o .known) (blockOf (o .block)) l)

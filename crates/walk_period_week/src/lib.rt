@@ -1,0 +1,166 @@
+// A period's search through the blocks of one window, which are pairs of numbers in lent memory: going on from an instant or back from it. Inside the
+// window the numbers are nanoseconds from its nearer border; what is known of a period is lengths of time from the instant.
+ghost use mathlib.Core.Path.{_≡_};
+ghost use Prim.Native.Nat.{ℕ, _+_, _*_, _-_, _≤_, _<_};
+ghost use lib.Dec.{ltb, eqb};
+ghost use lib.ListN.{length};
+ghost use mathlib.Core.List.{_∷_};
+ghost use mathlib.Core.Bool.{not};
+ghost use Rattle.model.specs.Basic.{if_then_else_};
+ghost use Rattle.model.specs.Blocks.{block};
+ghost use Rattle.model.specs.Walk as model;
+ghost use Rattle.laws_blocks.specs.Move.{moves};
+ghost use Rattle.block_pairs.specs.Pairs.{pairs};
+ghost use Rattle.block.specs.Counted.{size};
+ghost use Rattle.walk_step.specs.Spending.{wayOf};
+ghost use Rattle.walk_distance.specs.Distances.{Short, seen};
+ghost use Rattle.walk_period_week.specs.SoFars.{soFar, soFarIs, Exact, rest, tailIs};
+use block::Span;
+
+// What is known after a window: nothing so far, a period that may go on, one that has ended, or a first block that is too far off. A period is the
+// distances of its nearer and its further border.
+pub enum SoFar {
+    Nothing,
+    Growing(Span, Span),
+    Ended(Span, Span),
+    TooFar,
+}
+
+// A block's nearer and further border, as distances from the window's nearer border.
+struct Borders {
+    from: u64,
+    to: u64,
+}
+
+// How far a period goes on in a window: up to a distance, where it may go on in the next one, or where it has ended.
+enum Tail {
+    Open(u64),
+    Closed(u64),
+}
+
+// Two lengths are the same.
+fn same(a: Span, b: Span) -> bool
+    requires { ⌜ (a .ns < 1000000000) × (b .ns < 1000000000) ⌝ }
+    ensures { λ r. ⌜ r ≡ eqb (size a) (size b) ⌝ }
+{
+    if a.ns == b.ns {
+        return a.sec == b.sec;
+    }
+    false
+}
+
+// A block that begins at `from` ends the search: it does not touch the period that ends at `end`, or, where there is no period yet, it is further
+// than the limit.
+fn stops(some: bool, limit: Span, end: Span, from: Span) -> bool
+    requires { ⌜ (end .ns < 1000000000) × (from .ns < 1000000000) ⌝ }
+    ensures { λ r. ⌜ r ≡ (if some then not (eqb (size from) (size end)) else ltb (size limit) (size from)) ⌝ }
+{
+    if some {
+        return !same(from, end);
+    }
+    walk_step::less(limit, from)
+}
+
+// The nearer border of the period with a block that begins at `from`.
+fn start_of(some: bool, start: Span, from: Span) -> Span
+    requires { ⌜ (start .ns < 1000000000) × (from .ns < 1000000000) ⌝ }
+    ensures { λ r. ⌜ (size r ≡ (if some then size start else size from)) × (r .ns < 1000000000) ⌝ }
+{
+    if some {
+        return start;
+    }
+    from
+}
+
+// What a has more than b.
+fn minus(a: u64, b: u64) -> u64
+    ensures { λ r. ⌜ r ≡ a - b ⌝ }
+{
+    if a < b {
+        return 0;
+    }
+    a - b
+}
+
+// The i-th nearest of the first n blocks, in a window that is w long.
+fn nearest(l: &[u64], n: usize, back: bool, w: u64, i: usize) -> Borders
+    requires { ⌜ (i < n) × (2 * n ≤ length (now l)) ⌝ }
+    ensures { λ r. ⌜ rest (wayOf back) w n i (now (l .entry)) ≡ block (r .from) (r .to) ∷ rest (wayOf back) w n (i + 1) (now (l .entry)) ⌝ }
+{
+    if back {
+        let k = n - i;
+        let from = minus(w, l[2 * k - 1]);
+        let to = minus(w, l[2 * k - 2]);
+        return Borders { from, to };
+    }
+    let from = l[2 * i];
+    let to = l[2 * i + 1];
+    Borders { from, to }
+}
+
+// How far a period that ends at `end`, with the nearest block, goes on through the others.
+fn joined(l: &[u64], n: usize, back: bool, w: u64, end: u64) -> Tail
+    requires { ⌜ 2 * n ≤ length (now l) ⌝ }
+    ensures { λ r. ⌜ tailIs r ≡ model.periodIn 0 (model.growing 0 end) (rest (wayOf back) w n 1 (now (l .entry))) ⌝ }
+{
+    let mut e = end;
+    let mut i: usize = 1;
+    while i < n {
+        let b = nearest(l, n, back, w, i);
+        if b.from != e {
+            return Tail::Closed(e);
+        }
+        e = b.to;
+        i += 1;
+    }
+    Tail::Open(e)
+}
+
+// The length that is x and d nanoseconds more.
+fn further(x: Span, d: u64) -> Span
+    requires { ⌜ Short x ⌝ }
+    ensures { λ r. ⌜ (size r ≡ d + size x) × (r .ns < 1000000000) ⌝ }
+{
+    let y = Span {
+        sec: d / 1000000000,
+        ns: (d % 1000000000) as u32,
+    };
+    block::added(x, y)
+}
+
+// Goes on through the first n blocks of a window that is w long and begins at the distance x, from the period between two distances, if there is one
+// so far. Only the nearest block can touch that period or be too far off.
+pub fn period_in_window(
+    l: &[u64],
+    n: usize,
+    back: bool,
+    w: u64,
+    x: Span,
+    limit: Span,
+    some: bool,
+    f: Span,
+    e: Span,
+) -> SoFar
+    requires { ⌜ (2 * n ≤ length (now l)) × Short x × (f .ns < 1000000000) × (e .ns < 1000000000) ⌝ }
+    ensures { λ r. ⌜ (soFarIs r ≡ model.periodIn (size limit) (soFar some (size f) (size e)) (moves (size x) (seen (wayOf back) w (pairs n (now (l .entry)))))) × Exact r ⌝ }
+{
+    if n == 0 {
+        if some {
+            return SoFar::Growing(f, e);
+        }
+        return SoFar::Nothing;
+    }
+    let first = nearest(l, n, back, w, 0);
+    let from = further(x, first.from);
+    if stops(some, limit, e, from) {
+        if some {
+            return SoFar::Ended(f, e);
+        }
+        return SoFar::TooFar;
+    }
+    let start = start_of(some, f, from);
+    match joined(l, n, back, w, first.to) {
+        Tail::Open(to) => SoFar::Growing(start, further(x, to)),
+        Tail::Closed(to) => SoFar::Ended(start, further(x, to)),
+    }
+}

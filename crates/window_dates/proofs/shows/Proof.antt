@@ -1,0 +1,18 @@
+-- `window_dates::shows` meets its contract. Assumes nothing.
+use Rattle.model.specs.Calendar.{contains}
+use mathlib.Core.Path.{_∙_, ap}
+use borrow.Author.Needs.{needs}
+use Rattle.window_dates.proofs.shows.Statement.{statement}
+use Rattle.window_dates.proofs.shows.Tie as tie
+
+weekday-of-requires : tie.Need-weekday-of-requires
+weekday-of-requires c κs = search needs
+
+contains-requires : tie.Need-contains-requires
+contains-requires c κs = search needs
+
+returns : tie.Need-returns
+returns c = (c .contains .ensures) ∙ ap (contains _) ((c .before .weekday-of .ensures))
+
+pub shows-spec : {M : Type 1} → statement M
+shows-spec = tie.close (tie.spec weekday-of-requires contains-requires returns)

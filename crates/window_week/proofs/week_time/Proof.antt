@@ -1,0 +1,58 @@
+-- `window_week::week_time` meets its contract. Assumes nothing.
+use native.Mathlib.Omega.{arith}
+use Prim.Native.Nat.{suc, _+_, _*_, _-_, _≤_, _<_}
+use lib.ListN.{length, getD, length-set}
+use mathlib.Core.Path.{_≡_, refl, sym, _∙_, ap, ap₂}
+use Rattle.window_week.proofs.Whole.{sum-fits, sum-is}
+use borrow.Author.Needs.{needs}
+use Rattle.window_week.proofs.week_time.Statement.{statement}
+use Rattle.window_week.proofs.week_time.Tie as tie
+
+add-if1 : tie.Need-add-if1
+add-if1 c = search needs
+
+add-if1-2 : tie.Need-add-if1-2
+add-if1-2 c = search needs
+
+large-time-requires : tie.Need-large-time-requires
+large-time-requires c κs = search needs
+
+returns : tie.Need-returns
+returns c = search needs
+
+slice-aggregate-working-into : tie.Need-slice-aggregate-working-into
+slice-aggregate-working-into c = search needs
+
+slice-aggregate-working-into-2 : tie.Need-slice-aggregate-working-into-2
+slice-aggregate-working-into-2 c = search needs
+
+slice-aggregate-working-into-3 : tie.Need-slice-aggregate-working-into-3
+slice-aggregate-working-into-3 c = search needs
+
+working-into-requires : tie.Need-working-into-requires
+working-into-requires c κs = search needs
+
+slice-aggregate-total : tie.Need-slice-aggregate-total
+slice-aggregate-total c = search needs
+
+total-requires : tie.Need-total-requires
+total-requires c κs = let f = sum-fits _ _ _ (c .before .before .before .before .before .before .before .before .before .before .before .before .before .pre .1 .order) (c .before .before .before .before .before .before .before .before .before .before .before .before .before .pre .1 .short) _ (c .before .before .before .before .working-into .ensures .0) in (omega (arith, (c .before .before .before .before .working-into .ensures .1), (c .before .before .before .before .working-into .ensures .2), (c .before .before .before .before .before .before .before .before .if1 .left)), f .0, f .1)
+
+returns-2 : tie.Need-returns-2
+returns-2 c = (c .total .ensures) ∙ sum-is _ _ _ _ (c .before .before .before .before .before .working-into .ensures .0)
+
+pub week-time-spec : {M : Type 1} → statement M
+week-time-spec =
+    tie.close
+    (tie.spec
+    add-if1
+    add-if1-2
+    large-time-requires
+    returns
+    slice-aggregate-working-into
+    slice-aggregate-working-into-2
+    slice-aggregate-working-into-3
+    working-into-requires
+    slice-aggregate-total
+    total-requires
+    returns-2)

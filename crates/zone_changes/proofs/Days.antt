@@ -1,0 +1,101 @@
+-- The day and the second of a change: bounds of their parts, and one law for each answer of the code.
+use mathlib.Core.Path.{_≡_, _∙_}
+use mathlib.Core.Bool.{Bool, true, false}
+use Prim.Native.Nat.{ℕ, _+_, _-_, _*_, _/_, _%_, _≤_, _<_}
+use native.Mathlib.Omega.{arith}
+use borrow.Author.Tests.{lt-ltb, le-ltb, lt-leb, le-leb}
+use Rattle.model.specs.Calendar.{isLeap, daysBeforeYear, daysBeforeMonth, daysInMonth, dayNumber, weekday}
+use Rattle.model.specs.Footer as model
+use Rattle.model.specs.Footer.{dayIn, changeIn}
+use Rattle.model.specs.Zone.{yearAt}
+use Rattle.laws_base.specs.Claim.{le, if, all, at-each}
+use Rattle.laws_calendar.specs.Years.{dby-hi}
+use Rattle.laws_calendar.specs.Dates.{year-within, year-below}
+use Rattle.laws_zone.specs.FooterChanges.{DayFits}
+use Rattle.zone_footer.specs.Parsed.{dayIs}
+use Rattle.zone_footer.specs.declared.Day.{Day}
+use Rattle.zone_footer.specs.declared.Day.the-variants.{Month, Julian, Plain}
+
+pub year-small : (y : ℕ) → y ≤ 20801 → daysBeforeYear y ≤ 7597500
+year-small y h = omega (arith, dby-hi y)
+
+-- months by computing
+starts : (l : Bool) (m : ℕ) → m < 13 → daysBeforeMonth l m ≤ 335
+unfolding daysBeforeMonth daysInMonth all
+starts true = at-each (λ m. le (daysBeforeMonth true m) 335) 13 tt
+starts false = at-each (λ m. le (daysBeforeMonth false m) 335) 13 tt
+
+pub start-small : (l : Bool) (m : ℕ) → m ≤ 12 → daysBeforeMonth l m ≤ 335
+start-small l m h = starts l m (omega arith)
+
+lengths : (l : Bool) (m : ℕ) → m < 13 → daysInMonth l m ≤ 31
+unfolding daysInMonth all
+lengths true = at-each (λ m. le (daysInMonth true m) 31) 13 tt
+lengths false = at-each (λ m. le (daysInMonth false m) 31) 13 tt
+
+pub length-small : (l : Bool) (m : ℕ) → m ≤ 12 → daysInMonth l m ≤ 31
+length-small l m h = lengths l m (omega arith)
+
+floors : (l : Bool) (m : ℕ) → m < 13 → 1 ≤ m → 28 ≤ daysInMonth l m
+unfolding daysInMonth all
+floors true = at-each (λ m. if (le 1 m) (le 28 (daysInMonth true m))) 13 tt
+floors false = at-each (λ m. if (le 1 m) (le 28 (daysInMonth false m))) 13 tt
+
+pub length-big : (l : Bool) (m : ℕ) → 1 ≤ m → m ≤ 12 → 28 ≤ daysInMonth l m
+length-big l m p h = floors l m (omega arith) p
+
+pub years-in : (u : ℕ) {y : ℕ} → u < 656384601600 → y ≡ yearAt u → y ≤ 20799
+years-in u h e = omega (arith, year-below {n = u / 86400} (omega arith) (year-within (u / 86400)))
+
+-- ---- Mm.w.d
+
+module _ (y m w d : ℕ) {l : Bool} {b k x n : ℕ} (el : l ≡ isLeap y) (eb : b ≡ daysBeforeYear y) (ek : k ≡ daysBeforeMonth l m)
+    (ex : x ≡ weekday (b + k)) (en : n ≡ daysInMonth l m) where
+  first-is : dayNumber y m 1 ≡ b + k
+  unfolding dayNumber
+  first-is = rw (eb, ek, el) (omega arith)
+
+  pub month-on : b + k + (d + 13 - x) % 7 + 7 * (w - 1) < b + k + n → b + k + (d + 13 - x) % 7 + 7 * (w - 1) ≡ dayIn y (model.month m w d)
+  unfolding dayIn
+  month-on h = rw (first-is, ← el, ← en, ← ex, lt-ltb (b + k + (d + 13 - x) % 7 + 7 * (w - 1)) (b + k + n) h)
+
+  pub month-back : b + k + n ≤ b + k + (d + 13 - x) % 7 + 7 * (w - 1) → b + k + (d + 13 - x) % 7 + 7 * (w - 1) - 7 ≡ dayIn y (model.month m w d)
+  unfolding dayIn
+  month-back h = rw (first-is, ← el, ← en, ← ex, le-ltb (b + k + (d + 13 - x) % 7 + 7 * (w - 1)) (b + k + n) h)
+
+-- ---- Jn
+
+module _ (y n : ℕ) {l : Bool} {b : ℕ} (eb : b ≡ daysBeforeYear y) (el : l ≡ isLeap y) where
+  pub julian-common : l ≡ false → b + (n - 1) ≡ dayIn y (model.julian n)
+  unfolding dayIn
+  julian-common f = rw (← el, f, ← eb) (omega arith)
+
+  pub julian-early : l ≡ true → n < 60 → b + (n - 1) ≡ dayIn y (model.julian n)
+  unfolding dayIn
+  julian-early f h = rw (← el, f, ← eb, lt-leb 60 n h) (omega arith)
+
+  pub julian-late : l ≡ true → 60 ≤ n → b + (n - 1) + 1 ≡ dayIn y (model.julian n)
+  unfolding dayIn
+  julian-late f h = rw (← el, f, ← eb, le-leb 60 n h)
+
+-- ---- the three forms
+
+pub month-fits : {d : Day} {m w k : ℕ} → d ≡ Month m w k → DayFits (dayIs d) → (1 ≤ m) × (m ≤ 12) × (1 ≤ w) × (w ≤ 5) × (k ≤ 6)
+month-fits e h = rw e at h
+
+pub julian-fits : {d : Day} {n : ℕ} → d ≡ Julian n → DayFits (dayIs d) → (1 ≤ n) × (n ≤ 365)
+julian-fits e h = rw e at h
+
+pub plain-fits : {d : Day} {n : ℕ} → d ≡ Plain n → DayFits (dayIs d) → n ≤ 365
+plain-fits e h = rw e at h
+
+pub day-is : (y : ℕ) {r : ℕ} {d x : Day} → d ≡ x → r ≡ dayIn y (dayIs x) → r ≡ dayIn y (dayIs d)
+day-is y e h = rw e h
+
+pub plain-is : (y n : ℕ) {b : ℕ} → b ≡ daysBeforeYear y → b + n ≡ dayIn y (model.plain n)
+unfolding dayIn
+plain-is y n e = rw e
+
+pub change-is : (o y : ℕ) (t : model.ChangeRule) {r k : ℕ} → k ≡ dayIn y (t .day) → r ≡ k * 86400 + t .time + 93600 - o → r ≡ changeIn o t y
+unfolding changeIn
+change-is o y t q p = p ∙ rw q

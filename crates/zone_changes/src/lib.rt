@@ -1,0 +1,245 @@
+// The changes that a footer makes: the day and the second of a change in a year, the latest change at or before a second and the next
+// one, and the footer's offset with the second up to which it stays. Years, days and seconds are counted from -10400-01-01.
+ghost use mathlib.Core.Path.{_≡_};
+ghost use Prim.Native.Nat.{ℕ, _-_, _≤_, _<_, min};
+ghost use Rattle.model.specs.Footer as model;
+ghost use Rattle.model.specs.Zone.{yearAt, ruledAt};
+ghost use Rattle.zone_footer.specs.Parsed.{dayIs, changeRuleIs};
+ghost use Rattle.laws_zone.specs.FooterChanges.{DayFits, ChangeRuleFits};
+ghost use Rattle.laws_zone.specs.Grammar.{FooterFits};
+ghost use Rattle.laws_zone.specs.Runs as runs;
+ghost use Rattle.zone_changes.specs.Meaning.{theFooter, Near, Sure, Halved};
+use zone_footer::ChangeRule;
+use zone_footer::Day;
+use zone_footer::Footer;
+
+// The latest change at or before a second, 0 if there is none, and the first one behind it.
+pub struct Changes {
+    pub last: u64,
+    pub next: u64,
+}
+
+// An offset, and a second up to which it stays: not always the next change.
+pub struct OffsetUntil {
+    pub offset: u32,
+    pub until: u64,
+}
+
+// The difference, or 0.
+fn minus(a: u64, b: u64) -> u64
+    ensures { λ r. ⌜ r ≡ a - b ⌝ }
+{
+    if a < b {
+        return 0;
+    }
+    a - b
+}
+
+fn least(a: u64, b: u64) -> u64
+    ensures { λ r. ⌜ r ≡ min a b ⌝ }
+{
+    if a < b {
+        return a;
+    }
+    b
+}
+
+// Mm.w.d: the w-th weekday d of the month, where week 5 is the last.
+fn month_day(year: u32, m: u32, w: u32, d: u32) -> u32
+    requires { ⌜ (year ≤ 20801) × (1 ≤ m) × (m ≤ 12) × (1 ≤ w) × (w ≤ 5) × (d ≤ 6) ⌝ }
+    ensures { λ r. ⌜ r ≡ model.dayIn year (model.month m w d) ⌝ }
+{
+    let leap = civil::is_leap(year);
+    let first = civil::days_before_year(year) + civil::days_before_month(leap, m);
+    let n = first + (d + 13 - civil::weekday_of(first)) % 7 + 7 * (w - 1);
+    if n < first + civil::days_in_month(leap, m) {
+        return n;
+    }
+    n - 7
+}
+
+// Jn: 29 February is never counted.
+fn julian_day(year: u32, n: u32) -> u32
+    requires { ⌜ (year ≤ 20801) × (1 ≤ n) × (n ≤ 365) ⌝ }
+    ensures { λ r. ⌜ r ≡ model.dayIn year (model.julian n) ⌝ }
+{
+    let day = civil::days_before_year(year) + (n - 1);
+    if !civil::is_leap(year) {
+        return day;
+    }
+    if n < 60 {
+        return day;
+    }
+    day + 1
+}
+
+// The day of a change in a year.
+pub fn day_in(day: Day, year: u32) -> u32
+    requires { ⌜ DayFits (dayIs day) × (year ≤ 20801) ⌝ }
+    ensures { λ r. ⌜ r ≡ model.dayIn year (dayIs day) ⌝ }
+{
+    match day {
+        Day::Month(m, w, d) => month_day(year, m, w, d),
+        Day::Julian(n) => julian_day(year, n),
+        Day::Plain(n) => civil::days_before_year(year) + n,
+    }
+}
+
+// The second of a change in a year, by a clock that shows the given offset.
+pub fn change_in(offset: u32, turn: ChangeRule, year: u32) -> u64
+    requires { ⌜ ChangeRuleFits (changeRuleIs turn) × (year ≤ 20801) ⌝ }
+    ensures { λ r. ⌜ r ≡ model.changeIn offset (changeRuleIs turn) year ⌝ }
+{
+    let day = turn.day;
+    let time = turn.time;
+    minus(
+        day_in(day, year) as u64 * 86400 + time as u64 + 93600,
+        offset as u64,
+    )
+}
+
+// The first of the years whose changes may be the latest at u: two before u's year.
+fn first_year(u: u64) -> u32
+    requires { ⌜ u < 656384601600 ⌝ }
+    ensures { λ r. ⌜ (r ≡ yearAt u - 2) × (r ≤ 20797) ⌝ }
+{
+    let year = civil::year_of((u / 86400) as u32);
+    if year < 2 {
+        return 0;
+    }
+    year - 2
+}
+
+// The changes around u.
+pub fn around(offset: u32, turn: ChangeRule, u: u64) -> Changes
+    requires { ⌜ ChangeRuleFits (changeRuleIs turn) × (offset ≤ 187199) × (u < 656384601600) ⌝ }
+    ensures { λ r. ⌜ Near (model.changeIn offset (changeRuleIs turn)) u (r .last) (r .next) ⌝ }
+{
+    let first = first_year(u);
+    let d = change_in(offset, turn, first + 3);
+    if d <= u {
+        return Changes {
+            last: d,
+            next: change_in(offset, turn, first + 4),
+        };
+    }
+    let c = change_in(offset, turn, first + 2);
+    if c <= u {
+        return Changes { last: c, next: d };
+    }
+    let b = change_in(offset, turn, first + 1);
+    if b <= u {
+        return Changes { last: b, next: c };
+    }
+    let a = change_in(offset, turn, first);
+    if a <= u {
+        return Changes { last: a, next: b };
+    }
+    Changes { last: 0, next: a }
+}
+
+// What two changes of one year tell of u: the first is at p, and the second, more than four weeks later, at q. Between them the offset is
+// `inner`, before and behind them `outer`. Where they do not tell, the span ends at or before u. 30,153,600 s are 349 days.
+fn by_two_changes(inner: u32, outer: u32, p: u64, q: u64, u: u64) -> OffsetUntil
+    requires { ⌜ (p < 1099511627776) × (u < 656384601600) ⌝ }
+    ensures { λ r. ⌜ Halved inner outer p q u (r .offset) (r .until) ⌝ }
+{
+    if u < p {
+        if q <= u + 30153600 {
+            return OffsetUntil {
+                offset: outer,
+                until: p,
+            };
+        }
+        return OffsetUntil {
+            offset: outer,
+            until: 0,
+        };
+    }
+    if u < q {
+        if q < p + 30153600 {
+            return OffsetUntil {
+                offset: inner,
+                until: q,
+            };
+        }
+        return OffsetUntil {
+            offset: inner,
+            until: 0,
+        };
+    }
+    OffsetUntil {
+        offset: outer,
+        until: p + 30153600,
+    }
+}
+
+// The offset at u by the two changes of one year, that of u or the next to it. Where they do not tell it, the span ends at or before u: they lie
+// close together, or u lies close to the year's end and one of them does too. 31,556,952 s are a mean year, 2,419,200 s four weeks.
+fn by_one_year(std: u32, dst: u32, start: ChangeRule, end: ChangeRule, u: u64) -> OffsetUntil
+    requires { ⌜ FooterFits (model.rules std dst (changeRuleIs start) (changeRuleIs end)) × (u < 656384601600) ⌝ }
+    ensures { λ r. ⌜ ((last : ℕ) → Sure (ruledAt (model.rules std dst (changeRuleIs start) (changeRuleIs end)) last) u (r .offset) (r .until)) ⌝ }
+{
+    let year = (u / 31556952) as u32;
+    if year < 2 {
+        return OffsetUntil {
+            offset: std,
+            until: 0,
+        };
+    }
+    let a = change_in(std, start, year);
+    let b = change_in(dst, end, year);
+    if a + 2419200 < b {
+        return by_two_changes(dst, std, a, b, u);
+    }
+    if b + 2419200 < a {
+        return by_two_changes(std, dst, b, a, u);
+    }
+    OffsetUntil {
+        offset: std,
+        until: 0,
+    }
+}
+
+// The offset at u by the latest changes of all years.
+fn by_all_years(std: u32, dst: u32, start: ChangeRule, end: ChangeRule, u: u64) -> OffsetUntil
+    requires { ⌜ FooterFits (model.rules std dst (changeRuleIs start) (changeRuleIs end)) × (u < 656384601600) ⌝ }
+    ensures { λ r. ⌜ ((last : ℕ) → (r .offset ≡ ruledAt (model.rules std dst (changeRuleIs start) (changeRuleIs end)) last u) × runs.Run (ruledAt (model.rules std dst (changeRuleIs start) (changeRuleIs end)) last) u (r .until)) ⌝ }
+{
+    let a = around(std, start, u);
+    let b = around(dst, end, u);
+    let until = least(a.next, b.next);
+    if b.last <= a.last {
+        return OffsetUntil { offset: dst, until };
+    }
+    OffsetUntil { offset: std, until }
+}
+
+// The offset at u where the footer counts; `last` is the table's last offset, which an empty footer leaves.
+pub fn footer_run_at(footer: Footer, last: u32, u: u64) -> OffsetUntil
+    requires { ⌜ FooterFits (theFooter footer) × (u < 656384601600) ⌝ }
+    ensures { λ r. ⌜ (r .offset ≡ ruledAt (theFooter footer) last u) × runs.Run (ruledAt (theFooter footer) last) u (r .until) ⌝ }
+{
+    let far = u + 1099511627776;
+    match footer {
+        Footer::Empty => OffsetUntil {
+            offset: last,
+            until: far,
+        },
+        Footer::Broken => OffsetUntil {
+            offset: last,
+            until: far,
+        },
+        Footer::Fixed(o) => OffsetUntil {
+            offset: o,
+            until: far,
+        },
+        Footer::Rules(std, dst, start, end) => {
+            let s = by_one_year(std, dst, start, end, u);
+            if u < s.until {
+                return s;
+            }
+            by_all_years(std, dst, start, end, u)
+        }
+    }
+}

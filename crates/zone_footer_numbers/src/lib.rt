@@ -1,0 +1,162 @@
+// The signs and numbers of a footer: marks, numbers, times of a clock and offsets. Each function reads at a place of the text, and equals the parser
+// of the model's Footer on what stands from that place on.
+ghost use mathlib.Core.Path.{_≡_};
+ghost use Prim.Native.Nat.{_≤_, _<_};
+ghost use lib.ListN.{drop};
+ghost use Rattle.model.specs.Footer as grammar;
+ghost use Rattle.zone_footer_numbers.specs.Numbered.{valueOf, numberIn, markIn, skipIn, westText};
+
+// A number and the place behind it.
+pub enum Num {
+    Val(u32, usize),
+    Bad,
+}
+
+// The place behind a text, where it is there.
+pub enum Skip {
+    To(usize),
+    Not,
+}
+
+fn wide(x: u8) -> u32
+    ensures { λ r. ⌜ (r ≡ x) × (r < 256) ⌝ }
+{
+    x as u32
+}
+
+// Whether the byte at the place is b.
+pub fn mark(s: &[u8], at: usize, b: u8) -> Skip
+    ensures { λ r. ⌜ markIn (now (s .entry)) at r ≡ grammar.has b (drop at (now (s .entry))) ⌝ }
+{
+    if at >= s.len() {
+        return Skip::Not;
+    }
+    if big_endian::byte_at(s, at) != b {
+        return Skip::Not;
+    }
+    Skip::To(at + 1)
+}
+
+// The byte b.
+pub fn exact(s: &[u8], at: usize, b: u8) -> Skip
+    ensures { λ r. ⌜ skipIn (now (s .entry)) r ≡ grammar.byte b (drop at (now (s .entry))) ⌝ }
+{
+    match mark(s, at, b) {
+        Skip::To(a) => Skip::To(a),
+        Skip::Not => Skip::Not,
+    }
+}
+
+// At most k digits.
+fn digits(s: &[u8], at: usize, k: u32) -> Num
+    requires { ⌜ k ≤ 3 ⌝ }
+    ensures { λ r. ⌜ (numberIn (now (s .entry)) r ≡ grammar.digits k 0 (drop at (now (s .entry)))) × (valueOf r ≤ 999) ⌝ }
+{
+    let mut n: u32 = 0;
+    let mut i = at;
+    let mut left = k;
+    while left > 0 {
+        if i >= s.len() {
+            return Num::Val(n, i);
+        }
+        let b = big_endian::byte_at(s, i);
+        if b < 48 {
+            return Num::Val(n, i);
+        }
+        if b > 57 {
+            return Num::Val(n, i);
+        }
+        n = n * 10 + wide(b - 48);
+        i += 1;
+        left -= 1;
+    }
+    Num::Val(n, i)
+}
+
+// A number of 1 to k digits, from lo to hi.
+pub fn number(s: &[u8], at: usize, k: u32, lo: u32, hi: u32) -> Num
+    requires { ⌜ k ≤ 3 ⌝ }
+    ensures { λ r. ⌜ (numberIn (now (s .entry)) r ≡ grammar.number k lo hi (drop at (now (s .entry)))) × (valueOf r ≤ hi) ⌝ }
+{
+    if at >= s.len() {
+        return Num::Bad;
+    }
+    let b = big_endian::byte_at(s, at);
+    if b < 48 {
+        return Num::Bad;
+    }
+    if b > 57 {
+        return Num::Bad;
+    }
+    let Num::Val(n, a) = digits(s, at, k) else {
+        return Num::Bad;
+    };
+    if n < lo {
+        return Num::Bad;
+    }
+    if n > hi {
+        return Num::Bad;
+    }
+    Num::Val(n, a)
+}
+
+// Two digits, up to 59.
+fn sixty(s: &[u8], at: usize) -> Num
+    ensures { λ r. ⌜ (numberIn (now (s .entry)) r ≡ grammar.sixty (drop at (now (s .entry)))) × (valueOf r ≤ 59) ⌝ }
+{
+    let Num::Val(x, a) = number(s, at, 1, 0, 5) else {
+        return Num::Bad;
+    };
+    let Num::Val(y, b) = number(s, a, 1, 0, 9) else {
+        return Num::Bad; // one digit is too few
+    };
+    Num::Val(x * 10 + y, b)
+}
+
+// hh, hh:mm or hh:mm:ss, in seconds.
+pub fn clock(s: &[u8], at: usize) -> Num
+    ensures { λ r. ⌜ (numberIn (now (s .entry)) r ≡ grammar.clock (drop at (now (s .entry)))) × (valueOf r ≤ 89999) ⌝ }
+{
+    let Num::Val(h, a) = number(s, at, 2, 0, 24) else {
+        return Num::Bad;
+    };
+    let Skip::To(b) = mark(s, a, 58) else {
+        return Num::Val(h * 3600, a);
+    };
+    let Num::Val(m, d) = sixty(s, b) else {
+        return Num::Bad;
+    };
+    let Skip::To(e) = mark(s, d, 58) else {
+        return Num::Val(h * 3600 + m * 60, d);
+    };
+    let Num::Val(x, f) = sixty(s, e) else {
+        return Num::Bad;
+    };
+    Num::Val(h * 3600 + m * 60 + x, f)
+}
+
+// A time behind Greenwich, as an offset.
+fn west(s: &[u8], at: usize) -> Num
+    ensures { λ r. ⌜ (numberIn (now (s .entry)) r ≡ westText (drop at (now (s .entry)))) × (valueOf r ≤ 93600) ⌝ }
+{
+    let Num::Val(t, a) = clock(s, at) else {
+        return Num::Bad;
+    };
+    Num::Val(93600 - t, a)
+}
+
+// An offset: POSIX counts west of Greenwich.
+pub fn offset(s: &[u8], at: usize) -> Num
+    ensures { λ r. ⌜ (numberIn (now (s .entry)) r ≡ grammar.offset (drop at (now (s .entry)))) × (valueOf r ≤ 187199) ⌝ }
+{
+    if let Skip::To(a) = mark(s, at, 45) {
+        let Num::Val(t, e) = clock(s, a) else {
+            return Num::Bad;
+        };
+        return Num::Val(93600 + t, e);
+    }
+    if let Skip::To(a) = mark(s, at, 43) {
+        return west(s, a);
+    }
+    west(s, at)
+}

@@ -1,0 +1,61 @@
+-- What the functions on one date are asked and answer.
+use mathlib.Core.Bool.{true}
+use mathlib.Core.Path.{_≡_}
+use Prim.Native.Nat.{ℕ, _+_, _*_, _-_, _≤_, _<_}
+use lib.Dec.{ltb}
+use Rattle.model.specs.Basic.{if_then_else_}
+use Rattle.model.specs.Calendar.{firstDay, lastDay, dayOfYearZero}
+use Rattle.model.specs.Instant.{second, day, firstInstant, lastInstant}
+use Rattle.model.specs.Tzif.{Zone}
+use mathlib.Core.List.{List, []}
+use Rattle.model.specs.Blocks.{Block, put, clipped}
+use Rattle.model.specs.Working.{Rule, firstDate, lastDate, startOf, endOf}
+use Rattle.block.specs.declared.Block.{Block as Item}
+use Rattle.laws_demand3.specs.Local.{offsetNanos}
+use Rattle.instant.specs.Instant.{nanos}
+use Rattle.instant.specs.declared.Instant.{Instant}
+
+-- an instant of the range, its nanoseconds below a second
+pub record InRange (t : Instant) : Type 0 where
+  pub low : 12654496799 ≤ t .sec
+  pub high : t .sec ≤ 643761727200
+  pub ns : t .ns < 1000000000
+
+-- a date of the years -9999 to 9999
+pub record IsDay (d : ℕ) : Type 0 where
+  pub low : firstDay ≤ d
+  pub high : d ≤ lastDay
+
+-- what `resolve` gives for a date whose local time is beyond the range
+unfoldable pub rangeEnd : ℕ → ℕ
+rangeEnd d = if ltb d dayOfYearZero then firstInstant else lastInstant
+
+-- a rule that takes, of every date, from a time of day to a time of day
+abbrev pub during : Zone → ℕ → ℕ → Rule
+during z from to = record { zone = z; on = λ d. true; from = from; to = to }
+
+-- what a rule shows of a date in the window [lo, hi)
+unfoldable pub pieceOf : Rule → ℕ → ℕ → ℕ → List Block
+pieceOf r lo hi d = clipped lo hi (startOf r d) (endOf r d)
+
+-- a block of the code, if it holds anything
+unfoldable pub held : Item → List Block
+held b = put (nanos (b .start)) (nanos (b .end)) []
+
+-- ---- a window whose zone keeps one offset from four days before it to four days after it
+
+-- o is that offset, or 0 where none is known
+pub record KeepsOffset (z : Zone) (lo hi o : ℕ) : Type 0 where
+  pub low : 0 < o → firstInstant + 4 * day ≤ lo
+  pub high : 0 < o → hi + 4 * day ≤ lastInstant
+  pub same : 0 < o → (u : ℕ) → lo - 4 * day ≤ u → u ≤ hi + 4 * day → offsetNanos z u ≡ o * second
+
+-- the end's time of day, counted from the start's date
+unfoldable pub tillTime : ℕ → ℕ → ℕ
+tillTime from to = if ltb from to then to else to + day
+
+-- d is a date of the window
+pub record IsIn (z : Zone) (lo hi : Instant) (d : ℕ) : Type 0 where
+  pub order : nanos lo ≤ nanos hi
+  pub first : firstDate z (nanos lo) ≤ d
+  pub last : d ≤ lastDate z (nanos hi)

@@ -1,0 +1,204 @@
+// One date in a zone: the local date at an instant, the first and last date of a window, the instant of a time of day on a date, and the block
+// that a rule takes of a date. f is the zone's file.
+ghost use mathlib.Core.Path.{_≡_};
+ghost use Prim.Native.Nat.{_+_, _*_, _≤_, _<_};
+ghost use lib.Dec.{ltb};
+ghost use Rattle.model.specs.Instant.{second};
+ghost use Rattle.laws_skip.specs.Steady.{less};
+ghost use Rattle.instant.specs.Instant.{nanos};
+ghost use Rattle.model.specs.Basic.{if_then_else_};
+ghost use Rattle.model.specs.Zone as model;
+ghost use Rattle.model.specs.Working.{localDay, firstDate, lastDate, startOf, endOf};
+ghost use Rattle.book.specs.Meaning.{timeIn};
+ghost use Rattle.rule.specs.Rules.{TimeFits};
+ghost use Rattle.zone.specs.Zones.{meant, ZoneOk};
+ghost use Rattle.zone_local.specs.Dates.{InRange, IsDay, during, rangeEnd, pieceOf, held, KeepsOffset, tillTime, IsIn};
+use block::Block;
+use book::Time;
+use instant::Instant;
+use zone::Zone;
+
+// The local date at t.
+pub fn local_day(f: &[u8], z: Zone, t: Instant) -> u32
+    requires { ⌜ ZoneOk (now f) z × InRange t ⌝ }
+    ensures { λ r. ⌜ r ≡ localDay (meant (now (f .entry)) z) (nanos t) ⌝ }
+{
+    let run = zone::run_at(f, z, t.sec);
+    ((t.sec + run.offset as u64 - 93600) / 86400) as u32
+}
+
+// The first of a window's dates, two before the local date at its start lo.
+pub fn first_date(f: &[u8], z: Zone, lo: Instant) -> u32
+    requires { ⌜ ZoneOk (now f) z × InRange lo ⌝ }
+    ensures { λ r. ⌜ r ≡ firstDate (meant (now (f .entry)) z) (nanos lo) ⌝ }
+{
+    let d = local_day(f, z, lo);
+    if 146465 <= d {
+        return d - 2;
+    }
+    d
+}
+
+// The last of a window's dates, one after the local date at its end hi.
+pub fn last_date(f: &[u8], z: Zone, hi: Instant) -> u32
+    requires { ⌜ ZoneOk (now f) z × InRange hi ⌝ }
+    ensures { λ r. ⌜ r ≡ lastDate (meant (now (f .entry)) z) (nanos hi) ⌝ }
+{
+    let d = local_day(f, z, hi);
+    if d < 7450946 {
+        return d + 1;
+    }
+    d
+}
+
+// The end of the range that a local time beyond it becomes: the first instant for negative years, else the last.
+fn range_end(day: u32) -> Instant
+    ensures { λ r. ⌜ (nanos r ≡ rangeEnd day) × InRange r ⌝ }
+{
+    if day < 3798522 {
+        return Instant {
+            sec: 12654496799,
+            ns: 0,
+        };
+    }
+    Instant {
+        sec: 643761727200,
+        ns: 999999999,
+    }
+}
+
+// The instant of a time of day on a date.
+pub fn resolve(f: &[u8], z: Zone, day: u32, time: Time) -> Instant
+    requires { ⌜ ZoneOk (now f) z × IsDay day × TimeFits time ⌝ }
+    ensures { λ r. ⌜ (nanos r ≡ model.resolve (meant (now (f .entry)) z) day (timeIn time)) × InRange r ⌝ }
+{
+    let s = zone::second_of(f, z, day as u64 * 86400 + time.seconds as u64 + 93600);
+    if s < 12654496799 {
+        return range_end(day);
+    }
+    if 643761727200 < s {
+        return range_end(day);
+    }
+    Instant {
+        sec: s,
+        ns: time.nanos,
+    }
+}
+
+// a is before b.
+fn is_before(a: Time, b: Time) -> bool
+    requires { ⌜ TimeFits a × TimeFits b ⌝ }
+    ensures { λ r. ⌜ r ≡ ltb (timeIn a) (timeIn b) ⌝ }
+{
+    if a.seconds == b.seconds {
+        return a.nanos < b.nanos;
+    }
+    a.seconds < b.seconds
+}
+
+// Where that which a rule takes of a date ends: on the next date if `to` is at or before `from`, and at the last instant where there is no next date.
+pub fn end_of(f: &[u8], z: Zone, from: Time, to: Time, day: u32) -> Instant
+    requires { ⌜ ZoneOk (now f) z × IsDay day × TimeFits from × TimeFits to ⌝ }
+    ensures { λ r. ⌜ nanos r ≡ endOf (during (meant (now (f .entry)) z) (timeIn from) (timeIn to)) day ⌝ }
+{
+    if is_before(from, to) {
+        return resolve(f, z, day, to);
+    }
+    if day < 7450946 {
+        return resolve(f, z, day + 1, to);
+    }
+    Instant {
+        sec: 643761727200,
+        ns: 999999999,
+    }
+}
+
+// What a rule takes of a date.
+pub fn block_on(f: &[u8], z: Zone, from: Time, to: Time, day: u32) -> Block
+    requires { ⌜ ZoneOk (now f) z × IsDay day × TimeFits from × TimeFits to ⌝ }
+    ensures { λ r. ⌜ (nanos (r .start) ≡ startOf (during (meant (now (f .entry)) z) (timeIn from) (timeIn to)) day) × (nanos (r .end) ≡ endOf (during (meant (now (f .entry)) z) (timeIn from) (timeIn to)) day) ⌝ }
+{
+    let start = resolve(f, z, day, from);
+    let end = end_of(f, z, from, to, day);
+    Block { start, end }
+}
+
+// What a rule shows of a date in the window [lo, hi). It may hold nothing.
+pub fn piece_on(
+    f: &[u8],
+    z: Zone,
+    from: Time,
+    to: Time,
+    day: u32,
+    lo: Instant,
+    hi: Instant,
+) -> Block
+    requires { ⌜ ZoneOk (now f) z × IsDay day × TimeFits from × TimeFits to ⌝ }
+    ensures { λ r. ⌜ held r ≡ pieceOf (during (meant (now (f .entry)) z) (timeIn from) (timeIn to)) (nanos lo) (nanos hi) day ⌝ }
+{
+    block::clip(block_on(f, z, from, to, day), lo, hi)
+}
+
+// ---- with one offset
+
+// The offset that the zone keeps from four days before the window to four days after it, if it is seen to keep one; else 0.
+pub fn one_offset(f: &[u8], z: Zone, lo: Instant, hi: Instant) -> u32
+    requires { ⌜ ZoneOk (now f) z × InRange lo × InRange hi ⌝ }
+    ensures { λ r. ⌜ KeepsOffset (meant (now (f .entry)) z) (nanos lo) (nanos hi) r ⌝ }
+{
+    if lo.sec < 12654842399 {
+        return 0;
+    }
+    if 643761381600 < hi.sec {
+        return 0;
+    }
+    let run = zone::run_at(f, z, lo.sec - 345600);
+    if hi.sec + 345600 < run.until {
+        return run.offset;
+    }
+    0
+}
+
+// What a rule takes of a date, by the offset o: the local times less the offset.
+fn plain_block(o: u32, from: Time, to: Time, day: u32) -> Block
+    requires { ⌜ (o ≤ 187199) × IsDay day × TimeFits from × TimeFits to ⌝ }
+    ensures { λ r. ⌜ (nanos (r .start) ≡ less (o * second) day (timeIn from)) × (nanos (r .end) ≡ less (o * second) day (tillTime (timeIn from) (timeIn to))) ⌝ }
+{
+    let base = day as u64 * 86400 + 93600 - o as u64;
+    let start = Instant {
+        sec: base + from.seconds as u64,
+        ns: from.nanos,
+    };
+    if is_before(from, to) {
+        let end = Instant {
+            sec: base + to.seconds as u64,
+            ns: to.nanos,
+        };
+        return Block { start, end };
+    }
+    let end = Instant {
+        sec: base + 86400 + to.seconds as u64,
+        ns: to.nanos,
+    };
+    Block { start, end }
+}
+
+// What a rule shows of a date of the window, by the offset o if there is one.
+pub fn piece_by(
+    f: &[u8],
+    z: Zone,
+    o: u32,
+    from: Time,
+    to: Time,
+    day: u32,
+    lo: Instant,
+    hi: Instant,
+) -> Block
+    requires { ⌜ ZoneOk (now f) z × IsDay day × TimeFits from × TimeFits to × KeepsOffset (meant (now f) z) (nanos lo) (nanos hi) o × IsIn (meant (now f) z) lo hi day ⌝ }
+    ensures { λ r. ⌜ held r ≡ pieceOf (during (meant (now (f .entry)) z) (timeIn from) (timeIn to)) (nanos lo) (nanos hi) day ⌝ }
+{
+    if o == 0 {
+        return piece_on(f, z, from, to, day, lo, hi);
+    }
+    block::clip(plain_block(o, from, to, day), lo, hi)
+}

@@ -1,0 +1,15 @@
+-- `zone_pack::count_of` meets its contract.
+use Rattle.zone_pack.specs.Directory.{countAt}
+use borrow.Author.Needs.{needs}
+use Rattle.zone_pack.proofs.count_of.Statement.{statement}
+use Rattle.zone_pack.proofs.count_of.Tie as tie
+
+size-at-requires : tie.Need-size-at-requires
+size-at-requires c κs = search needs
+
+returns : tie.Need-returns
+unfolding countAt
+returns c = search needs
+
+pub count-of-spec : {M : Type 1} → statement M
+count-of-spec = tie.close (tie.spec size-at-requires returns)

@@ -1,0 +1,31 @@
+-- How far a test passes, and spans that are widened at one end.
+use mathlib.Core.Path.{_≡_}
+use mathlib.Core.Bool.{Bool, true, false}
+use mathlib.Core.List.{List}
+use Prim.Native.Nat.{ℕ, zero, suc, _+_, _-_, _≤_, _<_}
+use Rattle.zone_tzif.specs.declared.Layout.{Layout}
+use Rattle.zone_tzif.specs.Places.{timeAt}
+
+-- the test passes at each number below the room, and the room is 0 only where the test fails at 0
+pub record Room (test : ℕ → Bool) (room : ℕ) : Type 0 where
+  pub none : room ≡ 0 → test 0 ≡ false
+  pub each : (e : ℕ) → e < room → test e ≡ true
+
+-- a run back: one offset from s up to u
+pub record Back (off : ℕ → ℕ) (u s : ℕ) : Type 0 where
+  pub to : s ≤ u
+  pub same : (v : ℕ) → s ≤ v → v ≤ u → off v ≡ off u
+
+-- where the k-th piece of a table begins: at the transition before it
+unfoldable pub sinceAt : List ℕ → Layout → ℕ → ℕ
+sinceAt f l zero = 0
+sinceAt f l (suc k) = timeAt f l k
+
+-- a span from a to b that is widened by e: before a if the way goes back, else behind b
+abbrev pub low : Bool → ℕ → ℕ → ℕ
+low true a e = a - e
+low false a e = a
+
+abbrev pub high : Bool → ℕ → ℕ → ℕ
+high true b e = b
+high false b e = b + e

@@ -1,0 +1,139 @@
+// A zone file (TZif, RFC 8536): what makes it usable, where its parts stand, and its table of transitions.
+// `read` decides once whether a file is usable and answers where its table and its footer stand; the lookups then read the file by place.
+// The footer's text is not read here: a caller parses it. What `read` and the lookups mean is in specs/, that it is the definitions' meaning in proofs/Bridge.antt.
+ghost use mathlib.Core.Path.{_≡_};
+ghost use mathlib.Core.Bool.{true};
+ghost use Prim.Native.Nat.{_+_, _*_, _≤_, _<_};
+ghost use lib.ListN.{length};
+ghost use Rattle.zone_tzif_head.specs.Heads.{Small};
+ghost use Rattle.zone_tzif_block.specs.Parts.{tailAt};
+ghost use Rattle.zone_tzif.specs.Places.{layoutAt, readOf, timeAt, offsetAfter};
+ghost use Rattle.zone_tzif.specs.Opened.{Opened, countAt, utcLayout};
+use zone_tzif_head::Head;
+
+// Where a usable file's table stands: the number of transitions, the place of their times, the offset before the first (with 93,600 added), and
+// the place and the length of the footer.
+pub struct Layout {
+    pub count: usize,
+    pub times: usize,
+    pub initial: u32,
+    pub line: usize,
+    pub len: usize,
+}
+
+pub enum TzifRead {
+    Table(Layout),
+    Unusable,
+}
+
+fn layout_at(f: &[u8], b: usize, h: Head) -> Layout
+    requires { ⌜ (b < 1099511627820) × Small h × (tailAt b h + 1 < length (now f)) ⌝ }
+    ensures { λ r. ⌜ r ≡ layoutAt (now (f .entry)) b h ⌝ }
+{
+    let t = zone_tzif_block::tail_at(b, h);
+    Layout {
+        count: h.times,
+        times: b,
+        initial: zone_tzif_block::offset_is(big_endian::be32_at(f, b + h.times * 9)),
+        line: t + 1,
+        len: f.len() - (t + 2),
+    }
+}
+
+// Where a file's table and footer stand, if the file is usable in all but its footer's text.
+pub fn read(f: &[u8]) -> TzifRead
+    ensures { λ r. ⌜ r ≡ readOf (now (f .entry)) ⌝ }
+{
+    if !zone_tzif_head::head_ok(f, 0) {
+        return TzifRead::Unusable;
+    }
+    let s = zone_tzif_head::second_at(f);
+    if !zone_tzif_head::head_ok(f, s) {
+        return TzifRead::Unusable;
+    }
+    let h = zone_tzif_head::head_at(f, s);
+    if big_endian::small_at(f, 4) != h.version {
+        return TzifRead::Unusable;
+    }
+    if !zone_tzif_block::block_ok(f, s + 44, h) {
+        return TzifRead::Unusable;
+    }
+    TzifRead::Table(layout_at(f, s + 44, h))
+}
+
+// UTC has a table without a file.
+pub fn utc() -> Layout
+    ensures { λ r. ⌜ r ≡ utcLayout ⌝ }
+{
+    Layout {
+        count: 0,
+        times: 0,
+        initial: 93600,
+        line: 0,
+        len: 0,
+    }
+}
+
+// ---- lookups in the table of a layout that `read` or `utc` gave
+
+// Transition i's time as a second from -10400, 0 for an earlier one.
+pub fn time_at(f: &[u8], l: Layout, i: usize) -> u64
+    requires { ⌜ Opened (now f) l × (i < l .count) ⌝ }
+    ensures { λ r. ⌜ r ≡ timeAt (now (f .entry)) l i ⌝ }
+{
+    let v = big_endian::eight_at(f, l.times + 8 * i);
+    let k = zone_tzif_block::key_of(v);
+    if k < 9223371646495255808 {
+        return 0;
+    }
+    k - 9223371646495255808
+}
+
+// How many transitions are at or before the second u: a search that halves what is left. Its steps do not depend on u, only what they read.
+fn count_by_halves(f: &[u8], l: Layout, u: u64) -> usize
+    requires { ⌜ Opened (now f) l × (1 ≤ l .count) ⌝ }
+    ensures { λ r. ⌜ (r ≡ countAt (now (f .entry)) l u) × (r ≤ l .count) ⌝ }
+{
+    let mut lo: usize = 0;
+    let mut n: usize = l.count;
+    while n > 1 {
+        let half = n / 2;
+        if time_at(f, l, lo + half - 1) <= u {
+            lo += half;
+            n -= half;
+        } else {
+            n -= half;
+        }
+    }
+    if time_at(f, l, lo) <= u {
+        return lo + 1;
+    }
+    lo
+}
+
+// How many transitions are at or before the second u. Most often all of them are, or u lies in the table's years.
+pub fn count_at(f: &[u8], l: Layout, u: u64) -> usize
+    requires { ⌜ Opened (now f) l ⌝ }
+    ensures { λ r. ⌜ (r ≡ countAt (now (f .entry)) l u) × (r ≤ l .count) ⌝ }
+{
+    let n = l.count;
+    if n == 0 {
+        return 0;
+    }
+    if time_at(f, l, n - 1) <= u {
+        return n;
+    }
+    count_by_halves(f, l, u)
+}
+
+// The offset after k transitions, with 93,600 added.
+pub fn table_offset(f: &[u8], l: Layout, k: usize) -> u32
+    requires { ⌜ Opened (now f) l × (k ≤ l .count) ⌝ }
+    ensures { λ r. ⌜ (r ≡ offsetAfter (now (f .entry)) l k) × (1 ≤ r) × (r ≤ 187199) ⌝ }
+{
+    if k == 0 {
+        return l.initial;
+    }
+    let kind = big_endian::small_at(f, l.times + l.count * 8 + (k - 1));
+    zone_tzif_block::offset_is(big_endian::be32_at(f, l.times + l.count * 9 + 6 * kind))
+}

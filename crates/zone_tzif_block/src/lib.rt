@@ -1,0 +1,177 @@
+// The second data block of a zone file, which starts at `b`: its transition times, type numbers, types and indicators, and the lines about its footer.
+ghost use mathlib.Core.Path.{_≡_};
+ghost use Prim.Native.Nat.{_+_, _*_, _<_};
+ghost use Rattle.big_endian.specs.Walk.{allFrom};
+ghost use Rattle.model.specs.Bytes.{lifted};
+ghost use Rattle.zone_tzif_head.specs.Heads.{Small};
+ghost use Rattle.zone_tzif_block.specs.Parts.{keyAt, byteBelow, offsetIs, typeFits, marksAt, tailAt, tailOk, timesRise, tablesOk, blockOk};
+use zone_tzif_head::Head;
+
+// A signed number's bits as the number with 2^63 added: the order of the signed numbers.
+pub fn key_of(v: u64) -> u64
+    ensures { λ r. ⌜ r ≡ lifted 8 v ⌝ }
+{
+    if v < 9223372036854775808 {
+        v + 9223372036854775808
+    } else {
+        v - 9223372036854775808
+    }
+}
+
+// Transition i's time with 2^63 added.
+fn key_at(f: &[u8], b: usize, i: usize) -> u64
+    requires { ⌜ b + 8 * i < 18446744073709551616 ⌝ }
+    ensures { λ r. ⌜ r ≡ keyAt (now (f .entry)) b i ⌝ }
+{
+    key_of(big_endian::be64_at(f, b + 8 * i))
+}
+
+fn times_rise(f: &[u8], b: usize, n: usize) -> bool
+    requires { ⌜ (b < 1125899906842624) × (n < 4294967296) ⌝ }
+    ensures { λ r. ⌜ r ≡ timesRise (now (f .entry)) b n ⌝ }
+{
+    if n == 0 {
+        return true;
+    }
+    let m = n - 1;
+    let mut i: usize = 0;
+    while i < m {
+        if key_at(f, b, i) >= key_at(f, b, i + 1) {
+            return false;
+        }
+        i += 1;
+    }
+    true
+}
+
+fn byte_below(f: &[u8], at: usize, n: usize, i: usize) -> bool
+    requires { ⌜ (at < 1125899906842624) × (i < 1125899906842624) ⌝ }
+    ensures { λ r. ⌜ r ≡ byteBelow (now (f .entry)) at n i ⌝ }
+{
+    big_endian::small_at(f, at + i) < n
+}
+
+// Is each of the k bytes at `at` below n?
+fn bytes_below(f: &[u8], at: usize, n: usize, k: usize) -> bool
+    requires { ⌜ (at < 1125899906842624) × (k < 1125899906842624) ⌝ }
+    ensures { λ r. ⌜ r ≡ allFrom (byteBelow (now (f .entry)) at n) 0 k ⌝ }
+{
+    let mut i: usize = 0;
+    while i < k {
+        if !byte_below(f, at, n, i) {
+            return false;
+        }
+        i += 1;
+    }
+    true
+}
+
+// A type's offset with 93,600 added, 0 for one below -93,599 s.
+pub fn offset_is(v: u32) -> u32
+    ensures { λ r. ⌜ r ≡ offsetIs v ⌝ }
+{
+    if v < 2147483648 {
+        return v + 93600;
+    }
+    if v < 4294873696 {
+        return 0;
+    }
+    v - 4294873696
+}
+
+// Is type i of those at `at` one that is allowed?
+fn type_fits(f: &[u8], at: usize, chars: usize, i: usize) -> bool
+    requires { ⌜ (at < 1125899906842624) × (i < 1125899906842624) ⌝ }
+    ensures { λ r. ⌜ r ≡ typeFits (now (f .entry)) at chars i ⌝ }
+{
+    let p = at + 6 * i;
+    let o = offset_is(big_endian::be32_at(f, p));
+    if o < 1 {
+        return false;
+    }
+    if o > 187199 {
+        return false;
+    }
+    if big_endian::byte_at(f, p + 4) >= 2 {
+        return false;
+    }
+    big_endian::small_at(f, p + 5) < chars
+}
+
+fn types_fit(f: &[u8], at: usize, chars: usize, k: usize) -> bool
+    requires { ⌜ (at < 1125899906842624) × (k < 1125899906842624) ⌝ }
+    ensures { λ r. ⌜ r ≡ allFrom (typeFits (now (f .entry)) at chars) 0 k ⌝ }
+{
+    let mut i: usize = 0;
+    while i < k {
+        if !type_fits(f, at, chars, i) {
+            return false;
+        }
+        i += 1;
+    }
+    true
+}
+
+// A newline at t and another one as the last byte.
+fn tail_ok(f: &[u8], t: usize) -> bool
+    requires { ⌜ t < 1125899906842624 ⌝ }
+    ensures { λ r. ⌜ r ≡ tailOk (now (f .entry)) t ⌝ }
+{
+    if t + 1 >= f.len() {
+        return false;
+    }
+    if big_endian::byte_at(f, t) != 10 {
+        return false;
+    }
+    big_endian::byte_at(f, f.len() - 1) == 10
+}
+
+// Is each indicator 0 or 1?
+fn marks_ok(f: &[u8], b: usize, h: Head) -> bool
+    requires { ⌜ (b < 1099511627820) × Small h ⌝ }
+    ensures { λ r. ⌜ r ≡ allFrom (byteBelow (now (f .entry)) (marksAt b h) 2) 0 (h .stds + h .uts) ⌝ }
+{
+    bytes_below(
+        f,
+        b + (h.times * 9 + h.types * 6 + h.chars),
+        2,
+        h.stds + h.uts,
+    )
+}
+
+fn tables_ok(f: &[u8], b: usize, h: Head) -> bool
+    requires { ⌜ (b < 1099511627820) × Small h ⌝ }
+    ensures { λ r. ⌜ r ≡ tablesOk (now (f .entry)) b h ⌝ }
+{
+    if !times_rise(f, b, h.times) {
+        return false;
+    }
+    if !bytes_below(f, b + h.times * 8, h.types, h.times) {
+        return false;
+    }
+    if !types_fit(f, b + h.times * 9, h.chars, h.types) {
+        return false;
+    }
+    marks_ok(f, b, h)
+}
+
+// Where the newline before the footer stands.
+pub fn tail_at(b: usize, h: Head) -> usize
+    requires { ⌜ (b < 1099511627820) × Small h ⌝ }
+    ensures { λ r. ⌜ (r ≡ tailAt b h) × (r < 1125899906842624) ⌝ }
+{
+    b + (h.times * 9 + h.types * 6 + h.chars + h.leaps * 12 + h.stds + h.uts)
+}
+
+pub fn block_ok(f: &[u8], b: usize, h: Head) -> bool
+    requires { ⌜ (b < 1099511627820) × Small h ⌝ }
+    ensures { λ r. ⌜ r ≡ blockOk (now (f .entry)) b h ⌝ }
+{
+    if !zone_tzif_head::counts_ok(h) {
+        return false;
+    }
+    if !tail_ok(f, tail_at(b, h)) {
+        return false;
+    }
+    tables_ok(f, b, h)
+}
