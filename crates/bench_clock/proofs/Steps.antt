@@ -19,7 +19,7 @@ use Rattle.model.specs.Walk.{on, back}
 use Rattle.model.specs.Working.{Schedule}
 use Rattle.laws_base.specs.Test.{by-test, clash}
 use Rattle.rule.specs.Rules.{scheduleIs}
-use Rattle.walk_step.specs.Spending.{wayOf}
+use Rattle.walk_distance.specs.Distances.{wayOf}
 use Rattle.build.specs.Read.{answerIs}
 use Rattle.build.specs.declared.Built.{Built}
 use Rattle.schedule.specs.declared.TimeAnswer.{TimeAnswer}

@@ -8,7 +8,7 @@ ghost use lib.IntN.{ℤ};
 ghost use Rattle.model.specs.Build as definition;
 ghost use Rattle.model.specs.Calls.{betweenCall, moveCall, periodCall, said};
 ghost use Rattle.rule.specs.Rules.{scheduleIs, ScheduleFits};
-ghost use Rattle.walk_step.specs.Spending.{wayOf};
+ghost use Rattle.walk_distance.specs.Distances.{wayOf};
 ghost use Rattle.bench_week.specs.Weeks.{Each};
 ghost use Rattle.bench_clock.specs.Asked.{toldIs, asked, writtenAt, answered, groups, groupsOf, limitOf, listed, listedOf};
 use rule::Schedule;

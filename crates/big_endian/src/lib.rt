@@ -6,20 +6,6 @@ ghost use Prim.Native.Nat.{_+_, _≤_, _<_};
 ghost use lib.ListN.{length, getD, take, drop};
 ghost use Rattle.big_endian.specs.Be.{be16, be32, be64};
 
-// A byte as a wider number.
-fn wide(x: u8) -> u32
-    ensures { λ r. ⌜ (r ≡ x) × (r < 256) ⌝ }
-{
-    x as u32
-}
-
-// A four-byte number as an eight-byte one.
-fn wide64(x: u32) -> u64
-    ensures { λ r. ⌜ (r ≡ x) × (r < 4294967296) ⌝ }
-{
-    x as u64
-}
-
 // The byte at i.
 pub fn byte_at(s: &[u8], i: usize) -> u8
     ensures { λ r. ⌜ r ≡ getD (now (s .entry)) i 0 ⌝ }
@@ -31,7 +17,7 @@ pub fn byte_at(s: &[u8], i: usize) -> u8
 pub fn small_at(s: &[u8], i: usize) -> usize
     ensures { λ r. ⌜ (r ≡ getD (now (s .entry)) i 0) × (r < 256) ⌝ }
 {
-    wide(byte_at(s, i)) as usize
+    number::byte_to_u32(byte_at(s, i)) as usize
 }
 
 // At most n bytes from a on: what is there of them.
@@ -54,7 +40,7 @@ pub fn be16_at(s: &[u8], i: usize) -> u32
     if i >= s.len() {
         return 0;
     }
-    wide(byte_at(s, i)) * 256 + wide(byte_at(s, i + 1))
+    number::byte_to_u32(byte_at(s, i)) * 256 + number::byte_to_u32(byte_at(s, i + 1))
 }
 
 // The number of four bytes at i, all of which are there.
@@ -62,7 +48,10 @@ fn four_at(s: &[u8], i: usize) -> u32
     requires { ⌜ i + 4 ≤ length (now s) ⌝ }
     ensures { λ r. ⌜ r ≡ be32 (now (s .entry)) i ⌝ }
 {
-    ((wide(s[i]) * 256 + wide(s[i + 1])) * 256 + wide(s[i + 2])) * 256 + wide(s[i + 3])
+    ((number::byte_to_u32(s[i]) * 256 + number::byte_to_u32(s[i + 1])) * 256
+        + number::byte_to_u32(s[i + 2]))
+        * 256
+        + number::byte_to_u32(s[i + 3])
 }
 
 // The number of four bytes at i.
@@ -75,15 +64,17 @@ pub fn be32_at(s: &[u8], i: usize) -> u32
     if s.len() - i >= 4 {
         return four_at(s, i);
     }
-    ((wide(byte_at(s, i)) * 256 + wide(byte_at(s, i + 1))) * 256 + wide(byte_at(s, i + 2))) * 256
-        + wide(byte_at(s, i + 3))
+    ((number::byte_to_u32(byte_at(s, i)) * 256 + number::byte_to_u32(byte_at(s, i + 1))) * 256
+        + number::byte_to_u32(byte_at(s, i + 2)))
+        * 256
+        + number::byte_to_u32(byte_at(s, i + 3))
 }
 
 // The number of four bytes at i as a size.
 pub fn size_at(s: &[u8], i: usize) -> usize
     ensures { λ r. ⌜ (r ≡ be32 (now (s .entry)) i) × (r < 4294967296) ⌝ }
 {
-    wide64(be32_at(s, i)) as usize
+    number::u32_to_u64(be32_at(s, i)) as usize
 }
 
 // The number of eight bytes at i, all of which are there.
@@ -91,7 +82,7 @@ pub fn eight_at(s: &[u8], i: usize) -> u64
     requires { ⌜ i + 8 ≤ length (now s) ⌝ }
     ensures { λ r. ⌜ r ≡ be64 (now (s .entry)) i ⌝ }
 {
-    wide64(four_at(s, i)) * 4294967296 + wide64(four_at(s, i + 4))
+    number::u32_to_u64(four_at(s, i)) * 4294967296 + number::u32_to_u64(four_at(s, i + 4))
 }
 
 // The number of eight bytes at i.
@@ -104,5 +95,5 @@ pub fn be64_at(s: &[u8], i: usize) -> u64
     if s.len() - i >= 8 {
         return eight_at(s, i);
     }
-    wide64(be32_at(s, i)) * 4294967296 + wide64(be32_at(s, i + 4))
+    number::u32_to_u64(be32_at(s, i)) * 4294967296 + number::u32_to_u64(be32_at(s, i + 4))
 }

@@ -77,26 +77,6 @@ fn lower(l: &mut [u64], t: usize, a: usize, b: usize)
     }
 }
 
-// The smaller of the two.
-pub fn least(a: u64, b: u64) -> u64
-    ensures { λ r. ⌜ r ≡ min a b ⌝ }
-{
-    if a < b {
-        return a;
-    }
-    b
-}
-
-// The greater of the two.
-pub fn greatest(a: u64, b: u64) -> u64
-    ensures { λ r. ⌜ r ≡ max a b ⌝ }
-{
-    if a < b {
-        return b;
-    }
-    a
-}
-
 // [s, e) between the first i blocks and the others.
 fn insert(l: &mut [u64], n: usize, i: usize, s: u64, e: u64) -> usize
     requires { ⌜ (i ≤ n) × (2 * n + 2 ≤ length (now l)) ⌝ }
@@ -113,8 +93,8 @@ fn absorb(l: &mut [u64], n: usize, j: usize, i: usize, s: u64, e: u64) -> usize
     requires { ⌜ (j < i) × (i ≤ n) × (2 * n ≤ length (now l)) ⌝ }
     ensures { λ r. ⌜ (pairs r (now (l .exit)) ≡ part 0 j (now (l .entry)) ++ hull s e j i (now (l .entry)) ∷ part i (n - i) (now (l .entry))) × (r ≤ n + 1) × (length (now (l .exit)) ≡ length (now (l .entry))) ⌝ }
 {
-    let from = least(s, l[2 * j]);
-    let to = greatest(e, l[2 * i - 1]);
+    let from = number::minimum(s, l[2 * j]);
+    let to = number::maximum(e, l[2 * i - 1]);
     lower(l, 2 * j + 2, 2 * i, 2 * n);
     l[2 * j] = from;
     l[2 * j + 1] = to;

@@ -6,13 +6,6 @@ ghost use Rattle.model.specs.Basic.{among, distinct};
 ghost use Rattle.book_dates.specs.Days.{yearOf, IsWritten, dayAt, datesAt, isDay, areDays};
 use civil::Date;
 
-// A byte as a wider number.
-fn wide(x: u8) -> u32
-    ensures { λ r. ⌜ (r ≡ x) × (r < 256) ⌝ }
-{
-    x as u32
-}
-
 // The year whose two bytes are this number, counted from -10400; 0 for the years before.
 fn year_of(n: u32) -> u32
     requires { ⌜ n < 65536 ⌝ }
@@ -30,9 +23,9 @@ fn written_at(b: &[u8], p: usize) -> Date
     requires { ⌜ p + 4 ≤ length (now b) ⌝ }
     ensures { λ r. ⌜ IsWritten (now (b .entry)) p r ⌝ }
 {
-    let year = year_of(wide(b[p]) * 256 + wide(b[p + 1]));
-    let month = wide(b[p + 2]);
-    let day = wide(b[p + 3]);
+    let year = year_of(number::byte_to_u32(b[p]) * 256 + number::byte_to_u32(b[p + 1]));
+    let month = number::byte_to_u32(b[p + 2]);
+    let day = number::byte_to_u32(b[p + 3]);
     Date { year, month, day }
 }
 

@@ -7,19 +7,15 @@ ghost use Rattle.model.specs.Basic.{among, distinct};
 ghost use Rattle.big_endian.specs.Be.{be32};
 ghost use Rattle.book_words.specs.Words.{wordsAt, rises, slotOf};
 
-// A byte as a wider number.
-fn wide(x: u8) -> u32
-    ensures { λ r. ⌜ (r ≡ x) × (r < 256) ⌝ }
-{
-    x as u32
-}
-
 // The number of four bytes at p, all of which are there.
 fn word_at(b: &[u8], p: usize) -> u32
     requires { ⌜ p + 4 ≤ length (now b) ⌝ }
     ensures { λ r. ⌜ r ≡ be32 (now (b .entry)) p ⌝ }
 {
-    ((wide(b[p]) * 256 + wide(b[p + 1])) * 256 + wide(b[p + 2])) * 256 + wide(b[p + 3])
+    ((number::byte_to_u32(b[p]) * 256 + number::byte_to_u32(b[p + 1])) * 256
+        + number::byte_to_u32(b[p + 2]))
+        * 256
+        + number::byte_to_u32(b[p + 3])
 }
 
 // Is the first of the n numbers from p on above 0, and each other above the one before it?

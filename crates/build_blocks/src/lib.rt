@@ -33,8 +33,8 @@ fn nothing() -> Block
 fn clipped(s: u64, e: u64, lo: u64, hi: u64) -> Block
     ensures { λ r. ⌜ held r ≡ onward lo (clipped lo hi s e) ⌝ }
 {
-    let from = block_pairs::greatest(s, lo);
-    let to = block_pairs::least(e, hi);
+    let from = number::maximum(s, lo);
+    let to = number::minimum(e, hi);
     if from < to {
         return Block {
             start: from - lo,

@@ -1,13 +1,35 @@
-// Instants as pairs of seconds, counted from -10400-01-01T00:00:00Z, and nanoseconds. The nanoseconds may reach 10^9 and more: they carry.
+// Instants and lengths of time, both as seconds and nanoseconds; an instant's are counted from -10400-01-01T00:00:00Z. The nanoseconds may reach 10^9 and
+// more: they carry. What a sum or a difference gives has them below 10^9.
 ghost use mathlib.Core.Path.{_≡_};
-ghost use Prim.Native.Nat.{_+_, _*_, min, max};
+ghost use Prim.Native.Nat.{_+_, _*_, _-_, _<_, min, max};
 ghost use lib.Dec.{ltb};
-ghost use Rattle.instant.specs.Instant.{nanos};
+ghost use Rattle.instant.specs.Instant.{nanos, most, Exact};
+
+// The nanoseconds of a second.
+pub const SECOND: u64 = 1000000000;
+
+// The seconds of a day and of a window.
+pub const DAY: u64 = 86400;
+
+pub const WEEK: u64 = 604800;
+
+// The second of 1970-01-01T00:00:00Z.
+pub const EPOCH: u64 = 390359520000;
+
+// The seconds of the first and of the last instant, and the last one's nanoseconds.
+pub const FIRST: u64 = 12654496799;
+
+pub const LAST: u64 = 643761727200;
+
+pub const LAST_NS: u32 = 999999999;
 
 pub struct Instant {
     pub sec: u64,
     pub ns: u32,
 }
+
+// A length of time. It has the shape of an instant: the instant that lies so long after the one from which instants are counted.
+pub type Length = Instant;
 
 // a is before b. A count of nanoseconds is less than 5 seconds, so seconds further apart than that decide alone.
 pub fn precedes(a: Instant, b: Instant) -> bool
@@ -46,4 +68,40 @@ pub fn later(a: Instant, b: Instant) -> Instant
         return b;
     }
     a
+}
+
+// The sum of two lengths; the instant that is a length after another.
+pub fn sum(a: Length, b: Length) -> Length
+    requires { ⌜ Exact a × Exact b × (nanos a + nanos b < most) ⌝ }
+    ensures { λ r. ⌜ (nanos r ≡ nanos a + nanos b) × Exact r ⌝ }
+{
+    let ns = a.ns + b.ns;
+    let sec = a.sec + b.sec;
+    if ns < 1000000000 {
+        return Length { sec, ns };
+    }
+    Length {
+        sec: sec + 1,
+        ns: ns - 1000000000,
+    }
+}
+
+// What a has more than b, nothing where b has as much or more. The five seconds lent to the nanoseconds keep them from going below zero: a count of
+// nanoseconds is less than that.
+pub fn difference(a: Length, b: Length) -> Length
+    requires { ⌜ nanos a - nanos b < most ⌝ }
+    ensures { λ r. ⌜ (nanos r ≡ nanos a - nanos b) × Exact r ⌝ }
+{
+    if !precedes(b, a) {
+        return Length { sec: 0, ns: 0 };
+    }
+    let x = (a.ns as u64) + 5000000000 - (b.ns as u64);
+    let c = x / 1000000000;
+    let ns = (x % 1000000000) as u32;
+    if b.sec <= a.sec {
+        let sec = a.sec - b.sec + c - 5;
+        return Length { sec, ns };
+    }
+    let sec = c - 5 - (b.sec - a.sec);
+    Length { sec, ns }
 }

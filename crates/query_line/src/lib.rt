@@ -55,13 +55,6 @@ pub enum Key {
     Not,
 }
 
-// A byte as a wider number.
-fn wide(x: u8) -> u64
-    ensures { λ r. ⌜ (r ≡ x) × (r < 256) ⌝ }
-{
-    x as u64
-}
-
 // The word of n bytes that write w.
 fn word_of(n: u64, w: u64) -> Word
     ensures { λ r. ⌜ r ≡ wordOf n w ⌝ }
@@ -119,7 +112,7 @@ fn key_of(minus: bool, digits: bool, value: u64) -> Key
 fn name_fed(n: u64, w: u64, byte: u8) -> Line
     ensures { λ r. ⌜ ((s : List ℕ) → yet r s ≡ yet (Line.Name n w) (byte ∷ s)) ⌝ }
 {
-    let x = wide(byte);
+    let x = number::byte_to_u64(byte);
     if x == 32 {
         let word = word_of(n, w);
         return Line::Rest(Fields {
@@ -217,7 +210,7 @@ fn signed(f: Fields) -> Line
 fn rest_fed(f: Fields, byte: u8) -> Line
     ensures { λ r. ⌜ ((s : List ℕ) → yet r s ≡ yet (Line.Rest f) (byte ∷ s)) ⌝ }
 {
-    let x = wide(byte);
+    let x = number::byte_to_u64(byte);
     if x == 32 {
         return spaced(f);
     }

@@ -1,4 +1,5 @@
 -- What each end of the calls answers.
+use Rattle.instant.specs.Instant.{nanos}
 use mathlib.Core.Path.{_≡_, refl, sym, _∙_}
 use mathlib.Core.Bool.{Bool, true, false, not}
 use mathlib.Core.Option.{some}
@@ -22,12 +23,11 @@ use Rattle.laws_blocks.specs.Members.{covers}
 use Rattle.laws_skip.specs.Skips.{needed-most}
 use Rattle.laws_skip.specs.Schedules.{working-lists, search-skipping}
 use Rattle.laws_skip.specs.Books.{BuiltWell}
-use Rattle.walk_step.specs.Spending.{wayOf}
+use Rattle.walk_distance.specs.Distances.{wayOf}
 use Rattle.rule.specs.Rules.{scheduleIs}
 use Rattle.build.specs.declared.Built.{Built}
 use Rattle.build.specs.Read.{answerIs}
-use Rattle.block.specs.Counted.{size}
-use Rattle.block.specs.declared.Span.{Span}
+use Rattle.instant.specs.declared.Instant.{Instant}
 use Rattle.walk.specs.Walks.{Counts, found-at}
 use Rattle.walk.specs.declared.Reached.{Reached}
 use Rattle.walk.specs.declared.Reached.the-variants as R
@@ -67,7 +67,7 @@ time-most : (s : Schedule) (a b : ℕ) → a ≤ b → timeBetween s a b ≤ b -
 time-most s a b h = from-most s (begun (b - a)) a b h
 
 -- so its seconds fit
-pub time-fits : (s : Schedule) (x : Span) (a b : ℕ) → a ≤ b → b ≤ lastInstant → size x ≡ timeBetween s a b → x .sec < 2 ^ 63
+pub time-fits : (s : Schedule) (x : Instant) (a b : ℕ) → a ≤ b → b ≤ lastInstant → nanos x ≡ timeBetween s a b → x .sec < 2 ^ 63
 time-fits s x a b h k e = let m = time-most s a b h in omega arith
 
 -- ---- an answer and what the definitions give
@@ -126,10 +126,10 @@ reach-most on t h = omega arith
 reach-most back t h = omega arith
 
 -- the count of windows of an answer that was found, and its nanoseconds
-pub counts-at : {w : Way} {s : Schedule} {t d : ℕ} {r : Reached} {z : Span} {c : ℕ} → Counts w s t d r → r ≡ R.At z c → (z .ns < 1000000000) × (c ≡ neededSearch w s t d (size z))
+pub counts-at : {w : Way} {s : Schedule} {t d : ℕ} {r : Reached} {z : Instant} {c : ℕ} → Counts w s t d r → r ≡ R.At z c → (z .ns < 1000000000) × (c ≡ neededSearch w s t d (nanos z))
 counts-at {w} {s} {t} {d} {r} {z} {c} k e = go (rw e at k)
   where
-    go : Counts w s t d (R.At z c) → (z .ns < 1000000000) × (c ≡ neededSearch w s t d (size z))
+    go : Counts w s t d (R.At z c) → (z .ns < 1000000000) × (c ≡ neededSearch w s t d (nanos z))
     go (found-at h q) = (h, q)
 
 module _ (w : Way) (s : Schedule) (t d : ℕ) where

@@ -8,15 +8,14 @@ ghost use Rattle.model.specs.Instant.{instant, duration};
 ghost use Rattle.model.specs.Calls as definition;
 ghost use Rattle.model.specs.Walk as way;
 ghost use Rattle.model.specs.Calls.{said, Windows};
-ghost use Rattle.instant.specs.Instant.{nanos};
-ghost use Rattle.block.specs.Counted.{size, most};
+ghost use Rattle.instant.specs.Instant.{nanos, most};
 ghost use Rattle.zone_local.specs.Dates.{InRange};
 ghost use Rattle.rule.specs.Rules.{scheduleIs, ScheduleFits};
-ghost use Rattle.walk_step.specs.Spending.{wayOf};
+ghost use Rattle.walk_distance.specs.Distances.{wayOf};
 ghost use Rattle.walk_distance.specs.Distances.{Short};
 ghost use Rattle.schedule.specs.Answers.{timeIs, timeCount, movedIs, movedCount, addIs, addCount, subIs, subCount};
-use block::Span;
 use instant::Instant;
+use instant::Length;
 use instant_signed::Duration;
 use instant_signed::DurationMade;
 use instant_signed::DurationRead;
@@ -54,7 +53,7 @@ pub enum Moved {
 // A sum of working time as a duration, negative where the instants were turned round.
 fn time_answer(minus: bool, r: Summed) -> TimeAnswer
     requires { ⌜ (r .time .sec < 2 ^ 63) × (r .time .ns < 1000000000) ⌝ }
-    ensures { λ a. ⌜ (timeIs a ≡ gives (duration (record { minus = minus; size = size (r .time) }))) × (timeCount a ≡ r .windows) ⌝ }
+    ensures { λ a. ⌜ (timeIs a ≡ gives (duration (record { minus = minus; size = nanos (r .time) }))) × (timeCount a ≡ r .windows) ⌝ }
 {
     let time = r.time;
     let d = instant_signed::pair(minus, time.sec, time.ns);
@@ -101,18 +100,18 @@ pub fn between(book: &[u8], pack: &[u8], a_sec: i64, a_ns: i64, b_sec: i64, b_ns
 // ---- an instant moved by working time
 
 // The instant at the distance x from t, on or back, which a search found in that number of windows.
-fn moved_to(t: Instant, back: bool, x: Span, windows: u64) -> Moved
-    requires { ⌜ InRange t × Short x × (size x ≤ way.reach (wayOf back) (nanos t)) ⌝ }
-    ensures { λ r. ⌜ (movedIs r ≡ gives (instant (way.at (wayOf back) (nanos t) (size x)))) × (movedCount r ≡ windows) ⌝ }
+fn moved_to(t: Instant, back: bool, x: Length, windows: u64) -> Moved
+    requires { ⌜ InRange t × Short x × (nanos x ≤ way.reach (wayOf back) (nanos t)) ⌝ }
+    ensures { λ r. ⌜ (movedIs r ≡ gives (instant (way.at (wayOf back) (nanos t) (nanos x)))) × (movedCount r ≡ windows) ⌝ }
 {
     let u = walk_distance::at(t, back, x);
     Moved::At(instant_signed::seconds_of(u.sec), u.ns as i64, windows)
 }
 
 // The instant that is d of working time on from t, or back from it.
-fn search(book: &[u8], pack: &[u8], s: Schedule, t: Instant, back: bool, d: Span) -> Moved
-    requires { ⌜ ScheduleFits (now book) (now pack) s × InRange t × (size d < most) × (d .ns < 1000000000) ⌝ }
-    ensures { λ r. ⌜ (movedIs r ≡ said (definition.moved (wayOf back) (scheduleIs (now (book .entry)) (now (pack .entry)) s) (nanos t) (size d))) × Windows (movedCount r) (definition.moved (wayOf back) (scheduleIs (now (book .entry)) (now (pack .entry)) s) (nanos t) (size d)) ⌝ }
+fn search(book: &[u8], pack: &[u8], s: Schedule, t: Instant, back: bool, d: Length) -> Moved
+    requires { ⌜ ScheduleFits (now book) (now pack) s × InRange t × (nanos d < most) × (d .ns < 1000000000) ⌝ }
+    ensures { λ r. ⌜ (movedIs r ≡ said (definition.moved (wayOf back) (scheduleIs (now (book .entry)) (now (pack .entry)) s) (nanos t) (nanos d))) × Windows (movedCount r) (definition.moved (wayOf back) (scheduleIs (now (book .entry)) (now (pack .entry)) s) (nanos t) (nanos d)) ⌝ }
 {
     match walk::search_walk(book, pack, s, t, back, d) {
         Reached::At(x, windows) => moved_to(t, back, x, windows),
@@ -142,7 +141,7 @@ pub fn move_in(
     let DurationRead::Signed(minus, sec, ns) = instant_signed::duration_of(d_sec, d_ns) else {
         return Moved::Refused(9, 0);
     };
-    let d = Span { sec, ns };
+    let d = Length { sec, ns };
     if !minus {
         return search(book, pack, s, t, back, d);
     }

@@ -24,9 +24,7 @@ use Rattle.instant_signed.specs.declared.InstantRead.the-variants as R
 use Rattle.rule.specs.Rules.{scheduleIs}
 use Rattle.build.specs.Read.{answerIs}
 use Rattle.build.specs.declared.Built.{Built}
-use Rattle.block.specs.Counted.{size}
-use Rattle.block.specs.declared.Span.{Span}
-use Rattle.walk_step.specs.Spending.{wayOf}
+use Rattle.walk_distance.specs.Distances.{wayOf}
 use Rattle.walk_distance.specs.Distances.{Short}
 use Rattle.walk_period.specs.Found.{foundIs, PeriodFits}
 use Rattle.walk_period.specs.declared.Found.{Found}
@@ -132,7 +130,7 @@ reach-short : (w : Way) (t : Instant) → InRange t → reach w (nanos t) < 1000
 reach-short on t h = omega arith
 reach-short back t h = let x = h .high in let y = h .ns in omega arith
 
-module _ {w : Way} {f e : Span} where
+module _ {w : Way} {f e : Instant} where
   pub near-short : (t : Instant) → InRange t → PeriodFits w (nanos t) f e → Short f
   near-short t h p = let r = reach-short w t h in let x = p .order in let y = p .near in record { sec = omega arith; ns = p .start-ns }
 

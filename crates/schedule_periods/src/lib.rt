@@ -7,14 +7,13 @@ ghost use Rattle.model.specs.Instant.{instant};
 ghost use Rattle.model.specs.Blocks.{block};
 ghost use Rattle.model.specs.Calls.{ends, periodCall, nextPeriod, previousPeriod};
 ghost use Rattle.instant.specs.Instant.{nanos};
-ghost use Rattle.block.specs.Counted.{size};
 ghost use Rattle.zone_local.specs.Dates.{InRange};
 ghost use Rattle.rule.specs.Rules.{scheduleIs, ScheduleFits};
-ghost use Rattle.walk_step.specs.Spending.{wayOf};
+ghost use Rattle.walk_distance.specs.Distances.{wayOf};
 ghost use Rattle.walk_distance.specs.Distances.{Short};
 ghost use Rattle.schedule_periods.specs.Replies.{periodIs, periodGiven, periodOf};
-use block::Span;
 use instant::Instant;
+use instant::Length;
 use instant_signed::InstantRead;
 use rule::Schedule;
 use walk_period::Found;
@@ -37,9 +36,9 @@ fn period_answer(start: Instant, end: Instant) -> PeriodAnswer
 
 // The period whose nearer border is at the distance f from t, on or back, and its further one at e. Going on the nearer border is its start, going
 // back it is its end.
-fn period_at(t: Instant, back: bool, f: Span, e: Span) -> PeriodAnswer
+fn period_at(t: Instant, back: bool, f: Length, e: Length) -> PeriodAnswer
     requires { ⌜ InRange t × Short f × Short e ⌝ }
-    ensures { λ r. ⌜ periodIs r ≡ periodGiven (ends (wayOf back) (nanos t) (block (size f) (size e))) ⌝ }
+    ensures { λ r. ⌜ periodIs r ≡ periodGiven (ends (wayOf back) (nanos t) (block (nanos f) (nanos e))) ⌝ }
 {
     let near = walk_distance::away(t, back, f);
     let far = walk_distance::away(t, back, e);

@@ -1,4 +1,5 @@
 -- The small steps of the walks: a week further, what fits, and the parts of a test. Assumes nothing.
+use Rattle.instant.specs.Instant.{nanos, most}
 use mathlib.Core.Path.{_≡_, refl, sym, _∙_, ap}
 use mathlib.Core.Bool.{Bool, true, false, _&&_}
 use mathlib.Core.List.{List}
@@ -17,11 +18,11 @@ use Rattle.model.specs.Skip.{repeats}
 use Rattle.laws_base.specs.Test.{by-test}
 use Rattle.laws_skip.specs.Skips.{fresh, keep, maySkip}
 use Rattle.walk_skip.specs.Repeating.{beyond, Repeating}
-use Rattle.block.specs.Counted.{size, most}
 use Rattle.walk.specs.declared.Previous.{Previous}
 use Rattle.walk.specs.Walks.{Reused, Skipped}
-use Rattle.walk_step.specs.Spending.{wayOf, stepIs}
-use Rattle.walk_step.specs.declared.Step.{Step}
+use Rattle.walk_distance.specs.Distances.{wayOf}
+use Rattle.walk.specs.Step.{stepIs}
+use Rattle.walk.specs.declared.Step.{Step}
 use Rattle.walk.proofs.Sums.{working-most}
 
 -- ---- a week
@@ -137,9 +138,9 @@ may-not true t g left test (inr (inr e)) = rw e (only (ltb t left))
 may-not false t g left test (inr (inr e)) = refl
 
 module _ (k : Previous) (left : ℕ) (rep : ℕ → Bool) (x end : ℕ) (h : x ≤ end) where
-  no-skip : (k .known ≡ false) ⊎ ((ltb (size (k .time)) left ≡ false) ⊎ ((eqb (min (x + week) end - x) week && rep x) ≡ false)) → Skipped k left rep x end 0
+  no-skip : (k .known ≡ false) ⊎ ((ltb (nanos (k .time)) left ≡ false) ⊎ ((eqb (min (x + week) end - x) week && rep x) ≡ false)) → Skipped k left rep x end 0
   no-skip w = record {
-    none = λ q. may-not (k .known) (size (k .time)) (size (k .edge)) left (eqb (min (x + week) end - x) week && rep x) w;
+    none = λ q. may-not (k .known) (nanos (k .time)) (nanos (k .edge)) left (eqb (min (x + week) end - x) week && rep x) w;
     some = λ q. absurd (omega arith);
     less = λ q. absurd (omega arith);
     each = λ i q. absurd (omega arith);
@@ -149,19 +150,19 @@ module _ (k : Previous) (left : ℕ) (rep : ℕ → Bool) (x end : ℕ) (h : x �
   pub skipped-fresh : k .known ≡ false → Skipped k left rep x end 0
   skipped-fresh e = no-skip (inl e)
 
-  pub skipped-full : left ≤ size (k .time) → Skipped k left rep x end 0
-  skipped-full e = no-skip (inr (inl (le-ltb (size (k .time)) left e)))
+  pub skipped-full : left ≤ nanos (k .time) → Skipped k left rep x end 0
+  skipped-full e = no-skip (inr (inl (le-ltb (nanos (k .time)) left e)))
 
   module _ {n : ℕ} (e : n ≡ (end - x) / week) where
     pub skipped-part : n ≡ 0 → Skipped k left rep x end 0
     skipped-part z = no-skip (inr (inr (rw (part-left x end n e z))))
 
-    pub skipped-run : k .known ≡ true → (n ≡ 0 → ⊥) → {f : ℕ} → (f ≡ 0 → ⊥) → (0 < f → f * size (k .time) < left) → {m p r : ℕ} → (m ≡ 0 → rep x ≡ false) → ((i : ℕ) → i < m → rep (x + i * week) ≡ true)
+    pub skipped-run : k .known ≡ true → (n ≡ 0 → ⊥) → {f : ℕ} → (f ≡ 0 → ⊥) → (0 < f → f * nanos (k .time) < left) → {m p r : ℕ} → (m ≡ 0 → rep x ≡ false) → ((i : ℕ) → i < m → rep (x + i * week) ≡ true)
         → p ≡ min f n → r ≡ min p m → Skipped k left rep x end r
     skipped-run w z {f} y less {m} {p} {r} fails each ep er = record {
-      none = λ q. may-not (k .known) (size (k .time)) (size (k .edge)) left (eqb (min (x + week) end - x) week && rep x) (inr (inr (none (fails (zero-left f n p m r z y ep er q)))));
+      none = λ q. may-not (k .known) (nanos (k .time)) (nanos (k .edge)) left (eqb (min (x + week) end - x) week && rep x) (inr (inr (none (fails (zero-left f n p m r z y ep er q)))));
       some = λ q. w;
-      less = λ q. fewer f r (size (k .time)) (fit ep er) (less (some f y));
+      less = λ q. fewer f r (nanos (k .time)) (fit ep er) (less (some f y));
       each = λ i q. each i (under er q);
       inside = whole-left x end n r h e (few ep er);
     }

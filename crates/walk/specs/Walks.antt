@@ -11,8 +11,6 @@ use Rattle.model.specs.Skip.{neededSearch}
 use Rattle.laws_skip.specs.Skips.{Previous as Previous′, keep, maySkip}
 use Rattle.instant.specs.Instant.{nanos}
 use Rattle.instant.specs.declared.Instant.{Instant}
-use Rattle.block.specs.Counted.{size}
-use Rattle.block.specs.declared.Span.{Span}
 use Rattle.zone_local.specs.Dates.{InRange}
 use Rattle.walk.specs.declared.Previous.{Previous}
 use Rattle.walk.specs.declared.Reached.{Reached}
@@ -26,7 +24,7 @@ pub record Stretch (a b : Instant) : Type 0 where
 
 -- what is kept of a window
 abbrev pub previousIs : Previous → Previous′
-previousIs k = keep (k .known) (size (k .time)) (size (k .edge))
+previousIs k = keep (k .known) (nanos (k .time)) (nanos (k .edge))
 
 pub record PreviousExact (k : Previous) : Type 0 where
   pub time : k .time .ns < 1000000000
@@ -43,18 +41,18 @@ pub record Reused (known : Bool) (rep : ℕ → Bool) (x end n : ℕ) : Type 0 w
 pub record Skipped (k : Previous) (left : ℕ) (rep : ℕ → Bool) (x end n : ℕ) : Type 0 where
   pub none : n ≡ 0 → maySkip (previousIs k) left (eqb (min (x + week) end - x) week && rep x) ≡ false
   pub some : 0 < n → k .known ≡ true
-  pub less : 0 < n → n * size (k .time) < left
+  pub less : 0 < n → n * nanos (k .time) < left
   pub each : (i : ℕ) → i < n → rep (x + i * week) ≡ true
   pub inside : x + n * week ≤ end
 
 -- the answer of a search
 abbrev pub reachedIs : Reached → Answer ℕ
-reachedIs (R.At z c) = gives (size z)
+reachedIs (R.At z c) = gives (nanos z)
 reachedIs R.NoWork = refuses 6 0
 reachedIs R.OutOfRange = refuses 7 0
 
 -- of an answer that is found: its count of windows, and nanoseconds below a second
 pub data Counts (w : Way) (s : model.Schedule) (t d : ℕ) : Reached → Type 0 where
-  found-at : {z : Span} {c : ℕ} → z .ns < 1000000000 → c ≡ neededSearch w s t d (size z) → Counts w s t d (R.At z c)
+  found-at : {z : Instant} {c : ℕ} → z .ns < 1000000000 → c ≡ neededSearch w s t d (nanos z) → Counts w s t d (R.At z c)
   no-work : Counts w s t d R.NoWork
   out-of-range : Counts w s t d R.OutOfRange

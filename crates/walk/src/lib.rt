@@ -5,37 +5,43 @@ ghost use mathlib.Core.Bool.{_&&_};
 ghost use Prim.Native.Nat.{ℕ, _+_, _*_, _-_, _/_, _≤_, _<_, min};
 ghost use lib.Dec.{ltb, eqb};
 ghost use lib.ListN.{length};
-ghost use Rattle.instant.specs.Instant.{nanos};
+ghost use Rattle.instant.specs.Instant.{nanos, most};
 ghost use Rattle.model.specs.Instant.{second, week};
 ghost use Rattle.model.specs.Skip.{neededBetween};
 ghost use Rattle.model.specs.Skip as model;
 ghost use Rattle.model.specs.Walk.{timeBetween, search, ahead};
 ghost use Rattle.model.specs.Walk as way;
 ghost use Rattle.laws_skip.specs.Skips as skips;
-ghost use Rattle.block.specs.Counted.{size, most};
 ghost use Rattle.rule.specs.Rules.{scheduleIs, ScheduleFits};
 ghost use Rattle.zone_local.specs.Dates.{InRange};
-ghost use Rattle.walk_step.specs.Spending.{wayOf, stepIs, Exact};
+ghost use Rattle.walk_distance.specs.Distances.{wayOf};
+ghost use Rattle.walk.specs.Step.{stepIs, ExactStep};
 ghost use Rattle.walk_search_week.specs.Steps.{weekStepIs, restOf, shifted, more};
 ghost use Rattle.window_week.specs.Room.{room};
 ghost use Rattle.walk_distance.specs.Distances.{Short, Ahead};
 ghost use Rattle.walk.specs.Walks.{Stretch, previousIs, PreviousExact, Reused, Skipped, reachedIs, Counts};
-use block::Span;
 use instant::Instant;
+use instant::Length;
 use rule::Schedule;
 use walk_search_week::WeekStep;
-use walk_step::Step;
+
+// What a window leaves: the distance that answers, a gap that is too long, or time left to find with the distance where work last ended.
+pub enum Step {
+    Found(Length),
+    Gap,
+    Left(Length, Length),
+}
 
 // What is kept of a whole window with working time: that time, and the distance from where its work last ended to its end.
 pub struct Previous {
     pub known: bool,
-    pub time: Span,
-    pub edge: Span,
+    pub time: Length,
+    pub edge: Length,
 }
 
 // What a search reaches: a distance and the number of windows resolved on the way, no work within the limit, or the range's end.
 pub enum Reached {
-    At(Span, u64),
+    At(Length, u64),
     NoWork,
     OutOfRange,
 }
@@ -44,14 +50,14 @@ pub enum Reached {
 
 // The working time of a window and the time of several, with the number of windows resolved.
 pub struct Summed {
-    pub time: Span,
+    pub time: Length,
     pub windows: u64,
 }
 
 // y is a week further than x.
-fn is_week(x: Span, y: Span) -> bool
+fn is_week(x: Length, y: Length) -> bool
     requires { ⌜ Short x × Short y ⌝ }
-    ensures { λ r. ⌜ r ≡ eqb (size y - size x) week ⌝ }
+    ensures { λ r. ⌜ r ≡ eqb (nanos y - nanos x) week ⌝ }
 {
     if y.ns == x.ns {
         return y.sec == x.sec + 604800;
@@ -64,11 +70,11 @@ fn window_end(lo: Instant, b: Instant) -> Instant
     requires { ⌜ Stretch lo b ⌝ }
     ensures { λ r. ⌜ (nanos r ≡ min (nanos lo + week) (nanos b)) × InRange r ⌝ }
 {
-    let x = Span {
+    let x = Length {
         sec: lo.sec,
         ns: lo.ns,
     };
-    let end = Span {
+    let end = Length {
         sec: b.sec,
         ns: b.ns,
     };
@@ -84,11 +90,11 @@ fn is_whole(lo: Instant, hi: Instant) -> bool
     requires { ⌜ InRange lo × InRange hi ⌝ }
     ensures { λ r. ⌜ r ≡ eqb (nanos hi - nanos lo) week ⌝ }
 {
-    let x = Span {
+    let x = Length {
         sec: lo.sec,
         ns: lo.ns,
     };
-    let y = Span {
+    let y = Length {
         sec: hi.sec,
         ns: hi.ns,
     };
@@ -97,42 +103,33 @@ fn is_whole(lo: Instant, hi: Instant) -> bool
 
 // ---- many windows at once
 
-fn least(a: u64, b: u64) -> u64
-    ensures { λ r. ⌜ r ≡ min a b ⌝ }
-{
-    if a < b {
-        return a;
-    }
-    b
-}
-
 // How many whole windows lie from x to `end`.
-fn weeks(x: Span, end: Span) -> u64
-    requires { ⌜ Short x × Short end × (size x ≤ size end) ⌝ }
-    ensures { λ r. ⌜ r ≡ (size end - size x) / week ⌝ }
+fn weeks(x: Length, end: Length) -> u64
+    requires { ⌜ Short x × Short end × (nanos x ≤ nanos end) ⌝ }
+    ensures { λ r. ⌜ r ≡ (nanos end - nanos x) / week ⌝ }
 {
-    let d = walk_step::minus(end, x);
+    let d = instant::difference(end, x);
     d.sec / 604800
 }
 
 // n times x.
-fn times(x: Span, n: u64) -> Span
-    requires { ⌜ (x .ns < 1000000000) × (n ≤ 2000000) × (n * size x < most) ⌝ }
-    ensures { λ r. ⌜ (size r ≡ n * size x) × (r .ns < 1000000000) ⌝ }
+fn times(x: Length, n: u64) -> Length
+    requires { ⌜ (x .ns < 1000000000) × (n ≤ 2000000) × (n * nanos x < most) ⌝ }
+    ensures { λ r. ⌜ (nanos r ≡ n * nanos x) × (r .ns < 1000000000) ⌝ }
 {
     let ns = n * x.ns as u64;
-    Span {
+    Length {
         sec: n * x.sec + ns / 1000000000,
         ns: (ns % 1000000000) as u32,
     }
 }
 
 // n weeks further than x.
-fn weeks_on(x: Span, n: u64) -> Span
-    requires { ⌜ (n ≤ 2000000) × (size x < most) ⌝ }
-    ensures { λ r. ⌜ (size r ≡ size x + n * week) × (r .ns ≡ x .ns) ⌝ }
+fn weeks_on(x: Length, n: u64) -> Length
+    requires { ⌜ (n ≤ 2000000) × (nanos x < most) ⌝ }
+    ensures { λ r. ⌜ (nanos r ≡ nanos x + n * week) × (r .ns ≡ x .ns) ⌝ }
 {
-    Span {
+    Length {
         sec: x.sec + n * 604800,
         ns: x.ns,
     }
@@ -157,11 +154,11 @@ fn repeated(book: &[u8], pack: &[u8], s: Schedule, known: bool, lo: Instant, b: 
     if !known {
         return 0;
     }
-    let x = Span {
+    let x = Length {
         sec: lo.sec,
         ns: lo.ns,
     };
-    let end = Span {
+    let end = Length {
         sec: b.sec,
         ns: b.ns,
     };
@@ -169,14 +166,14 @@ fn repeated(book: &[u8], pack: &[u8], s: Schedule, known: bool, lo: Instant, b: 
     if n == 0 {
         return 0;
     }
-    least(n, walk_skip::borders(book, pack, s, lo, false))
+    number::minimum(n, walk_skip::borders(book, pack, s, lo, false))
 }
 
 // A number of nanoseconds as seconds and nanoseconds.
-fn spanned(n: u64) -> Span
-    ensures { λ r. ⌜ (size r ≡ n) × (r .ns < 1000000000) ⌝ }
+fn spanned(n: u64) -> Length
+    ensures { λ r. ⌜ (nanos r ≡ n) × (r .ns < 1000000000) ⌝ }
 {
-    Span {
+    Length {
         sec: n / 1000000000,
         ns: (n % 1000000000) as u32,
     }
@@ -185,11 +182,11 @@ fn spanned(n: u64) -> Span
 // The working time from a to b, and how many windows were resolved for it.
 pub fn between_walk(book: &[u8], pack: &[u8], s: Schedule, a: Instant, b: Instant) -> Summed
     requires { ⌜ ScheduleFits (now book) (now pack) s × Stretch a b ⌝ }
-    ensures { λ r. ⌜ (size (r .time) ≡ timeBetween (scheduleIs (now (book .entry)) (now (pack .entry)) s) (nanos a) (nanos b)) × (r .windows ≡ neededBetween (scheduleIs (now (book .entry)) (now (pack .entry)) s) (nanos a) (nanos b)) × (r .time .ns < 1000000000) ⌝ }
+    ensures { λ r. ⌜ (nanos (r .time) ≡ timeBetween (scheduleIs (now (book .entry)) (now (pack .entry)) s) (nanos a) (nanos b)) × (r .windows ≡ neededBetween (scheduleIs (now (book .entry)) (now (pack .entry)) s) (nanos a) (nanos b)) × (r .time .ns < 1000000000) ⌝ }
 {
     let mut lo = a;
-    let mut sum = Span { sec: 0, ns: 0 };
-    let mut kept = Span { sec: 0, ns: 0 };
+    let mut sum = Length { sec: 0, ns: 0 };
+    let mut kept = Length { sec: 0, ns: 0 };
     let mut known = false;
     let mut windows: u64 = 0;
     while instant::precedes(lo, b) {
@@ -198,11 +195,11 @@ pub fn between_walk(book: &[u8], pack: &[u8], s: Schedule, a: Instant, b: Instan
             let hi = window_end(lo, b);
             kept = spanned(window_week::week_time(book, pack, s, lo, hi));
             known = is_whole(lo, hi);
-            sum = block::added(sum, kept);
+            sum = instant::sum(sum, kept);
             windows += 1;
             lo = hi;
         } else {
-            sum = block::added(sum, times(kept, n));
+            sum = instant::sum(sum, times(kept, n));
             lo = weeks_after(lo, n, b);
         }
     }
@@ -212,11 +209,11 @@ pub fn between_walk(book: &[u8], pack: &[u8], s: Schedule, a: Instant, b: Instan
 // ---- a search
 
 // How many windows of this time may be taken off what is left and leave some: none only if not even one. There may be more.
-fn fitting(time: Span, left: Span) -> u64
-    requires { ⌜ (time .ns < 1000000000) × (size left < most) ⌝ }
-    ensures { λ r. ⌜ (r ≡ 0 → size left ≤ size time) × (0 < r → r * size time < size left) ⌝ }
+fn fitting(time: Length, left: Length) -> u64
+    requires { ⌜ (time .ns < 1000000000) × (nanos left < most) ⌝ }
+    ensures { λ r. ⌜ (r ≡ 0 → nanos left ≤ nanos time) × (0 < r → r * nanos time < nanos left) ⌝ }
 {
-    if !walk_step::less(time, left) {
+    if !instant::precedes(time, left) {
         return 0;
     }
     let n = left.sec / (time.sec + 1);
@@ -235,12 +232,12 @@ fn skips(
     t: Instant,
     back: bool,
     k: Previous,
-    left: Span,
-    x: Span,
-    end: Span,
+    left: Length,
+    x: Length,
+    end: Length,
 ) -> u64
-    requires { ⌜ ScheduleFits (now book) (now pack) s × InRange t × Short x × Short end × (size x ≤ size end) × (size end ≤ way.reach (wayOf back) (nanos t)) × PreviousExact k × (size left < most) ⌝ }
-    ensures { λ r. ⌜ Skipped k (size left) (λ y. model.repeats (scheduleIs (now (book .entry)) (now (pack .entry)) s) (way.at (wayOf back) (nanos t) y)) (size x) (size end) r ⌝ }
+    requires { ⌜ ScheduleFits (now book) (now pack) s × InRange t × Short x × Short end × (nanos x ≤ nanos end) × (nanos end ≤ way.reach (wayOf back) (nanos t)) × PreviousExact k × (nanos left < most) ⌝ }
+    ensures { λ r. ⌜ Skipped k (nanos left) (λ y. model.repeats (scheduleIs (now (book .entry)) (now (pack .entry)) s) (way.at (wayOf back) (nanos t) y)) (nanos x) (nanos end) r ⌝ }
 {
     if !k.known {
         return 0;
@@ -255,53 +252,59 @@ fn skips(
         return 0;
     }
     let p = walk_distance::at(t, back, x);
-    least(least(n, m), walk_skip::borders(book, pack, s, p, back))
+    number::minimum(
+        number::minimum(n, m),
+        walk_skip::borders(book, pack, s, p, back),
+    )
 }
 
 // What is kept of the window from x to y, where `left` was to find before it, and `rest` after it, and work last ended at m.
-fn keep(x: Span, y: Span, left: Span, rest: Span, m: Span) -> Previous
-    requires { ⌜ Short x × Short y × (size left < most) ⌝ }
-    ensures { λ r. ⌜ (previousIs r ≡ skips.keep (eqb (size y - size x) week && ltb 0 (size left - size rest)) (size left - size rest) (size y - size m)) × PreviousExact r × (size (r .edge) ≡ size y - size m) ⌝ }
+fn keep(x: Length, y: Length, left: Length, rest: Length, m: Length) -> Previous
+    requires { ⌜ Short x × Short y × (nanos left < most) ⌝ }
+    ensures { λ r. ⌜ (previousIs r ≡ skips.keep (eqb (nanos y - nanos x) week && ltb 0 (nanos left - nanos rest)) (nanos left - nanos rest) (nanos y - nanos m)) × PreviousExact r × (nanos (r .edge) ≡ nanos y - nanos m) ⌝ }
 {
-    let time = walk_step::minus(left, rest);
-    let edge = walk_step::minus(y, m);
+    let time = instant::difference(left, rest);
+    let edge = instant::difference(y, m);
     let mut known = false;
     if is_week(x, y) {
-        known = walk_step::less(Span { sec: 0, ns: 0 }, time);
+        known = instant::precedes(Length { sec: 0, ns: 0 }, time);
     }
     Previous { known, time, edge }
 }
 
 // A length of time in nanoseconds.
-fn nanoseconds(x: Span) -> u64
-    requires { ⌜ size x < 18446744073709551616 ⌝ }
-    ensures { λ r. ⌜ r ≡ size x ⌝ }
+fn nanoseconds(x: Length) -> u64
+    requires { ⌜ nanos x < 18446744073709551616 ⌝ }
+    ensures { λ r. ⌜ r ≡ nanos x ⌝ }
 {
     x.sec * 1000000000 + x.ns as u64
 }
 
 // What is looked for in a window: what is left to find, or a nanosecond more than a week if that is less. No window has so much.
-fn wanted(left: Span) -> u64
+fn wanted(left: Length) -> u64
     requires { ⌜ left .ns < 1000000000 ⌝ }
-    ensures { λ r. ⌜ r ≡ min (size left) (week + 1) ⌝ }
+    ensures { λ r. ⌜ r ≡ min (nanos left) (week + 1) ⌝ }
 {
     if 604800 < left.sec {
         return 604800000000001;
     }
-    least(nanoseconds(left), 604800000000001)
+    number::minimum(nanoseconds(left), 604800000000001)
 }
 
 // What a window leaves, its distances from where work last ended, as distances from t. Of what is left to find, d was looked for.
-fn further(r: WeekStep, last: Span, left: Span, d: u64) -> Step
-    requires { ⌜ Short last × (size left < most) × (left .ns < 1000000000) × (d ≤ size left) × (restOf r ≤ d) ⌝ }
-    ensures { λ x. ⌜ (stepIs x ≡ shifted (size last) (more (size left - d) (weekStepIs r))) × Exact x ⌝ }
+fn further(r: WeekStep, last: Length, left: Length, d: u64) -> Step
+    requires { ⌜ Short last × (nanos left < most) × (left .ns < 1000000000) × (d ≤ nanos left) × (restOf r ≤ d) ⌝ }
+    ensures { λ x. ⌜ (stepIs x ≡ shifted (nanos last) (more (nanos left - d) (weekStepIs r))) × ExactStep x ⌝ }
 {
     match r {
-        WeekStep::Found(z) => Step::Found(block::added(last, spanned(z))),
+        WeekStep::Found(z) => Step::Found(instant::sum(last, spanned(z))),
         WeekStep::Gap => Step::Gap,
         WeekStep::Left(rest, m) => {
             let time = spanned(d - rest);
-            Step::Left(walk_step::minus(left, time), block::added(last, spanned(m)))
+            Step::Left(
+                instant::difference(left, time),
+                instant::sum(last, spanned(m)),
+            )
         }
     }
 }
@@ -314,19 +317,19 @@ fn search_window(
     s: Schedule,
     t: Instant,
     back: bool,
-    x: Span,
-    y: Span,
-    last: Span,
-    left: Span,
+    x: Length,
+    y: Length,
+    last: Length,
+    left: Length,
     on: &mut [u64],
     off: &mut [u64],
     out: &mut [u64],
 ) -> Step
-    requires { ⌜ ScheduleFits (now book) (now pack) s × InRange t × Ahead (wayOf back) (nanos t) x y × (last .ns < 1000000000) × (size left < most) × (left .ns < 1000000000) × (size last ≤ size x) × (size x ≤ size last + s .limit * second) × (room s ≤ length (now on)) × (room s ≤ length (now off)) × (room s ≤ length (now out)) ⌝ }
-    ensures { λ r. ⌜ (stepIs r ≡ way.searchBlocks (s .limit * second) (size y) (size last) (size left) (ahead (wayOf back) (scheduleIs (now (book .entry)) (now (pack .entry)) s) (nanos t) (size x) (size y))) × Exact r ⌝ }
+    requires { ⌜ ScheduleFits (now book) (now pack) s × InRange t × Ahead (wayOf back) (nanos t) x y × (last .ns < 1000000000) × (nanos left < most) × (left .ns < 1000000000) × (nanos last ≤ nanos x) × (nanos x ≤ nanos last + s .limit * second) × (room s ≤ length (now on)) × (room s ≤ length (now off)) × (room s ≤ length (now out)) ⌝ }
+    ensures { λ r. ⌜ (stepIs r ≡ way.searchBlocks (s .limit * second) (nanos y) (nanos last) (nanos left) (ahead (wayOf back) (scheduleIs (now (book .entry)) (now (pack .entry)) s) (nanos t) (nanos x) (nanos y))) × ExactStep r ⌝ }
 {
-    let g = nanoseconds(walk_step::minus(x, last));
-    let w = nanoseconds(walk_step::minus(y, x));
+    let g = nanoseconds(instant::difference(x, last));
+    let w = nanoseconds(instant::difference(y, x));
     let d = wanted(left);
     let limit = s.limit * 1000000000;
     let n = walk_distance::window_into(book, pack, s, t, back, x, y, on, off, out);
@@ -353,13 +356,13 @@ fn large_look(
     s: Schedule,
     t: Instant,
     back: bool,
-    x: Span,
-    y: Span,
-    last: Span,
-    left: Span,
+    x: Length,
+    y: Length,
+    last: Length,
+    left: Length,
 ) -> Step
-    requires { ⌜ ScheduleFits (now book) (now pack) s × InRange t × Ahead (wayOf back) (nanos t) x y × (last .ns < 1000000000) × (size left < most) × (left .ns < 1000000000) × (size last ≤ size x) × (size x ≤ size last + s .limit * second) ⌝ }
-    ensures { λ r. ⌜ (stepIs r ≡ way.searchBlocks (s .limit * second) (size y) (size last) (size left) (ahead (wayOf back) (scheduleIs (now (book .entry)) (now (pack .entry)) s) (nanos t) (size x) (size y))) × Exact r ⌝ }
+    requires { ⌜ ScheduleFits (now book) (now pack) s × InRange t × Ahead (wayOf back) (nanos t) x y × (last .ns < 1000000000) × (nanos left < most) × (left .ns < 1000000000) × (nanos last ≤ nanos x) × (nanos x ≤ nanos last + s .limit * second) ⌝ }
+    ensures { λ r. ⌜ (stepIs r ≡ way.searchBlocks (s .limit * second) (nanos y) (nanos last) (nanos left) (ahead (wayOf back) (scheduleIs (now (book .entry)) (now (pack .entry)) s) (nanos t) (nanos x) (nanos y))) × ExactStep r ⌝ }
 {
     let mut on = [0u64; 1122];
     let mut off = [0u64; 1122];
@@ -387,13 +390,13 @@ fn look(
     s: Schedule,
     t: Instant,
     back: bool,
-    x: Span,
-    y: Span,
-    last: Span,
-    left: Span,
+    x: Length,
+    y: Length,
+    last: Length,
+    left: Length,
 ) -> Step
-    requires { ⌜ ScheduleFits (now book) (now pack) s × InRange t × Ahead (wayOf back) (nanos t) x y × (last .ns < 1000000000) × (size left < most) × (left .ns < 1000000000) × (size last ≤ size x) × (size x ≤ size last + s .limit * second) ⌝ }
-    ensures { λ r. ⌜ (stepIs r ≡ way.searchBlocks (s .limit * second) (size y) (size last) (size left) (ahead (wayOf back) (scheduleIs (now (book .entry)) (now (pack .entry)) s) (nanos t) (size x) (size y))) × Exact r ⌝ }
+    requires { ⌜ ScheduleFits (now book) (now pack) s × InRange t × Ahead (wayOf back) (nanos t) x y × (last .ns < 1000000000) × (nanos left < most) × (left .ns < 1000000000) × (nanos last ≤ nanos x) × (nanos x ≤ nanos last + s .limit * second) ⌝ }
+    ensures { λ r. ⌜ (stepIs r ≡ way.searchBlocks (s .limit * second) (nanos y) (nanos last) (nanos left) (ahead (wayOf back) (scheduleIs (now (book .entry)) (now (pack .entry)) s) (nanos t) (nanos x) (nanos y))) × ExactStep r ⌝ }
 {
     if 4 < s.works + s.pauses + s.closings {
         return large_look(book, pack, s, t, back, x, y, last, left);
@@ -424,13 +427,13 @@ fn search_from(
     s: Schedule,
     t: Instant,
     back: bool,
-    end: Span,
-    d: Span,
+    end: Length,
+    d: Length,
 ) -> Reached
-    requires { ⌜ ScheduleFits (now book) (now pack) s × InRange t × (size end ≡ way.reach (wayOf back) (nanos t)) × Short end × (0 < size d) × (size d < most) × (d .ns < 1000000000) ⌝ }
-    ensures { λ r. ⌜ (reachedIs r ≡ search (wayOf back) (scheduleIs (now (book .entry)) (now (pack .entry)) s) (nanos t) (size d)) × Counts (wayOf back) (scheduleIs (now (book .entry)) (now (pack .entry)) s) (nanos t) (size d) r ⌝ }
+    requires { ⌜ ScheduleFits (now book) (now pack) s × InRange t × (nanos end ≡ way.reach (wayOf back) (nanos t)) × Short end × (0 < nanos d) × (nanos d < most) × (d .ns < 1000000000) ⌝ }
+    ensures { λ r. ⌜ (reachedIs r ≡ search (wayOf back) (scheduleIs (now (book .entry)) (now (pack .entry)) s) (nanos t) (nanos d)) × Counts (wayOf back) (scheduleIs (now (book .entry)) (now (pack .entry)) s) (nanos t) (nanos d) r ⌝ }
 {
-    let zero = Span { sec: 0, ns: 0 };
+    let zero = Length { sec: 0, ns: 0 };
     let mut x = zero;
     let mut last = zero;
     let mut left = d;
@@ -440,7 +443,7 @@ fn search_from(
         edge: zero,
     };
     let mut resolved: u64 = 0;
-    while walk_step::less(x, end) {
+    while instant::precedes(x, end) {
         let n = skips(book, pack, s, t, back, kept, left, x, end);
         if n == 0 {
             let y = walk_distance::week_on(x, end);
@@ -458,7 +461,7 @@ fn search_from(
             }
         } else {
             let time = kept.time;
-            left = walk_step::minus(left, times(time, n));
+            left = instant::difference(left, times(time, n));
             last = weeks_on(last, n);
             x = weeks_on(x, n);
         }
@@ -473,13 +476,13 @@ pub fn search_walk(
     s: Schedule,
     t: Instant,
     back: bool,
-    d: Span,
+    d: Length,
 ) -> Reached
-    requires { ⌜ ScheduleFits (now book) (now pack) s × InRange t × (size d < most) × (d .ns < 1000000000) ⌝ }
-    ensures { λ r. ⌜ (reachedIs r ≡ search (wayOf back) (scheduleIs (now (book .entry)) (now (pack .entry)) s) (nanos t) (size d)) × Counts (wayOf back) (scheduleIs (now (book .entry)) (now (pack .entry)) s) (nanos t) (size d) r ⌝ }
+    requires { ⌜ ScheduleFits (now book) (now pack) s × InRange t × (nanos d < most) × (d .ns < 1000000000) ⌝ }
+    ensures { λ r. ⌜ (reachedIs r ≡ search (wayOf back) (scheduleIs (now (book .entry)) (now (pack .entry)) s) (nanos t) (nanos d)) × Counts (wayOf back) (scheduleIs (now (book .entry)) (now (pack .entry)) s) (nanos t) (nanos d) r ⌝ }
 {
-    let zero = Span { sec: 0, ns: 0 };
-    if !walk_step::less(zero, d) {
+    let zero = Length { sec: 0, ns: 0 };
+    if !instant::precedes(zero, d) {
         return Reached::At(zero, 0);
     }
     let end = walk_distance::reach(t, back);

@@ -1,25 +1,31 @@
 -- What the functions on a search's windows are asked.
+use Rattle.instant.specs.Instant.{nanos}
 use mathlib.Core.Path.{_≡_}
+use mathlib.Core.Bool.{Bool, true, false}
 use mathlib.Core.List.{List}
 use Prim.Native.Nat.{ℕ, _+_, _-_, _≤_, _<_}
 use Rattle.model.specs.Blocks.{Block}
 use Rattle.model.specs.Instant.{week}
 use Rattle.model.specs.Walk.{Way, on, back, reach, backward}
-use Rattle.block.specs.Counted.{size}
-use Rattle.block.specs.declared.Span.{Span}
+use Rattle.instant.specs.declared.Instant.{Instant}
+
+-- the way of a search: back where the flag is set
+abbrev pub wayOf : Bool → Way
+wayOf true = back
+wayOf false = on
 
 -- a length of time that is short of the range, its nanoseconds below a second
-pub record Short (x : Span) : Type 0 where
+pub record Short (x : Instant) : Type 0 where
   pub sec : x .sec < 1000000000000
   pub ns : x .ns < 1000000000
 
 -- a window between two distances from t
-pub record Ahead (w : Way) (t : ℕ) (x y : Span) : Type 0 where
+pub record Ahead (w : Way) (t : ℕ) (x y : Instant) : Type 0 where
   pub start : Short x
   pub end : Short y
-  pub order : size x ≤ size y
-  pub near : size y ≤ reach w t
-  pub short : size y ≤ size x + week
+  pub order : nanos x ≤ nanos y
+  pub near : nanos y ≤ reach w t
+  pub short : nanos y ≤ nanos x + week
 
 -- the window between the distances x and y from t lies from lo to hi
 pub data Placed : Way → ℕ → ℕ → ℕ → ℕ → ℕ → Type 0 where

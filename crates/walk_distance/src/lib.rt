@@ -9,50 +9,49 @@ ghost use Rattle.model.specs.Walk.{ahead};
 ghost use Rattle.model.specs.Walk as way;
 ghost use Rattle.laws_blocks.specs.Move.{moves};
 ghost use Rattle.laws_skip.specs.WindowEnds.{Inside};
-ghost use Rattle.block.specs.Counted.{size};
 ghost use Rattle.rule.specs.Rules.{scheduleIs, ScheduleFits};
 ghost use Rattle.zone_local.specs.Dates.{InRange};
-ghost use Rattle.walk_step.specs.Spending.{wayOf};
+ghost use Rattle.walk_distance.specs.Distances.{wayOf};
 ghost use Rattle.window_dates.specs.Windows.{Window};
 ghost use Rattle.block_pairs.specs.Pairs.{pairs};
 ghost use Rattle.window_week.specs.Room.{room};
 ghost use Rattle.walk_distance.specs.Distances.{Short, Ahead, Placed, seen};
-use block::Span;
 use instant::Instant;
+use instant::Length;
 use rule::Schedule;
 
 // The end of the window that begins at x: a week further, or `end` if that is nearer.
-pub fn week_on(x: Span, end: Span) -> Span
+pub fn week_on(x: Length, end: Length) -> Length
     requires { ⌜ Short x × Short end ⌝ }
-    ensures { λ r. ⌜ (size r ≡ min (size x + week) (size end)) × Short r ⌝ }
+    ensures { λ r. ⌜ (nanos r ≡ min (nanos x + week) (nanos end)) × Short r ⌝ }
 {
-    let on = Span {
+    let on = Length {
         sec: x.sec + 604800,
         ns: x.ns,
     };
-    if walk_step::less(on, end) {
+    if instant::precedes(on, end) {
         return on;
     }
     end
 }
 
 // The instant that is x away from t, be it in the range or not.
-pub fn away(t: Instant, back: bool, x: Span) -> Instant
+pub fn away(t: Instant, back: bool, x: Length) -> Instant
     requires { ⌜ InRange t × Short x ⌝ }
-    ensures { λ r. ⌜ (nanos r ≡ way.at (wayOf back) (nanos t) (size x)) × (r .sec < 2000000000000) × (r .ns < 1000000000) ⌝ }
+    ensures { λ r. ⌜ (nanos r ≡ way.at (wayOf back) (nanos t) (nanos x)) × (r .sec < 2000000000000) × (r .ns < 1000000000) ⌝ }
 {
-    let u = Span {
+    let u = Length {
         sec: t.sec,
         ns: t.ns,
     };
     if back {
-        let r = walk_step::minus(u, x);
+        let r = instant::difference(u, x);
         return Instant {
             sec: r.sec,
             ns: r.ns,
         };
     }
-    let r = block::added(u, x);
+    let r = instant::sum(u, x);
     Instant {
         sec: r.sec,
         ns: r.ns,
@@ -60,33 +59,33 @@ pub fn away(t: Instant, back: bool, x: Span) -> Instant
 }
 
 // The instant at the distance x from t, in the range.
-pub fn at(t: Instant, back: bool, x: Span) -> Instant
-    requires { ⌜ InRange t × Short x × (size x ≤ way.reach (wayOf back) (nanos t)) ⌝ }
-    ensures { λ r. ⌜ (nanos r ≡ way.at (wayOf back) (nanos t) (size x)) × InRange r ⌝ }
+pub fn at(t: Instant, back: bool, x: Length) -> Instant
+    requires { ⌜ InRange t × Short x × (nanos x ≤ way.reach (wayOf back) (nanos t)) ⌝ }
+    ensures { λ r. ⌜ (nanos r ≡ way.at (wayOf back) (nanos t) (nanos x)) × InRange r ⌝ }
 {
     away(t, back, x)
 }
 
 // The distance of the range's end from t.
-pub fn reach(t: Instant, back: bool) -> Span
+pub fn reach(t: Instant, back: bool) -> Length
     requires { ⌜ InRange t ⌝ }
-    ensures { λ r. ⌜ (size r ≡ way.reach (wayOf back) (nanos t)) × Short r ⌝ }
+    ensures { λ r. ⌜ (nanos r ≡ way.reach (wayOf back) (nanos t)) × Short r ⌝ }
 {
-    let u = Span {
+    let u = Length {
         sec: t.sec,
         ns: t.ns,
     };
     if back {
-        return walk_step::minus(
+        return instant::difference(
             u,
-            Span {
+            Length {
                 sec: 12654496799,
                 ns: 0,
             },
         );
     }
-    walk_step::minus(
-        Span {
+    instant::difference(
+        Length {
             sec: 643761727200,
             ns: 999999999,
         },
@@ -101,9 +100,9 @@ pub struct Ends {
 }
 
 // The instants between which the window between two distances from t lies.
-pub fn place(t: Instant, back: bool, x: Span, y: Span) -> Ends
+pub fn place(t: Instant, back: bool, x: Length, y: Length) -> Ends
     requires { ⌜ InRange t × Ahead (wayOf back) (nanos t) x y ⌝ }
-    ensures { λ r. ⌜ Window 7 (r .lo) (r .hi) × Placed (wayOf back) (nanos t) (size x) (size y) (nanos (r .lo)) (nanos (r .hi)) ⌝ }
+    ensures { λ r. ⌜ Window 7 (r .lo) (r .hi) × Placed (wayOf back) (nanos t) (nanos x) (nanos y) (nanos (r .lo)) (nanos (r .hi)) ⌝ }
 {
     let near = at(t, back, x);
     let far = at(t, back, y);
@@ -121,14 +120,14 @@ pub fn window_into(
     s: Schedule,
     t: Instant,
     back: bool,
-    x: Span,
-    y: Span,
+    x: Length,
+    y: Length,
     on: &mut [u64],
     off: &mut [u64],
     out: &mut [u64],
 ) -> usize
     requires { ⌜ ScheduleFits (now book) (now pack) s × InRange t × Ahead (wayOf back) (nanos t) x y × (room s ≤ length (now on)) × (room s ≤ length (now off)) × (room s ≤ length (now out)) ⌝ }
-    ensures { λ r. ⌜ (moves (size x) (seen (wayOf back) (size y - size x) (pairs r (now (out .exit)))) ≡ ahead (wayOf back) (scheduleIs (now (book .entry)) (now (pack .entry)) s) (nanos t) (size x) (size y)) × Inside 0 (size y - size x) (pairs r (now (out .exit))) × (r ≤ 14 * (s .works + s .pauses + s .closings)) × (length (now (out .exit)) ≡ length (now (out .entry))) ⌝ }
+    ensures { λ r. ⌜ (moves (nanos x) (seen (wayOf back) (nanos y - nanos x) (pairs r (now (out .exit)))) ≡ ahead (wayOf back) (scheduleIs (now (book .entry)) (now (pack .entry)) s) (nanos t) (nanos x) (nanos y)) × Inside 0 (nanos y - nanos x) (pairs r (now (out .exit))) × (r ≤ 14 * (s .works + s .pauses + s .closings)) × (length (now (out .exit)) ≡ length (now (out .entry))) ⌝ }
 {
     let nearer = at(t, back, x);
     let further = at(t, back, y);

@@ -1,4 +1,5 @@
 -- Stretches as they are found block by block: those that are ended, the one that is still open, and the numbers that are written of them.
+use Rattle.instant.specs.Instant.{most}
 use mathlib.Core.Path.{_≡_}
 use mathlib.Core.Bool.{Bool, true, false}
 use mathlib.Core.List.{List, [], _∷_, _++_, map}
@@ -9,7 +10,7 @@ use lib.ListN.{length, take, drop}
 use Rattle.model.specs.Basic.{if_then_else_, joined}
 use Rattle.model.specs.Blocks.{Block, block, merged, mergedFrom}
 use Rattle.model.specs.Instant.{instant}
-use Rattle.block.specs.Counted.{blockOf, most}
+use Rattle.block.specs.Counted.{blockOf}
 use Rattle.walk_list_week.specs.declared.Open.{Open}
 
 -- ---- stretches

@@ -1,4 +1,5 @@
 -- The loop of `period_walk`: its invariant, and that a turn keeps it. Assumes nothing.
+use Rattle.instant.specs.Instant.{nanos, most}
 use mathlib.Core.Path.{_≡_, refl, sym, _∙_, ap}
 use mathlib.Core.Bool.{Bool, true, false, not, _||_}
 use mathlib.Core.List.{List, [], _∷_}
@@ -15,8 +16,7 @@ use Rattle.model.specs.Walk.{Way, PeriodSoFar, nothing, growing, ended, tooFar,
 use Rattle.laws_base.specs.Test.{by-test}
 use Rattle.laws_blocks.specs.Move.{moves}
 use Rattle.laws_skip.specs.WindowEnds.{Inside}
-use Rattle.block.specs.Counted.{size, most}
-use Rattle.block.specs.declared.Span.{Span}
+use Rattle.instant.specs.declared.Instant.{Instant}
 use Rattle.walk_period_week.specs.SoFars.{soFar, soFarIs}
 use Rattle.walk_period_week.specs.declared.SoFar.{SoFar}
 use Rattle.walk_distance.proofs.Near.{into-placed}
@@ -230,12 +230,12 @@ module _ (limit : ℕ) (h : PeriodSoFar) (v : Way) (s : Schedule) (t x y lo hi w
 -- ---- what fits
 
 -- a period of the windows passed, its further border cut to c
-pub fits : (w : Way) (t : ℕ) (f c : Span) (e limit end : ℕ) → f .ns < 1000000000 → c .ns < 1000000000 → (size f ≤ e) × (e ≤ end) → end ≡ reach w t → size c ≡ min e (size f + limit) → PeriodFits w t f c
+pub fits : (w : Way) (t : ℕ) (f c : Instant) (e limit end : ℕ) → f .ns < 1000000000 → c .ns < 1000000000 → (nanos f ≤ e) × (e ≤ end) → end ≡ reach w t → nanos c ≡ min e (nanos f + limit) → PeriodFits w t f c
 fits w t f c e limit end h k o p q = let i = o .0 in let j = o .1 in record { start-ns = h; end-ns = k; order = omega arith; near = omega arith }
 
 -- the cut's sum stays small
-pub cut-fits : (f e end : Span) (limit : ℕ) → (size f ≤ size e) × (size e ≤ size end) → Short end → limit ≤ 341280000 → size f + (limit * 1000000000 + 0) < most
+pub cut-fits : (f e end : Instant) (limit : ℕ) → (nanos f ≤ nanos e) × (nanos e ≤ nanos end) → Short end → limit ≤ 341280000 → nanos f + (limit * 1000000000 + 0) < most
 cut-fits f e end limit o h k = let i = o .0 in let j = o .1 in let x = h .sec in let y = h .ns in omega arith
 
-pub end-fits : (e end : Span) → size e ≤ size end → Short end → size e < most
+pub end-fits : (e end : Instant) → nanos e ≤ nanos end → Short end → nanos e < most
 end-fits e end o h = let x = h .sec in let y = h .ns in omega arith

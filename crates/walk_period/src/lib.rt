@@ -4,55 +4,54 @@ ghost use mathlib.Core.Bool.{_||_};
 ghost use Prim.Native.Nat.{ℕ, _+_, _*_, _-_, _≤_, _<_, min};
 ghost use lib.Dec.{ltb, leb};
 ghost use lib.ListN.{length};
-ghost use Rattle.instant.specs.Instant.{nanos};
+ghost use Rattle.instant.specs.Instant.{nanos, most};
 ghost use Rattle.model.specs.Instant.{week};
 ghost use Rattle.model.specs.Walk.{period};
-ghost use Rattle.block.specs.Counted.{size, most};
 ghost use Rattle.rule.specs.Rules.{scheduleIs, ScheduleFits};
 ghost use Rattle.zone_local.specs.Dates.{InRange};
-ghost use Rattle.walk_step.specs.Spending.{wayOf};
+ghost use Rattle.walk_distance.specs.Distances.{wayOf};
 ghost use Rattle.window_week.specs.Room.{room};
 ghost use Rattle.walk_period.specs.Found.{foundIs, FoundFits};
-use block::Span;
 use instant::Instant;
+use instant::Length;
 use rule::Schedule;
 use walk_period_week::SoFar;
 
 // What the walk finds: the distances of a period's nearer and further border, no work within the limit, or the range's end.
 pub enum Found {
-    Period(Span, Span),
+    Period(Length, Length),
     NoWork,
     OutOfRange,
 }
 
 // A period that ends at e, in a window that ends at y, goes no further: it ends before the window, or is as long as the limit.
-fn is_whole(limit: Span, y: Span, f: Span, e: Span) -> bool
-    requires { ⌜ size e < most ⌝ }
-    ensures { λ r. ⌜ r ≡ (ltb (size e) (size y) || leb (size limit) (size e - size f)) ⌝ }
+fn is_whole(limit: Length, y: Length, f: Length, e: Length) -> bool
+    requires { ⌜ nanos e < most ⌝ }
+    ensures { λ r. ⌜ r ≡ (ltb (nanos e) (nanos y) || leb (nanos limit) (nanos e - nanos f)) ⌝ }
 {
-    if walk_step::less(e, y) {
+    if instant::precedes(e, y) {
         return true;
     }
-    let len = walk_step::minus(e, f);
-    !walk_step::less(len, limit)
+    let len = instant::difference(e, f);
+    !instant::precedes(len, limit)
 }
 
 // The further border of a period, at most the limit from its nearer one.
-fn cut(limit: Span, f: Span, e: Span) -> Span
-    requires { ⌜ (f .ns < 1000000000) × (e .ns < 1000000000) × (limit .ns < 1000000000) × (size f + size limit < most) ⌝ }
-    ensures { λ r. ⌜ (size r ≡ min (size e) (size f + size limit)) × (r .ns < 1000000000) ⌝ }
+fn cut(limit: Length, f: Length, e: Length) -> Length
+    requires { ⌜ (f .ns < 1000000000) × (e .ns < 1000000000) × (limit .ns < 1000000000) × (nanos f + nanos limit < most) ⌝ }
+    ensures { λ r. ⌜ (nanos r ≡ min (nanos e) (nanos f + nanos limit)) × (r .ns < 1000000000) ⌝ }
 {
-    let far = block::added(f, limit);
-    if walk_step::less(far, e) {
+    let far = instant::sum(f, limit);
+    if instant::precedes(far, e) {
         return far;
     }
     e
 }
 
 // The length in nanoseconds of the window between two distances.
-fn width(x: Span, y: Span) -> u64
-    requires { ⌜ (x .ns < 1000000000) × (y .ns < 1000000000) × (size x ≤ size y) × (size y ≤ size x + week) ⌝ }
-    ensures { λ r. ⌜ r ≡ size y - size x ⌝ }
+fn width(x: Length, y: Length) -> u64
+    requires { ⌜ (x .ns < 1000000000) × (y .ns < 1000000000) × (nanos x ≤ nanos y) × (nanos y ≤ nanos x + week) ⌝ }
+    ensures { λ r. ⌜ r ≡ nanos y - nanos x ⌝ }
 {
     (y.sec - x.sec) * 1000000000 + y.ns as u64 - x.ns as u64
 }
@@ -72,15 +71,15 @@ fn walk_into(
     requires { ⌜ ScheduleFits (now book) (now pack) s × InRange t × (room s ≤ length (now on)) × (room s ≤ length (now off)) × (room s ≤ length (now out)) ⌝ }
     ensures { λ r. ⌜ (foundIs r ≡ period (wayOf back) (scheduleIs (now (book .entry)) (now (pack .entry)) s) (nanos t)) × FoundFits (wayOf back) (nanos t) r ⌝ }
 {
-    let zero = Span { sec: 0, ns: 0 };
+    let zero = Length { sec: 0, ns: 0 };
     let end = walk_distance::reach(t, back);
     let most = s.limit;
-    let limit = Span { sec: most, ns: 0 };
+    let limit = Length { sec: most, ns: 0 };
     let mut x = zero;
     let mut some = false;
     let mut f = zero;
     let mut e = zero;
-    while walk_step::less(x, end) {
+    while instant::precedes(x, end) {
         let y = walk_distance::week_on(x, end);
         let at = walk_distance::place(t, back, x, y);
         let n = window_week::working_into(book, pack, s, at.lo, at.hi, on, off, out);
@@ -88,7 +87,7 @@ fn walk_into(
         let known = walk_period_week::period_in_window(out, n, back, w, x, limit, some, f, e);
         match known {
             SoFar::Nothing => {
-                if walk_step::less(limit, y) {
+                if instant::precedes(limit, y) {
                     return Found::NoWork;
                 }
                 x = y;

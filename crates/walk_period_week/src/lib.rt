@@ -1,5 +1,6 @@
 // A period's search through the blocks of one window, which are pairs of numbers in lent memory: going on from an instant or back from it. Inside the
 // window the numbers are nanoseconds from its nearer border; what is known of a period is lengths of time from the instant.
+ghost use Rattle.instant.specs.Instant.{nanos};
 ghost use mathlib.Core.Path.{_≡_};
 ghost use Prim.Native.Nat.{ℕ, _+_, _*_, _-_, _≤_, _<_};
 ghost use lib.Dec.{ltb, eqb};
@@ -11,18 +12,17 @@ ghost use Rattle.model.specs.Blocks.{block};
 ghost use Rattle.model.specs.Walk as model;
 ghost use Rattle.laws_blocks.specs.Move.{moves};
 ghost use Rattle.block_pairs.specs.Pairs.{pairs};
-ghost use Rattle.block.specs.Counted.{size};
-ghost use Rattle.walk_step.specs.Spending.{wayOf};
+ghost use Rattle.walk_distance.specs.Distances.{wayOf};
 ghost use Rattle.walk_distance.specs.Distances.{Short, seen};
-ghost use Rattle.walk_period_week.specs.SoFars.{soFar, soFarIs, Exact, rest, tailIs};
-use block::Span;
+ghost use Rattle.walk_period_week.specs.SoFars.{soFar, soFarIs, ExactSoFar, rest, tailIs};
+use instant::Length;
 
 // What is known after a window: nothing so far, a period that may go on, one that has ended, or a first block that is too far off. A period is the
 // distances of its nearer and its further border.
 pub enum SoFar {
     Nothing,
-    Growing(Span, Span),
-    Ended(Span, Span),
+    Growing(Length, Length),
+    Ended(Length, Length),
     TooFar,
 }
 
@@ -39,9 +39,9 @@ enum Tail {
 }
 
 // Two lengths are the same.
-fn same(a: Span, b: Span) -> bool
+fn same(a: Length, b: Length) -> bool
     requires { ⌜ (a .ns < 1000000000) × (b .ns < 1000000000) ⌝ }
-    ensures { λ r. ⌜ r ≡ eqb (size a) (size b) ⌝ }
+    ensures { λ r. ⌜ r ≡ eqb (nanos a) (nanos b) ⌝ }
 {
     if a.ns == b.ns {
         return a.sec == b.sec;
@@ -51,35 +51,25 @@ fn same(a: Span, b: Span) -> bool
 
 // A block that begins at `from` ends the search: it does not touch the period that ends at `end`, or, where there is no period yet, it is further
 // than the limit.
-fn stops(some: bool, limit: Span, end: Span, from: Span) -> bool
+fn stops(some: bool, limit: Length, end: Length, from: Length) -> bool
     requires { ⌜ (end .ns < 1000000000) × (from .ns < 1000000000) ⌝ }
-    ensures { λ r. ⌜ r ≡ (if some then not (eqb (size from) (size end)) else ltb (size limit) (size from)) ⌝ }
+    ensures { λ r. ⌜ r ≡ (if some then not (eqb (nanos from) (nanos end)) else ltb (nanos limit) (nanos from)) ⌝ }
 {
     if some {
         return !same(from, end);
     }
-    walk_step::less(limit, from)
+    instant::precedes(limit, from)
 }
 
 // The nearer border of the period with a block that begins at `from`.
-fn start_of(some: bool, start: Span, from: Span) -> Span
+fn start_of(some: bool, start: Length, from: Length) -> Length
     requires { ⌜ (start .ns < 1000000000) × (from .ns < 1000000000) ⌝ }
-    ensures { λ r. ⌜ (size r ≡ (if some then size start else size from)) × (r .ns < 1000000000) ⌝ }
+    ensures { λ r. ⌜ (nanos r ≡ (if some then nanos start else nanos from)) × (r .ns < 1000000000) ⌝ }
 {
     if some {
         return start;
     }
     from
-}
-
-// What a has more than b.
-fn minus(a: u64, b: u64) -> u64
-    ensures { λ r. ⌜ r ≡ a - b ⌝ }
-{
-    if a < b {
-        return 0;
-    }
-    a - b
 }
 
 // The i-th nearest of the first n blocks, in a window that is w long.
@@ -89,8 +79,8 @@ fn nearest(l: &[u64], n: usize, back: bool, w: u64, i: usize) -> Borders
 {
     if back {
         let k = n - i;
-        let from = minus(w, l[2 * k - 1]);
-        let to = minus(w, l[2 * k - 2]);
+        let from = number::difference(w, l[2 * k - 1]);
+        let to = number::difference(w, l[2 * k - 2]);
         return Borders { from, to };
     }
     let from = l[2 * i];
@@ -117,15 +107,15 @@ fn joined(l: &[u64], n: usize, back: bool, w: u64, end: u64) -> Tail
 }
 
 // The length that is x and d nanoseconds more.
-fn further(x: Span, d: u64) -> Span
+fn further(x: Length, d: u64) -> Length
     requires { ⌜ Short x ⌝ }
-    ensures { λ r. ⌜ (size r ≡ d + size x) × (r .ns < 1000000000) ⌝ }
+    ensures { λ r. ⌜ (nanos r ≡ d + nanos x) × (r .ns < 1000000000) ⌝ }
 {
-    let y = Span {
+    let y = Length {
         sec: d / 1000000000,
         ns: (d % 1000000000) as u32,
     };
-    block::added(x, y)
+    instant::sum(x, y)
 }
 
 // Goes on through the first n blocks of a window that is w long and begins at the distance x, from the period between two distances, if there is one
@@ -135,14 +125,14 @@ pub fn period_in_window(
     n: usize,
     back: bool,
     w: u64,
-    x: Span,
-    limit: Span,
+    x: Length,
+    limit: Length,
     some: bool,
-    f: Span,
-    e: Span,
+    f: Length,
+    e: Length,
 ) -> SoFar
     requires { ⌜ (2 * n ≤ length (now l)) × Short x × (f .ns < 1000000000) × (e .ns < 1000000000) ⌝ }
-    ensures { λ r. ⌜ (soFarIs r ≡ model.periodIn (size limit) (soFar some (size f) (size e)) (moves (size x) (seen (wayOf back) w (pairs n (now (l .entry)))))) × Exact r ⌝ }
+    ensures { λ r. ⌜ (soFarIs r ≡ model.periodIn (nanos limit) (soFar some (nanos f) (nanos e)) (moves (nanos x) (seen (wayOf back) w (pairs n (now (l .entry)))))) × ExactSoFar r ⌝ }
 {
     if n == 0 {
         if some {

@@ -17,21 +17,11 @@ pub enum WeekStep {
     Left(u64, u64),
 }
 
-// What a has more than b.
-fn minus(a: u64, b: u64) -> u64
-    ensures { λ r. ⌜ r ≡ a - b ⌝ }
-{
-    if a < b {
-        return 0;
-    }
-    a - b
-}
-
 // The gap between two distances is longer than the limit.
 fn exceeds(limit: u64, from: u64, to: u64) -> bool
     ensures { λ r. ⌜ r ≡ ltb limit (to - from) ⌝ }
 {
-    limit < minus(to, from)
+    limit < number::difference(to, from)
 }
 
 // Looks for d more of working time in the first n blocks of a window of the length w, on from its start. Work last ended g before that start, and all
@@ -50,7 +40,7 @@ pub fn search_forward(l: &[u64], n: usize, limit: u64, g: u64, w: u64, d: u64) -
         if exceeds(limit, end, from) {
             return WeekStep::Gap;
         }
-        let len = minus(to, from);
+        let len = number::difference(to, from);
         if left <= len {
             return WeekStep::Found(from + left);
         }
@@ -72,13 +62,13 @@ pub fn search_backward(l: &[u64], n: usize, limit: u64, g: u64, w: u64, d: u64) 
     let mut last: u64 = 0;
     let mut i = n;
     while 0 < i {
-        let from = minus(w, l[2 * i - 1]) + g;
-        let to = minus(w, l[2 * i - 2]) + g;
+        let from = number::difference(w, l[2 * i - 1]) + g;
+        let to = number::difference(w, l[2 * i - 2]) + g;
         i -= 1;
         if exceeds(limit, last, from) {
             return WeekStep::Gap;
         }
-        let len = minus(to, from);
+        let len = number::difference(to, from);
         if len >= left {
             return WeekStep::Found(from + left);
         }

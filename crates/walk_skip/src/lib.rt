@@ -17,15 +17,6 @@ use rule::HolidayDates;
 use rule::Rule;
 use rule::Schedule;
 
-fn least(a: u64, b: u64) -> u64
-    ensures { λ r. ⌜ r ≡ min a b ⌝ }
-{
-    if a < b {
-        return a;
-    }
-    b
-}
-
 // The first of the n dates at p from `first` on, 4294967295 if there is none.
 fn next_day(book: &[u8], p: usize, n: usize, first: u32) -> u32
     requires { ⌜ p + 4 * n ≤ length (now book) ⌝ }
@@ -144,7 +135,7 @@ fn holidays_room(
         if m == 0 {
             return 0;
         }
-        room = least(room, m);
+        room = number::minimum(room, m);
     }
     room
 }
@@ -165,7 +156,7 @@ fn rules_room(pack: &[u8], rules: [Rule; 16], n: usize, back: bool, a: Instant, 
         if m == 0 {
             return 0;
         }
-        room = least(room, m);
+        room = number::minimum(room, m);
     }
     room
 }
@@ -216,7 +207,7 @@ fn room(book: &[u8], pack: &[u8], s: Schedule, t: Instant, back: bool) -> u64
     }
     let closed = s.closed;
     let c = holidays_room(book, pack, closed, s.closings, back, a, b);
-    least(least(m, w), least(p, c))
+    number::minimum(number::minimum(m, w), number::minimum(p, c))
 }
 
 // How many borders in a row repeat, t the first of them: the two windows at each hold the same, a week apart. There may be more.

@@ -52,8 +52,8 @@ fn span_into(s: u64, e: u64, lo: u64, hi: u64, out: &mut [u64], w: usize) -> usi
     requires { ⌜ Ready (now out) w 1 ⌝ }
     ensures { λ r. ⌜ Filled lo (now (out .entry)) w (clipped lo hi s e) 1 (now (out .exit)) r ⌝ }
 {
-    let from = block_pairs::greatest(s, lo);
-    let to = block_pairs::least(e, hi);
+    let from = number::maximum(s, lo);
+    let to = number::minimum(e, hi);
     if from < to {
         return block_pairs::add(out, w, from - lo, to - lo);
     }
@@ -259,19 +259,15 @@ fn free_into(
     span_into(k, k + 86400000000000, f.lo, f.hi, out, w)
 }
 
-// A byte as a wider number.
-fn wide(x: u8) -> u64
-    ensures { λ r. ⌜ (r ≡ x) × (r < 256) ⌝ }
-{
-    x as u64
-}
-
 // The rank of what is written at p: its four bytes as one number, in which the years before 0 come first.
 fn rank_at(b: &[u8], p: usize) -> u32
     requires { ⌜ p + 4 ≤ length (now b) ⌝ }
     ensures { λ r. ⌜ (r ≡ rankAt (now (b .entry)) p) × (dayBy r ≡ dayAt (now (b .entry)) p) ⌝ }
 {
-    let n = wide(b[p]) * 16777216 + wide(b[p + 1]) * 65536 + wide(b[p + 2]) * 256 + wide(b[p + 3]);
+    let n = number::byte_to_u64(b[p]) * 16777216
+        + number::byte_to_u64(b[p + 1]) * 65536
+        + number::byte_to_u64(b[p + 2]) * 256
+        + number::byte_to_u64(b[p + 3]);
     ((n + 2147483648) % 4294967296) as u32
 }
 

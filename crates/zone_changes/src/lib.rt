@@ -25,25 +25,6 @@ pub struct OffsetUntil {
     pub until: u64,
 }
 
-// The difference, or 0.
-fn minus(a: u64, b: u64) -> u64
-    ensures { λ r. ⌜ r ≡ a - b ⌝ }
-{
-    if a < b {
-        return 0;
-    }
-    a - b
-}
-
-fn least(a: u64, b: u64) -> u64
-    ensures { λ r. ⌜ r ≡ min a b ⌝ }
-{
-    if a < b {
-        return a;
-    }
-    b
-}
-
 // Mm.w.d: the w-th weekday d of the month, where week 5 is the last.
 fn month_day(year: u32, m: u32, w: u32, d: u32) -> u32
     requires { ⌜ (year ≤ 20801) × (1 ≤ m) × (m ≤ 12) × (1 ≤ w) × (w ≤ 5) × (d ≤ 6) ⌝ }
@@ -92,7 +73,7 @@ pub fn change_in(offset: u32, turn: ChangeRule, year: u32) -> u64
 {
     let day = turn.day;
     let time = turn.time;
-    minus(
+    number::difference(
         day_in(day, year) as u64 * 86400 + time as u64 + 93600,
         offset as u64,
     )
@@ -208,7 +189,7 @@ fn by_all_years(std: u32, dst: u32, start: ChangeRule, end: ChangeRule, u: u64) 
 {
     let a = around(std, start, u);
     let b = around(dst, end, u);
-    let until = least(a.next, b.next);
+    let until = number::minimum(a.next, b.next);
     if b.last <= a.last {
         return OffsetUntil { offset: dst, until };
     }

@@ -18,12 +18,6 @@ pub enum Skip {
     Not,
 }
 
-fn wide(x: u8) -> u32
-    ensures { λ r. ⌜ (r ≡ x) × (r < 256) ⌝ }
-{
-    x as u32
-}
-
 // Whether the byte at the place is b.
 pub fn mark(s: &[u8], at: usize, b: u8) -> Skip
     ensures { λ r. ⌜ markIn (now (s .entry)) at r ≡ grammar.has b (drop at (now (s .entry))) ⌝ }
@@ -66,7 +60,7 @@ fn digits(s: &[u8], at: usize, k: u32) -> Num
         if b > 57 {
             return Num::Val(n, i);
         }
-        n = n * 10 + wide(b - 48);
+        n = n * 10 + number::byte_to_u32(b - 48);
         i += 1;
         left -= 1;
     }

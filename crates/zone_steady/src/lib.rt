@@ -18,15 +18,6 @@ pub struct OffsetSince {
     pub since: u64,
 }
 
-fn greatest(a: u64, b: u64) -> u64
-    ensures { λ r. ⌜ r ≡ max a b ⌝ }
-{
-    if a < b {
-        return b;
-    }
-    a
-}
-
 // The table's k-th transition, 0 if k is 0.
 fn table_since(f: &[u8], table: Layout, k: usize) -> u64
     requires { ⌜ Opened (now f) table × (k ≤ table .count) ⌝ }
@@ -59,7 +50,7 @@ fn footer_behind(footer: Footer, last: u32, u: u64, from: u64) -> OffsetSince
         Footer::Rules(std, dst, start, end) => {
             let a = zone_changes::around(std, start, u);
             let b = zone_changes::around(dst, end, u);
-            let since = greatest(from, greatest(a.last, b.last));
+            let since = number::maximum(from, number::maximum(a.last, b.last));
             if b.last <= a.last {
                 return OffsetSince { offset: dst, since };
             }

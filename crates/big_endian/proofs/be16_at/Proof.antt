@@ -12,8 +12,8 @@ returns c = (search be16-past, omega arith)
 byte-at-requires : tie.Need-byte-at-requires
 byte-at-requires c κs = search needs
 
-wide-requires : tie.Need-wide-requires
-wide-requires c κs = search needs
+byte-to-u32-requires : tie.Need-byte-to-u32-requires
+byte-to-u32-requires c κs = search needs
 
 mul-result : tie.Need-mul-result
 mul-result c = search needs
@@ -24,8 +24,8 @@ add-byte-at c = search needs
 byte-at-requires-2 : tie.Need-byte-at-requires-2
 byte-at-requires-2 c κs = search needs
 
-wide-requires-2 : tie.Need-wide-requires-2
-wide-requires-2 c κs = search needs
+byte-to-u32-requires-2 : tie.Need-byte-to-u32-requires-2
+byte-to-u32-requires-2 c κs = search needs
 
 add-result : tie.Need-add-result
 add-result c = search needs
@@ -40,10 +40,10 @@ be16-at-spec =
     (tie.spec
     returns
     byte-at-requires
-    wide-requires
+    byte-to-u32-requires
     mul-result
     add-byte-at
     byte-at-requires-2
-    wide-requires-2
+    byte-to-u32-requires-2
     add-result
     returns-2)

@@ -20,8 +20,8 @@ returns-2 c = search needs
 byte-at-requires : tie.Need-byte-at-requires
 byte-at-requires c κs = search needs
 
-wide-requires : tie.Need-wide-requires
-wide-requires c κs = search needs
+byte-to-u32-requires : tie.Need-byte-to-u32-requires
+byte-to-u32-requires c κs = search needs
 
 mul-result : tie.Need-mul-result
 mul-result c = search needs
@@ -32,8 +32,8 @@ add-byte-at c = search needs
 byte-at-requires-2 : tie.Need-byte-at-requires-2
 byte-at-requires-2 c κs = search needs
 
-wide-requires-2 : tie.Need-wide-requires-2
-wide-requires-2 c κs = search needs
+byte-to-u32-requires-2 : tie.Need-byte-to-u32-requires-2
+byte-to-u32-requires-2 c κs = search needs
 
 add-result : tie.Need-add-result
 add-result c = search needs
@@ -47,8 +47,8 @@ add-byte-at-2 c = search needs
 byte-at-requires-3 : tie.Need-byte-at-requires-3
 byte-at-requires-3 c κs = search needs
 
-wide-requires-3 : tie.Need-wide-requires-3
-wide-requires-3 c κs = search needs
+byte-to-u32-requires-3 : tie.Need-byte-to-u32-requires-3
+byte-to-u32-requires-3 c κs = search needs
 
 add-result-2 : tie.Need-add-result-2
 add-result-2 c = search needs
@@ -62,8 +62,8 @@ add-byte-at-3 c = search needs
 byte-at-requires-4 : tie.Need-byte-at-requires-4
 byte-at-requires-4 c κs = search needs
 
-wide-requires-4 : tie.Need-wide-requires-4
-wide-requires-4 c κs = search needs
+byte-to-u32-requires-4 : tie.Need-byte-to-u32-requires-4
+byte-to-u32-requires-4 c κs = search needs
 
 add-result-3 : tie.Need-add-result-3
 add-result-3 c = search needs
@@ -81,20 +81,20 @@ be32-at-spec =
     four-at-requires
     returns-2
     byte-at-requires
-    wide-requires
+    byte-to-u32-requires
     mul-result
     add-byte-at
     byte-at-requires-2
-    wide-requires-2
+    byte-to-u32-requires-2
     add-result
     mul-result-2
     add-byte-at-2
     byte-at-requires-3
-    wide-requires-3
+    byte-to-u32-requires-3
     add-result-2
     mul-result-3
     add-byte-at-3
     byte-at-requires-4
-    wide-requires-4
+    byte-to-u32-requires-4
     add-result-3
     returns-3)

@@ -20,8 +20,8 @@ returns-2 c = search needs
 be32-at-requires : tie.Need-be32-at-requires
 be32-at-requires c κs = search needs
 
-wide64-requires : tie.Need-wide64-requires
-wide64-requires c κs = search needs
+u32-to-u64-requires : tie.Need-u32-to-u64-requires
+u32-to-u64-requires c κs = search needs
 
 mul-result : tie.Need-mul-result
 mul-result c = search needs
@@ -32,8 +32,8 @@ add-be32-at c = search needs
 be32-at-requires-2 : tie.Need-be32-at-requires-2
 be32-at-requires-2 c κs = search needs
 
-wide64-requires-2 : tie.Need-wide64-requires-2
-wide64-requires-2 c κs = search needs
+u32-to-u64-requires-2 : tie.Need-u32-to-u64-requires-2
+u32-to-u64-requires-2 c κs = search needs
 
 add-result : tie.Need-add-result
 add-result c = search needs
@@ -51,10 +51,10 @@ be64-at-spec =
     eight-at-requires
     returns-2
     be32-at-requires
-    wide64-requires
+    u32-to-u64-requires
     mul-result
     add-be32-at
     be32-at-requires-2
-    wide64-requires-2
+    u32-to-u64-requires-2
     add-result
     returns-3)

@@ -7,8 +7,8 @@ use Rattle.big_endian.proofs.eight_at.Tie as tie
 four-at-requires : tie.Need-four-at-requires
 four-at-requires c κs = search needs
 
-wide64-requires : tie.Need-wide64-requires
-wide64-requires c κs = search needs
+u32-to-u64-requires : tie.Need-u32-to-u64-requires
+u32-to-u64-requires c κs = search needs
 
 mul-result : tie.Need-mul-result
 mul-result c = search needs
@@ -19,8 +19,8 @@ add-four-at c = search needs
 four-at-requires-2 : tie.Need-four-at-requires-2
 four-at-requires-2 c κs = search needs
 
-wide64-requires-2 : tie.Need-wide64-requires-2
-wide64-requires-2 c κs = search needs
+u32-to-u64-requires-2 : tie.Need-u32-to-u64-requires-2
+u32-to-u64-requires-2 c κs = search needs
 
 add-result : tie.Need-add-result
 add-result c = search needs
@@ -34,10 +34,10 @@ eight-at-spec =
     tie.close
     (tie.spec
     four-at-requires
-    wide64-requires
+    u32-to-u64-requires
     mul-result
     add-four-at
     four-at-requires-2
-    wide64-requires-2
+    u32-to-u64-requires-2
     add-result
     returns)

@@ -8,32 +8,32 @@ use borrow.Author.Needs.{needs}
 use Rattle.block_pairs.proofs.absorb.Statement.{statement}
 use Rattle.block_pairs.proofs.absorb.Tie as tie
 
-mul-least : tie.Need-mul-least
-mul-least c = search needs
+mul-minimum : tie.Need-mul-minimum
+mul-minimum c = search needs
 
-mul-least-2 : tie.Need-mul-least-2
-mul-least-2 c = search needs
+mul-minimum-2 : tie.Need-mul-minimum-2
+mul-minimum-2 c = search needs
 
-slice-read-least : tie.Need-slice-read-least
-slice-read-least c = search needs
+slice-read-minimum : tie.Need-slice-read-minimum
+slice-read-minimum c = search needs
 
-least-requires : tie.Need-least-requires
-least-requires c κs = search needs
+minimum-requires : tie.Need-minimum-requires
+minimum-requires c κs = search needs
 
-mul-greatest : tie.Need-mul-greatest
-mul-greatest c = search needs
+mul-maximum : tie.Need-mul-maximum
+mul-maximum c = search needs
 
-sub-greatest : tie.Need-sub-greatest
-sub-greatest c = search needs
+sub-maximum : tie.Need-sub-maximum
+sub-maximum c = search needs
 
-mul-greatest-2 : tie.Need-mul-greatest-2
-mul-greatest-2 c = search needs
+mul-maximum-2 : tie.Need-mul-maximum-2
+mul-maximum-2 c = search needs
 
-slice-read-greatest : tie.Need-slice-read-greatest
-slice-read-greatest c = search needs
+slice-read-maximum : tie.Need-slice-read-maximum
+slice-read-maximum c = search needs
 
-greatest-requires : tie.Need-greatest-requires
-greatest-requires c κs = search needs
+maximum-requires : tie.Need-maximum-requires
+maximum-requires c κs = search needs
 
 mul-lower : tie.Need-mul-lower
 mul-lower c = search needs
@@ -84,21 +84,21 @@ same-length : tie.Need-same-length
 same-length c = search needs
 
 returns : tie.Need-returns
-returns c = (absorbed _ _ _ _ _ _ _ _ _ (c .before .before .before .before .before .before .least .ensures) (c .before .before .before .before .greatest .ensures) (c .before .before .before .before .before .before .before .before .before .pre .0) (c .before .before .before .before .before .before .before .before .before .pre .1) (c .before .before .before .before .before .before .before .before .before .pre .2) (c .before .before .lower .ensures), omega arith, simp length-set (c .before .before .lower .ensures .long))
+returns c = (absorbed _ _ _ _ _ _ _ _ _ (c .before .before .before .before .before .before .minimum .ensures) (c .before .before .before .before .maximum .ensures) (c .before .before .before .before .before .before .before .before .before .pre .0) (c .before .before .before .before .before .before .before .before .before .pre .1) (c .before .before .before .before .before .before .before .before .before .pre .2) (c .before .before .lower .ensures), omega arith, simp length-set (c .before .before .lower .ensures .long))
 
 pub absorb-spec : {M : Type 1} → statement M
 absorb-spec =
     tie.close
     (tie.spec
-    mul-least
-    mul-least-2
-    slice-read-least
-    least-requires
-    mul-greatest
-    sub-greatest
-    mul-greatest-2
-    slice-read-greatest
-    greatest-requires
+    mul-minimum
+    mul-minimum-2
+    slice-read-minimum
+    minimum-requires
+    mul-maximum
+    sub-maximum
+    mul-maximum-2
+    slice-read-maximum
+    maximum-requires
     mul-lower
     add-lower
     mul-lower-2

@@ -5,7 +5,7 @@ use borrow.Author.Needs.{needs}
 use Rattle.schedule.proofs.Replies.{search-within, reach-most, counts-at, search-refused, search-found}
 use Rattle.walk.specs.Walks.{reachedIs}
 use Rattle.instant.specs.Instant.{nanos}
-use Rattle.walk_step.specs.Spending.{wayOf}
+use Rattle.walk_distance.specs.Distances.{wayOf}
 use Rattle.schedule.proofs.search.Statement.{statement}
 use Rattle.schedule.proofs.search.Tie as tie
 

@@ -1,8 +1,8 @@
 -- `walk::further` meets its contract: by its three answers. Assumes nothing.
+use Rattle.instant.specs.Instant.{nanos}
 use mathlib.Core.Path.{sym, _∙_}
 use native.Mathlib.Omega.{arith}
-use Rattle.block.specs.Counted.{size}
-use Rattle.walk_step.specs.Spending.{exact-found, exact-gap, exact-left}
+use Rattle.walk.specs.Step.{exact-found, exact-gap, exact-left}
 use Rattle.walk.proofs.Sights.{further-found, further-gap, further-rest, further-left}
 use borrow.Author.Needs.{needs}
 use Rattle.walk.proofs.further.Statement.{statement}
@@ -14,8 +14,8 @@ enum-known-r c = search needs
 spanned-requires : tie.Need-spanned-requires
 spanned-requires c κs = search needs
 
-added-requires : tie.Need-added-requires
-added-requires c κs = search needs
+sum-requires : tie.Need-sum-requires
+sum-requires c κs = search needs
 
 enum-told : tie.Need-enum-told
 enum-told c = search needs
@@ -29,23 +29,23 @@ sub-spanned c = further-rest ((c .before .r2 .given .1)) ((c .before .before .be
 spanned-requires-2 : tie.Need-spanned-requires-2
 spanned-requires-2 c κs = search needs
 
-minus-requires : tie.Need-minus-requires
-minus-requires c κs = search needs
+difference-requires : tie.Need-difference-requires
+difference-requires c κs = search needs
 
 spanned-requires-3 : tie.Need-spanned-requires-3
 spanned-requires-3 c κs = search needs
 
-added-requires-2 : tie.Need-added-requires-2
-added-requires-2 c κs = search needs
+sum-requires-2 : tie.Need-sum-requires-2
+sum-requires-2 c κs = search needs
 
 returns : tie.Need-returns
-returns c = let e = ((c .added .ensures .0)) in let f = ((c .before .spanned .ensures .0)) in (further-found _ _ ((c .before .before .before .r .given .1)) (omega arith), exact-found ((c .added .ensures .1)))
+returns c = let e = ((c .sum .ensures .0)) in let f = ((c .before .spanned .ensures .0)) in (further-found _ _ ((c .before .before .before .r .given .1)) (omega arith), exact-found ((c .sum .ensures .1)))
 
 returns-2 : tie.Need-returns-2
 returns-2 c = (further-gap _ _ ((c .enum-told .given .1)), exact-gap)
 
 returns-3 : tie.Need-returns-3
-returns-3 c = let e = ((c .added2 .ensures .0)) in let f = ((c .before .spanned3 .ensures .0)) in let g = ((c .before .before .minus .ensures .0)) in let h = ((c .before .before .before .spanned2 .ensures .0)) in (further-left _ _ _ ((c .before .before .before .before .before .r2 .given .1)) ((c .before .before .before .before .before .before .before .pre .4)) ((c .before .before .before .before .before .before .before .pre .3)) (omega arith) (omega arith), exact-left ((c .before .before .minus .ensures .1)) ((c .added2 .ensures .1)))
+returns-3 c = let e = ((c .sum2 .ensures .0)) in let f = ((c .before .spanned3 .ensures .0)) in let g = ((c .before .before .difference .ensures .0)) in let h = ((c .before .before .before .spanned2 .ensures .0)) in (further-left _ _ _ ((c .before .before .before .before .before .r2 .given .1)) ((c .before .before .before .before .before .before .before .pre .4)) ((c .before .before .before .before .before .before .before .pre .3)) (omega arith) (omega arith), exact-left ((c .before .before .difference .ensures .1)) ((c .sum2 .ensures .1)))
 
 pub further-spec : {M : Type 1} → statement M
 further-spec =
@@ -53,14 +53,14 @@ further-spec =
     (tie.spec
     enum-known-r
     spanned-requires
-    added-requires
+    sum-requires
     enum-told
     enum-known-r-2
     sub-spanned
     spanned-requires-2
-    minus-requires
+    difference-requires
     spanned-requires-3
-    added-requires-2
+    sum-requires-2
     returns
     returns-2
     returns-3)

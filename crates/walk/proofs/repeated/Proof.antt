@@ -17,12 +17,12 @@ returns-2 c = reused-part _ _ _ ((c .before .before .before .before .before .pre
 borders-requires : tie.Need-borders-requires
 borders-requires c κs = search needs
 
-least-requires : tie.Need-least-requires
-least-requires c κs = search needs
+minimum-requires : tie.Need-minimum-requires
+minimum-requires c κs = search needs
 
 returns-3 : tie.Need-returns-3
-returns-3 c = reused-run _ _ _ ((c .before .before .before .before .before .before .before .pre .1 .order)) ((c .before .before .before .weeks .ensures)) (not-false _ ((c .before .before .before .before .if1 .left))) ((c .before .before .if2 .left)) ((c .before .borders .ensures .none)) ((c .before .borders .ensures .each)) ((c .least .ensures))
+returns-3 c = reused-run _ _ _ ((c .before .before .before .before .before .before .before .pre .1 .order)) ((c .before .before .before .weeks .ensures)) (not-false _ ((c .before .before .before .before .if1 .left))) ((c .before .before .if2 .left)) ((c .before .borders .ensures .none)) ((c .before .borders .ensures .each)) ((c .minimum .ensures))
 
 pub repeated-spec : {M : Type 1} → statement M
 repeated-spec =
-    tie.close (tie.spec returns weeks-requires returns-2 borders-requires least-requires returns-3)
+    tie.close (tie.spec returns weeks-requires returns-2 borders-requires minimum-requires returns-3)

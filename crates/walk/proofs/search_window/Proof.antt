@@ -1,25 +1,25 @@
 -- `walk::search_window` meets its contract: the blocks of the window, and the search through them. Assumes nothing.
+use Rattle.instant.specs.Instant.{nanos}
 use mathlib.Core.Path.{sym, _∙_}
 use Prim.Native.Nat.{_-_}
 use native.Mathlib.Omega.{arith}
-use Rattle.block.specs.Counted.{size}
 use Rattle.walk_search_week.proofs.Moved.{taken-rest}
 use Rattle.walk.proofs.Sights.{inside-full, inside-ends, sight-on, sight-back}
 use borrow.Author.Needs.{needs}
 use Rattle.walk.proofs.search_window.Statement.{statement}
 use Rattle.walk.proofs.search_window.Tie as tie
 
-minus-requires : tie.Need-minus-requires
-minus-requires c κs = omega (arith, ((c .before .before .before .before .before .pre .2 .start .sec)), ((c .before .before .before .before .before .pre .2 .start .ns)))
+difference-requires : tie.Need-difference-requires
+difference-requires c κs = omega (arith, ((c .before .before .before .before .before .pre .2 .start .sec)), ((c .before .before .before .before .before .pre .2 .start .ns)))
 
 nanoseconds-requires : tie.Need-nanoseconds-requires
-nanoseconds-requires c κs = omega (arith, ((c .minus .ensures .0)), ((c .before .before .before .before .before .before .pre .7)), ((c .before .before .before .before .before .before .pre .0 .limit)))
+nanoseconds-requires c κs = omega (arith, ((c .difference .ensures .0)), ((c .before .before .before .before .before .before .pre .7)), ((c .before .before .before .before .before .before .pre .0 .limit)))
 
-minus-requires-2 : tie.Need-minus-requires-2
-minus-requires-2 c κs = omega (arith, ((c .before .before .before .before .before .before .before .pre .2 .end .sec)), ((c .before .before .before .before .before .before .before .pre .2 .end .ns)))
+difference-requires-2 : tie.Need-difference-requires-2
+difference-requires-2 c κs = omega (arith, ((c .before .before .before .before .before .before .before .pre .2 .end .sec)), ((c .before .before .before .before .before .before .before .pre .2 .end .ns)))
 
 nanoseconds-requires-2 : tie.Need-nanoseconds-requires-2
-nanoseconds-requires-2 c κs = omega (arith, ((c .minus2 .ensures .0)), ((c .before .before .before .before .before .before .before .before .pre .2 .short)))
+nanoseconds-requires-2 c κs = omega (arith, ((c .difference2 .ensures .0)), ((c .before .before .before .before .before .before .before .before .pre .2 .short)))
 
 wanted-requires : tie.Need-wanted-requires
 wanted-requires c κs = ((c .before .before .before .before .before .before .before .before .before .pre .5))
@@ -31,7 +31,7 @@ window-into-requires : tie.Need-window-into-requires
 window-into-requires c κs = (((c .before .before .before .before .before .before .before .before .before .before .before .before .before .before .pre .0)), ((c .before .before .before .before .before .before .before .before .before .before .before .before .before .before .pre .1)), ((c .before .before .before .before .before .before .before .before .before .before .before .before .before .before .pre .2)), ((c .before .before .before .before .before .before .before .before .before .before .before .before .before .before .pre .8)), ((c .before .before .before .before .before .before .before .before .before .before .before .before .before .before .pre .9)), ((c .before .before .before .before .before .before .before .before .before .before .before .before .before .before .pre .10)))
 
 search-backward-requires : tie.Need-search-backward-requires
-search-backward-requires c κs = (omega (arith, ((c .before .before .before .before .before .before .before .before .window-into .ensures .2)), ((c .before .before .before .before .before .before .before .before .window-into .ensures .3)), ((c .before .before .before .before .before .before .before .before .before .before .before .before .before .before .before .before .before .before .before .before .before .before .before .pre .10))), (let g = (((c .before .before .before .before .before .before .before .before .before .before .before .before .before .before .before .before .nanoseconds .ensures)) ∙ ((c .before .before .before .before .before .before .before .before .before .before .before .before .before .before .before .before .before .minus .ensures .0))) in let w = (((c .before .before .before .before .before .before .before .before .before .before .before .before .before .before .nanoseconds2 .ensures)) ∙ ((c .before .before .before .before .before .before .before .before .before .before .before .before .before .before .before .minus2 .ensures .0))) in let h = ((c .before .before .before .before .before .before .before .before .before .before .before .before .before .before .before .before .before .before .before .before .before .before .before .pre .2 .short)) in let k = ((c .before .before .before .before .before .before .before .before .before .before .before .before .before .before .before .before .before .before .before .before .before .before .before .pre .7)) in let l = ((c .before .before .before .before .before .before .before .before .before .before .before .before .before .before .before .before .before .before .before .before .before .before .before .pre .0 .limit)) in omega (arith, g, w, h, k, l)))
+search-backward-requires c κs = (omega (arith, ((c .before .before .before .before .before .before .before .before .window-into .ensures .2)), ((c .before .before .before .before .before .before .before .before .window-into .ensures .3)), ((c .before .before .before .before .before .before .before .before .before .before .before .before .before .before .before .before .before .before .before .before .before .before .before .pre .10))), (let g = (((c .before .before .before .before .before .before .before .before .before .before .before .before .before .before .before .before .nanoseconds .ensures)) ∙ ((c .before .before .before .before .before .before .before .before .before .before .before .before .before .before .before .before .before .difference .ensures .0))) in let w = (((c .before .before .before .before .before .before .before .before .before .before .before .before .before .before .nanoseconds2 .ensures)) ∙ ((c .before .before .before .before .before .before .before .before .before .before .before .before .before .before .before .difference2 .ensures .0))) in let h = ((c .before .before .before .before .before .before .before .before .before .before .before .before .before .before .before .before .before .before .before .before .before .before .before .pre .2 .short)) in let k = ((c .before .before .before .before .before .before .before .before .before .before .before .before .before .before .before .before .before .before .before .before .before .before .before .pre .7)) in let l = ((c .before .before .before .before .before .before .before .before .before .before .before .before .before .before .before .before .before .before .before .before .before .before .before .pre .0 .limit)) in omega (arith, g, w, h, k, l)))
 
 further-requires : tie.Need-further-requires
 further-requires c κs = (record { sec = (let i = ((c .before .before .before .before .before .before .before .before .before .before .before .before .before .before .before .before .before .before .before .before .before .before .before .before .pre .6)) in let j = ((c .before .before .before .before .before .before .before .before .before .before .before .before .before .before .before .before .before .before .before .before .before .before .before .before .pre .2 .start .sec)) in let k = ((c .before .before .before .before .before .before .before .before .before .before .before .before .before .before .before .before .before .before .before .before .before .before .before .before .pre .2 .start .ns)) in omega arith); ns = ((c .before .before .before .before .before .before .before .before .before .before .before .before .before .before .before .before .before .before .before .before .before .before .before .before .pre .3)) }, ((c .before .before .before .before .before .before .before .before .before .before .before .before .before .before .before .before .before .before .before .before .before .before .before .before .pre .4)), ((c .before .before .before .before .before .before .before .before .before .before .before .before .before .before .before .before .before .before .before .before .before .before .before .before .pre .5)), (let e = ((c .before .before .before .before .before .before .before .before .before .before .before .before .before .before .wanted .ensures)) in omega arith), taken-rest _ _ _ _ _ ((c .search-backward .result)) ((c .search-backward .ensures)))
@@ -46,10 +46,10 @@ same-length-3 : tie.Need-same-length-3
 same-length-3 c = search needs
 
 returns : tie.Need-returns
-returns c = (rw ((c .before .before .before .if1 .taken)) (((c .further .ensures .0)) ∙ sight-back _ _ _ _ _ _ _ _ _ _ ((c .before .before .before .before .before .before .before .before .before .before .before .before .before .before .before .before .before .before .before .before .before .before .before .before .before .pre .2 .order)) ((c .before .before .before .before .before .before .before .before .before .before .before .before .before .before .before .before .before .before .before .before .before .before .before .before .before .pre .2 .short)) ((c .before .before .before .before .before .before .before .before .before .before .before .before .before .before .before .before .before .before .before .before .before .before .before .before .before .pre .6)) (((c .before .before .before .before .before .before .before .before .before .before .before .before .before .before .before .before .before .before .nanoseconds .ensures)) ∙ ((c .before .before .before .before .before .before .before .before .before .before .before .before .before .before .before .before .before .before .before .minus .ensures .0))) (((c .before .before .before .before .before .before .before .before .before .before .before .before .before .before .before .before .nanoseconds2 .ensures)) ∙ ((c .before .before .before .before .before .before .before .before .before .before .before .before .before .before .before .before .before .minus2 .ensures .0))) ((c .before .before .before .before .before .before .before .before .before .before .before .before .before .before .before .wanted .ensures)) _ _ (rw ((c .before .before .before .if1 .taken)) at ((c .before .before .before .before .before .before .before .before .before .before .before .before .before .before .before .before .before .before .before .before .before .before .before .before .before .pre .2 .near))) (rw ((c .before .before .before .if1 .taken)) at ((c .before .before .before .before .before .before .before .before .before .before .window-into .ensures .0))) ((c .before .search-backward .ensures))), ((c .further .ensures .1)))
+returns c = (rw ((c .before .before .before .if1 .taken)) (((c .further .ensures .0)) ∙ sight-back _ _ _ _ _ _ _ _ _ _ ((c .before .before .before .before .before .before .before .before .before .before .before .before .before .before .before .before .before .before .before .before .before .before .before .before .before .pre .2 .order)) ((c .before .before .before .before .before .before .before .before .before .before .before .before .before .before .before .before .before .before .before .before .before .before .before .before .before .pre .2 .short)) ((c .before .before .before .before .before .before .before .before .before .before .before .before .before .before .before .before .before .before .before .before .before .before .before .before .before .pre .6)) (((c .before .before .before .before .before .before .before .before .before .before .before .before .before .before .before .before .before .before .nanoseconds .ensures)) ∙ ((c .before .before .before .before .before .before .before .before .before .before .before .before .before .before .before .before .before .before .before .difference .ensures .0))) (((c .before .before .before .before .before .before .before .before .before .before .before .before .before .before .before .before .nanoseconds2 .ensures)) ∙ ((c .before .before .before .before .before .before .before .before .before .before .before .before .before .before .before .before .before .difference2 .ensures .0))) ((c .before .before .before .before .before .before .before .before .before .before .before .before .before .before .before .wanted .ensures)) _ _ (rw ((c .before .before .before .if1 .taken)) at ((c .before .before .before .before .before .before .before .before .before .before .before .before .before .before .before .before .before .before .before .before .before .before .before .before .before .pre .2 .near))) (rw ((c .before .before .before .if1 .taken)) at ((c .before .before .before .before .before .before .before .before .before .before .window-into .ensures .0))) ((c .before .search-backward .ensures))), ((c .further .ensures .1)))
 
 search-forward-requires : tie.Need-search-forward-requires
-search-forward-requires c κs = (omega (arith, ((c .before .before .before .before .before .before .before .before .window-into .ensures .2)), ((c .before .before .before .before .before .before .before .before .window-into .ensures .3)), ((c .before .before .before .before .before .before .before .before .before .before .before .before .before .before .before .before .before .before .before .before .before .before .before .pre .10))), inside-full (size ((c .before .before .before .before .before .before .before .before .before .before .before .before .before .before .before .before .before .before .before .before .before .before .before .args .y)) - size ((c .before .before .before .before .before .before .before .before .before .before .before .before .before .before .before .before .before .before .before .before .before .before .before .args .x))) _ _ ((c .before .before .before .before .before .before .before .before .window-into .ensures .1)), inside-ends _ (size ((c .before .before .before .before .before .before .before .before .before .before .before .before .before .before .before .before .before .before .before .before .before .before .before .args .y)) - size ((c .before .before .before .before .before .before .before .before .before .before .before .before .before .before .before .before .before .before .before .before .before .before .before .args .x))) _ _ (((c .before .before .before .before .before .before .before .before .before .before .before .before .before .before .nanoseconds2 .ensures)) ∙ ((c .before .before .before .before .before .before .before .before .before .before .before .before .before .before .before .minus2 .ensures .0))) ((c .before .before .before .before .before .before .before .before .window-into .ensures .1)), (let g = (((c .before .before .before .before .before .before .before .before .before .before .before .before .before .before .before .before .nanoseconds .ensures)) ∙ ((c .before .before .before .before .before .before .before .before .before .before .before .before .before .before .before .before .before .minus .ensures .0))) in let w = (((c .before .before .before .before .before .before .before .before .before .before .before .before .before .before .nanoseconds2 .ensures)) ∙ ((c .before .before .before .before .before .before .before .before .before .before .before .before .before .before .before .minus2 .ensures .0))) in let h = ((c .before .before .before .before .before .before .before .before .before .before .before .before .before .before .before .before .before .before .before .before .before .before .before .pre .2 .short)) in let k = ((c .before .before .before .before .before .before .before .before .before .before .before .before .before .before .before .before .before .before .before .before .before .before .before .pre .7)) in let l = ((c .before .before .before .before .before .before .before .before .before .before .before .before .before .before .before .before .before .before .before .before .before .before .before .pre .0 .limit)) in omega (arith, g, w, h, k, l)))
+search-forward-requires c κs = (omega (arith, ((c .before .before .before .before .before .before .before .before .window-into .ensures .2)), ((c .before .before .before .before .before .before .before .before .window-into .ensures .3)), ((c .before .before .before .before .before .before .before .before .before .before .before .before .before .before .before .before .before .before .before .before .before .before .before .pre .10))), inside-full (nanos ((c .before .before .before .before .before .before .before .before .before .before .before .before .before .before .before .before .before .before .before .before .before .before .before .args .y)) - nanos ((c .before .before .before .before .before .before .before .before .before .before .before .before .before .before .before .before .before .before .before .before .before .before .before .args .x))) _ _ ((c .before .before .before .before .before .before .before .before .window-into .ensures .1)), inside-ends _ (nanos ((c .before .before .before .before .before .before .before .before .before .before .before .before .before .before .before .before .before .before .before .before .before .before .before .args .y)) - nanos ((c .before .before .before .before .before .before .before .before .before .before .before .before .before .before .before .before .before .before .before .before .before .before .before .args .x))) _ _ (((c .before .before .before .before .before .before .before .before .before .before .before .before .before .before .nanoseconds2 .ensures)) ∙ ((c .before .before .before .before .before .before .before .before .before .before .before .before .before .before .before .difference2 .ensures .0))) ((c .before .before .before .before .before .before .before .before .window-into .ensures .1)), (let g = (((c .before .before .before .before .before .before .before .before .before .before .before .before .before .before .before .before .nanoseconds .ensures)) ∙ ((c .before .before .before .before .before .before .before .before .before .before .before .before .before .before .before .before .before .difference .ensures .0))) in let w = (((c .before .before .before .before .before .before .before .before .before .before .before .before .before .before .nanoseconds2 .ensures)) ∙ ((c .before .before .before .before .before .before .before .before .before .before .before .before .before .before .before .difference2 .ensures .0))) in let h = ((c .before .before .before .before .before .before .before .before .before .before .before .before .before .before .before .before .before .before .before .before .before .before .before .pre .2 .short)) in let k = ((c .before .before .before .before .before .before .before .before .before .before .before .before .before .before .before .before .before .before .before .before .before .before .before .pre .7)) in let l = ((c .before .before .before .before .before .before .before .before .before .before .before .before .before .before .before .before .before .before .before .before .before .before .before .pre .0 .limit)) in omega (arith, g, w, h, k, l)))
 
 further-requires-2 : tie.Need-further-requires-2
 further-requires-2 c κs = (record { sec = (let i = ((c .before .before .before .before .before .before .before .before .before .before .before .before .before .before .before .before .before .before .before .before .before .before .before .before .pre .6)) in let j = ((c .before .before .before .before .before .before .before .before .before .before .before .before .before .before .before .before .before .before .before .before .before .before .before .before .pre .2 .start .sec)) in let k = ((c .before .before .before .before .before .before .before .before .before .before .before .before .before .before .before .before .before .before .before .before .before .before .before .before .pre .2 .start .ns)) in omega arith); ns = ((c .before .before .before .before .before .before .before .before .before .before .before .before .before .before .before .before .before .before .before .before .before .before .before .before .pre .3)) }, ((c .before .before .before .before .before .before .before .before .before .before .before .before .before .before .before .before .before .before .before .before .before .before .before .before .pre .4)), ((c .before .before .before .before .before .before .before .before .before .before .before .before .before .before .before .before .before .before .before .before .before .before .before .before .pre .5)), (let e = ((c .before .before .before .before .before .before .before .before .before .before .before .before .before .before .wanted .ensures)) in omega arith), taken-rest _ _ _ _ _ ((c .search-forward .result)) ((c .search-forward .ensures)))
@@ -64,15 +64,15 @@ same-length-6 : tie.Need-same-length-6
 same-length-6 c = search needs
 
 returns-2 : tie.Need-returns-2
-returns-2 c = (rw ((c .before .before .before .if1 .left)) (((c .further2 .ensures .0)) ∙ sight-on _ _ _ _ _ _ _ _ _ _ ((c .before .before .before .before .before .before .before .before .before .before .before .before .before .before .before .before .before .before .before .before .before .before .before .before .before .pre .2 .order)) ((c .before .before .before .before .before .before .before .before .before .before .before .before .before .before .before .before .before .before .before .before .before .before .before .before .before .pre .2 .short)) ((c .before .before .before .before .before .before .before .before .before .before .before .before .before .before .before .before .before .before .before .before .before .before .before .before .before .pre .6)) (((c .before .before .before .before .before .before .before .before .before .before .before .before .before .before .before .before .before .before .nanoseconds .ensures)) ∙ ((c .before .before .before .before .before .before .before .before .before .before .before .before .before .before .before .before .before .before .before .minus .ensures .0))) (((c .before .before .before .before .before .before .before .before .before .before .before .before .before .before .before .before .nanoseconds2 .ensures)) ∙ ((c .before .before .before .before .before .before .before .before .before .before .before .before .before .before .before .before .before .minus2 .ensures .0))) ((c .before .before .before .before .before .before .before .before .before .before .before .before .before .before .before .wanted .ensures)) _ _ (rw ((c .before .before .before .if1 .left)) at ((c .before .before .before .before .before .before .before .before .before .before .before .before .before .before .before .before .before .before .before .before .before .before .before .before .before .pre .2 .near))) (rw ((c .before .before .before .if1 .left)) at ((c .before .before .before .before .before .before .before .before .before .before .window-into .ensures .0))) ((c .before .search-forward .ensures))), ((c .further2 .ensures .1)))
+returns-2 c = (rw ((c .before .before .before .if1 .left)) (((c .further2 .ensures .0)) ∙ sight-on _ _ _ _ _ _ _ _ _ _ ((c .before .before .before .before .before .before .before .before .before .before .before .before .before .before .before .before .before .before .before .before .before .before .before .before .before .pre .2 .order)) ((c .before .before .before .before .before .before .before .before .before .before .before .before .before .before .before .before .before .before .before .before .before .before .before .before .before .pre .2 .short)) ((c .before .before .before .before .before .before .before .before .before .before .before .before .before .before .before .before .before .before .before .before .before .before .before .before .before .pre .6)) (((c .before .before .before .before .before .before .before .before .before .before .before .before .before .before .before .before .before .before .nanoseconds .ensures)) ∙ ((c .before .before .before .before .before .before .before .before .before .before .before .before .before .before .before .before .before .before .before .difference .ensures .0))) (((c .before .before .before .before .before .before .before .before .before .before .before .before .before .before .before .before .nanoseconds2 .ensures)) ∙ ((c .before .before .before .before .before .before .before .before .before .before .before .before .before .before .before .before .before .difference2 .ensures .0))) ((c .before .before .before .before .before .before .before .before .before .before .before .before .before .before .before .wanted .ensures)) _ _ (rw ((c .before .before .before .if1 .left)) at ((c .before .before .before .before .before .before .before .before .before .before .before .before .before .before .before .before .before .before .before .before .before .before .before .before .before .pre .2 .near))) (rw ((c .before .before .before .if1 .left)) at ((c .before .before .before .before .before .before .before .before .before .before .window-into .ensures .0))) ((c .before .search-forward .ensures))), ((c .further2 .ensures .1)))
 
 pub search-window-spec : {M : Type 1} → statement M
 search-window-spec =
     tie.close
     (tie.spec
-    minus-requires
+    difference-requires
     nanoseconds-requires
-    minus-requires-2
+    difference-requires-2
     nanoseconds-requires-2
     wanted-requires
     mul-limit

@@ -1,6 +1,5 @@
 -- `walk::skips` meets its contract: by its tests, in order. Assumes nothing.
 use Rattle.walk.proofs.Steps.{skipped-fresh, skipped-full, skipped-part, skipped-run, skipped-from}
-use Rattle.block.specs.Counted.{size}
 use Rattle.instant.specs.Instant.{nanos}
 use borrow.Author.Tests.{not-true, not-false}
 use borrow.Author.Needs.{needs}
@@ -25,17 +24,17 @@ returns-3 c = skipped-part ((c .before .before .before .before .before .before .
 at-requires : tie.Need-at-requires
 at-requires c κs = search needs
 
-least-requires : tie.Need-least-requires
-least-requires c κs = search needs
+minimum-requires : tie.Need-minimum-requires
+minimum-requires c κs = search needs
 
 borders-requires : tie.Need-borders-requires
 borders-requires c κs = search needs
 
-least-requires-2 : tie.Need-least-requires-2
-least-requires-2 c κs = search needs
+minimum-requires-2 : tie.Need-minimum-requires-2
+minimum-requires-2 c κs = search needs
 
 returns-4 : tie.Need-returns-4
-returns-4 c = let f = skipped-from _ ((c .before .before .before .before .before .before .before .before .before .before .before .before .before .args .back)) (nanos ((c .before .before .before .before .before .before .before .before .before .before .before .before .before .args .t))) (size ((c .before .before .before .before .before .before .before .before .before .before .before .before .before .args .x))) _ ((c .before .before .before .at .ensures .0)) ((c .before .borders .ensures)) in skipped-run ((c .before .before .before .before .before .before .before .before .before .before .before .before .before .args .k)) _ _ _ _ ((c .before .before .before .before .before .before .before .before .before .before .before .before .before .pre .4)) ((c .before .before .before .before .before .weeks .ensures)) (not-false ((c .before .before .before .before .before .before .before .before .before .before .before .before .before .args .k .known)) ((c .before .before .before .before .before .before .before .before .before .if1 .left))) ((c .before .before .before .before .if3 .left)) ((c .before .before .before .before .before .before .if2 .left)) ((c .before .before .before .before .before .before .before .fitting .ensures .1)) (f .0) (f .1) ((c .before .before .least .ensures)) ((c .least2 .ensures))
+returns-4 c = let f = skipped-from _ ((c .before .before .before .before .before .before .before .before .before .before .before .before .before .args .back)) (nanos ((c .before .before .before .before .before .before .before .before .before .before .before .before .before .args .t))) (nanos ((c .before .before .before .before .before .before .before .before .before .before .before .before .before .args .x))) _ ((c .before .before .before .at .ensures .0)) ((c .before .borders .ensures)) in skipped-run ((c .before .before .before .before .before .before .before .before .before .before .before .before .before .args .k)) _ _ _ _ ((c .before .before .before .before .before .before .before .before .before .before .before .before .before .pre .4)) ((c .before .before .before .before .before .weeks .ensures)) (not-false ((c .before .before .before .before .before .before .before .before .before .before .before .before .before .args .k .known)) ((c .before .before .before .before .before .before .before .before .before .if1 .left))) ((c .before .before .before .before .if3 .left)) ((c .before .before .before .before .before .before .if2 .left)) ((c .before .before .before .before .before .before .before .fitting .ensures .1)) (f .0) (f .1) ((c .before .before .minimum .ensures)) ((c .minimum2 .ensures))
 
 pub skips-spec : {M : Type 1} → statement M
 skips-spec =
@@ -47,7 +46,7 @@ skips-spec =
     weeks-requires
     returns-3
     at-requires
-    least-requires
+    minimum-requires
     borders-requires
-    least-requires-2
+    minimum-requires-2
     returns-4)

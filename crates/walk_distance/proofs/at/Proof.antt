@@ -1,6 +1,6 @@
 -- `walk_distance::at` meets its contract: up to the range's end. Assumes nothing.
 use borrow.Author.Needs.{needs}
-use Rattle.walk_step.specs.Spending.{wayOf}
+use Rattle.walk_distance.specs.Distances.{wayOf}
 use Rattle.walk_distance.proofs.Borders.{in-range}
 use Rattle.walk_distance.proofs.at.Statement.{statement}
 use Rattle.walk_distance.proofs.at.Tie as tie

@@ -1,7 +1,6 @@
 -- `walk_distance::week_on` meets its contract: by its test. Assumes nothing.
 use Rattle.instant.specs.Instant.{nanos}
 use Prim.Native.Nat.{_+_, _*_, _-_, _<_}
-use Rattle.block.specs.Counted.{size}
 use borrow.Author.Tests.{ltb-true, ltb-false, not-true, not-false}
 use mathlib.Core.Path.{refl, sym, _∙_, ap}
 use native.Mathlib.Omega.{arith}
@@ -12,14 +11,14 @@ use Rattle.walk_distance.proofs.week_on.Tie as tie
 add-t4 : tie.Need-add-t4
 add-t4 c = search needs
 
-less-requires : tie.Need-less-requires
-less-requires c κs = search needs
+precedes-requires : tie.Need-precedes-requires
+precedes-requires c κs = search needs
 
 returns : tie.Need-returns
-returns c = let h = ltb-true (((c .before .before .before .args .x .sec) + 604800) * 1000000000 + (c .before .before .before .args .x .ns)) (size (c .before .before .before .args .end)) (sym (c .before .less .ensures) ∙ (c .if1 .taken)) in (omega arith, record { sec = omega arith; ns = omega arith })
+returns c = let h = ltb-true (((c .before .before .before .args .x .sec) + 604800) * 1000000000 + (c .before .before .before .args .x .ns)) (nanos (c .before .before .before .args .end)) (sym (c .before .precedes .ensures) ∙ (c .if1 .taken)) in (omega arith, record { sec = omega arith; ns = omega arith })
 
 returns-2 : tie.Need-returns-2
-returns-2 c = let h = ltb-false (((c .before .before .before .args .x .sec) + 604800) * 1000000000 + (c .before .before .before .args .x .ns)) (size (c .before .before .before .args .end)) (sym (c .before .less .ensures) ∙ (c .if1 .left)) in (omega arith, (c .before .before .before .pre .1))
+returns-2 c = let h = ltb-false (((c .before .before .before .args .x .sec) + 604800) * 1000000000 + (c .before .before .before .args .x .ns)) (nanos (c .before .before .before .args .end)) (sym (c .before .precedes .ensures) ∙ (c .if1 .left)) in (omega arith, (c .before .before .before .pre .1))
 
 pub week-on-spec : {M : Type 1} → statement M
-week-on-spec = tie.close (tie.spec add-t4 less-requires returns returns-2)
+week-on-spec = tie.close (tie.spec add-t4 precedes-requires returns returns-2)

@@ -1,5 +1,5 @@
 -- `walk_distance::window_into` meets its contract: by its two ways. Assumes nothing.
-use Rattle.block.specs.Counted.{size}
+use Rattle.instant.specs.Instant.{nanos}
 use native.Mathlib.Omega.{arith}
 use Rattle.walk_distance.proofs.Near.{into-on, into-back, into-inside}
 use borrow.Author.Needs.{needs}
@@ -32,7 +32,7 @@ same-length-3 c = search needs
 
 -- src/lib.rt:129:9
 returns : tie.Need-returns
-returns c = let e = rw ((c .before .before .before .before .before .before .before .before .before .before .if1 .taken)) at ((c .before .before .before .before .before .before .before .before .before .before .before .before .at .ensures .0)) in let f = rw ((c .before .before .before .before .before .before .before .before .before .before .if1 .taken)) at ((c .before .before .before .before .before .before .before .before .before .before .before .at2 .ensures .0)) in let h = rw ((c .before .before .before .before .before .before .before .before .before .before .if1 .taken)) at ((c .before .before .before .before .before .before .before .before .before .before .before .before .before .before .before .before .before .before .pre .2 .near)) in (rw ((c .before .before .before .before .before .before .before .before .before .before .if1 .taken)) (into-back _ _ _ _ _ _ ((c .before .before .before .before .before .before .before .before .before .before .before .before .before .before .before .before .before .before .pre .2 .order)) _ ((c .before .before .before .before .before .before .working-into .ensures .0)) (omega arith) f e), into-inside _ (size ((c .before .before .before .before .before .before .before .before .before .before .before .before .before .before .before .before .before .before .args .x))) (size ((c .before .before .before .before .before .before .before .before .before .before .before .before .before .before .before .before .before .before .args .y))) _ _ _ ((c .before .before .before .before .before .before .working-into .ensures .0)) (omega arith) (omega arith), ((c .before .before .before .before .before .before .working-into .ensures .1)), ((c .before .before .before .before .before .before .working-into .ensures .2)))
+returns c = let e = rw ((c .before .before .before .before .before .before .before .before .before .before .if1 .taken)) at ((c .before .before .before .before .before .before .before .before .before .before .before .before .at .ensures .0)) in let f = rw ((c .before .before .before .before .before .before .before .before .before .before .if1 .taken)) at ((c .before .before .before .before .before .before .before .before .before .before .before .at2 .ensures .0)) in let h = rw ((c .before .before .before .before .before .before .before .before .before .before .if1 .taken)) at ((c .before .before .before .before .before .before .before .before .before .before .before .before .before .before .before .before .before .before .pre .2 .near)) in (rw ((c .before .before .before .before .before .before .before .before .before .before .if1 .taken)) (into-back _ _ _ _ _ _ ((c .before .before .before .before .before .before .before .before .before .before .before .before .before .before .before .before .before .before .pre .2 .order)) _ ((c .before .before .before .before .before .before .working-into .ensures .0)) (omega arith) f e), into-inside _ (nanos ((c .before .before .before .before .before .before .before .before .before .before .before .before .before .before .before .before .before .before .args .x))) (nanos ((c .before .before .before .before .before .before .before .before .before .before .before .before .before .before .before .before .before .before .args .y))) _ _ _ ((c .before .before .before .before .before .before .working-into .ensures .0)) (omega arith) (omega arith), ((c .before .before .before .before .before .before .working-into .ensures .1)), ((c .before .before .before .before .before .before .working-into .ensures .2)))
 
 -- src/lib.rt:131:5
 working-into-requires-2 : tie.Need-working-into-requires-2
@@ -52,7 +52,7 @@ same-length-6 c = search needs
 
 -- src/lib.rt:111:1
 returns-2 : tie.Need-returns-2
-returns-2 c = let e = rw ((c .before .before .before .before .before .before .before .before .before .before .if1 .left)) at ((c .before .before .before .before .before .before .before .before .before .before .before .before .at .ensures .0)) in let f = rw ((c .before .before .before .before .before .before .before .before .before .before .if1 .left)) at ((c .before .before .before .before .before .before .before .before .before .before .before .at2 .ensures .0)) in let h = rw ((c .before .before .before .before .before .before .before .before .before .before .if1 .left)) at ((c .before .before .before .before .before .before .before .before .before .before .before .before .before .before .before .before .before .before .pre .2 .near)) in (rw ((c .before .before .before .before .before .before .before .before .before .before .if1 .left)) (into-on _ _ _ _ _ _ ((c .before .before .before .before .before .before .before .before .before .before .before .before .before .before .before .before .before .before .pre .2 .order)) _ ((c .before .before .before .before .before .before .working-into2 .ensures .0)) e f), into-inside _ (size ((c .before .before .before .before .before .before .before .before .before .before .before .before .before .before .before .before .before .before .args .x))) (size ((c .before .before .before .before .before .before .before .before .before .before .before .before .before .before .before .before .before .before .args .y))) _ _ _ ((c .before .before .before .before .before .before .working-into2 .ensures .0)) (omega arith) (omega arith), ((c .before .before .before .before .before .before .working-into2 .ensures .1)), ((c .before .before .before .before .before .before .working-into2 .ensures .2)))
+returns-2 c = let e = rw ((c .before .before .before .before .before .before .before .before .before .before .if1 .left)) at ((c .before .before .before .before .before .before .before .before .before .before .before .before .at .ensures .0)) in let f = rw ((c .before .before .before .before .before .before .before .before .before .before .if1 .left)) at ((c .before .before .before .before .before .before .before .before .before .before .before .at2 .ensures .0)) in let h = rw ((c .before .before .before .before .before .before .before .before .before .before .if1 .left)) at ((c .before .before .before .before .before .before .before .before .before .before .before .before .before .before .before .before .before .before .pre .2 .near)) in (rw ((c .before .before .before .before .before .before .before .before .before .before .if1 .left)) (into-on _ _ _ _ _ _ ((c .before .before .before .before .before .before .before .before .before .before .before .before .before .before .before .before .before .before .pre .2 .order)) _ ((c .before .before .before .before .before .before .working-into2 .ensures .0)) e f), into-inside _ (nanos ((c .before .before .before .before .before .before .before .before .before .before .before .before .before .before .before .before .before .before .args .x))) (nanos ((c .before .before .before .before .before .before .before .before .before .before .before .before .before .before .before .before .before .before .args .y))) _ _ _ ((c .before .before .before .before .before .before .working-into2 .ensures .0)) (omega arith) (omega arith), ((c .before .before .before .before .before .before .working-into2 .ensures .1)), ((c .before .before .before .before .before .before .working-into2 .ensures .2)))
 
 pub window-into-spec : {M : Type 1} → statement M
 window-into-spec =

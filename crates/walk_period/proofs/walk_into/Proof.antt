@@ -5,11 +5,10 @@ use borrow.Author.Needs.{needs}
 use borrow.Author.Tests.{ltb-true, ltb-false}
 use mathlib.Core.Path.{_≡_, refl, sym, _∙_}
 use Prim.Native.Nat.{_-_, _<_}
-use Rattle.block.specs.Counted.{size}
 use Rattle.instant.specs.Instant.{nanos}
 use Rattle.model.specs.Walk.{ahead}
 use Rattle.rule.specs.Rules.{scheduleIs}
-use Rattle.walk_step.specs.Spending.{wayOf}
+use Rattle.walk_distance.specs.Distances.{wayOf}
 use Rattle.walk_period_week.specs.SoFars.{growing-exact, ended-exact}
 use Rattle.laws_skip.specs.Schedules.{ahead-inside}
 use Rattle.walk_distance.proofs.Borders.{ahead-of}
@@ -20,10 +19,10 @@ use Rattle.walk_period.proofs.walk_into.Statement.{statement}
 use Rattle.walk_period.proofs.walk_into.Tie as tie
 
 abbrev Inv-loop : tie.InvT-loop
-Inv-loop book pack s t back on₀ off₀ out₀ end most limit x₀ some₀ f₀ e₀ on off out x some f e = Walking (ahead (wayOf back) (scheduleIs book pack s) (nanos t)) (size limit) (size end) (size x) some (size f) (size e) × Short x × (f .ns < 1000000000) × (e .ns < 1000000000) × (length on ≡ length on₀) × (length off ≡ length off₀) × (length out ≡ length out₀)
+Inv-loop book pack s t back on₀ off₀ out₀ end most limit x₀ some₀ f₀ e₀ on off out x some f e = Walking (ahead (wayOf back) (scheduleIs book pack s) (nanos t)) (nanos limit) (nanos end) (nanos x) some (nanos f) (nanos e) × Short x × (f .ns < 1000000000) × (e .ns < 1000000000) × (length on ≡ length on₀) × (length off ≡ length off₀) × (length out ≡ length out₀)
 
 abbrev μ-loop : tie.MeasureT-loop
-μ-loop book pack s t back on₀ off₀ out₀ end most limit x₀ some₀ f₀ e₀ on off out x some f e = size end - size x
+μ-loop book pack s t back on₀ off₀ out₀ end most limit x₀ some₀ f₀ e₀ on off out x some f e = nanos end - nanos x
 
 reach-requires : tie.Need-reach-requires Inv-loop μ-loop
 reach-requires c κs = (c .before .before .before .before .before .pre .1)
@@ -31,8 +30,8 @@ reach-requires c κs = (c .before .before .before .before .before .pre .1)
 loop-holds : tie.Need-loop-holds Inv-loop μ-loop
 loop-holds c = (walking-starts _ _ _, record { sec = omega arith; ns = omega arith }, omega arith, omega arith, refl, refl, refl)
 
-less-requires : tie.Need-less-requires Inv-loop μ-loop
-less-requires c κs = search needs
+precedes-requires : tie.Need-precedes-requires Inv-loop μ-loop
+precedes-requires c κs = search needs
 
 week-on-requires : tie.Need-week-on-requires Inv-loop μ-loop
 week-on-requires c κs = ((c .before .before .loop .inv .1), (c .before .before .before .reach .ensures .1))
@@ -52,8 +51,8 @@ period-in-window-requires c κs = (omega (arith, (c .before .before .before .bef
 enum-told : tie.Need-enum-told Inv-loop μ-loop
 enum-told c = search needs
 
-less-requires-2 : tie.Need-less-requires-2 Inv-loop μ-loop
-less-requires-2 c κs = search needs
+precedes-requires-2 : tie.Need-precedes-requires-2 Inv-loop μ-loop
+precedes-requires-2 c κs = search needs
 
 same-length : tie.Need-same-length Inv-loop μ-loop
 same-length c = (c .before .before .before .before .before .before .before .before .before .before .before .before .on .given) ∙ (c .before .before .before .before .before .before .before .before .before .before .before .before .before .before .before .before .before .before .before .before .before .loop .inv .4)
@@ -65,22 +64,22 @@ same-length-3 : tie.Need-same-length-3 Inv-loop μ-loop
 same-length-3 c = (c .before .before .before .before .before .before .before .before .out .given) ∙ (c .before .before .before .before .before .before .before .before .before .before .before .before .before .before .before .before .before .before .before .before .before .loop .inv .6)
 
 returns : tie.Need-returns Inv-loop μ-loop
-returns c = (walked _ _ _ _ _ (limit-is _) (c .before .before .before .before .before .before .before .before .before .before .before .before .before .before .before .before .before .before .before .before .before .before .reach .ensures .0) _ (walking-no-work _ _ _ _ _ _ _ (c .before .before .before .before .before .before .before .before .before .before .before .before .before .before .before .before .before .before .before .before .before .loop .inv .0) (ltb-true (size (c .before .before .before .before .before .before .before .before .before .before .before .before .before .before .before .before .before .before .before .before .before .loop .x)) (size (c .before .before .before .before .before .before .before .before .before .before .before .before .before .before .before .before .before .before .before .before .before .before .reach .result)) (sym (c .before .before .before .before .before .before .before .before .before .before .before .before .before .before .before .before .before .before .before .before .less .ensures) ∙ (c .before .before .before .before .before .before .before .before .before .before .before .before .before .before .before .before .before .before .before .if1 .taken))) _ (c .before .before .before .before .before .before .before .before .before .before .before .before .before .before .before .before .before .before .week-on .ensures .0) (looked _ _ (wayOf (c .before .before .before .before .before .before .before .before .before .before .before .before .before .before .before .before .before .before .before .before .before .before .before .before .before .before .before .before .args .back)) _ _ _ _ _ _ _ _ (c .before .before .enum-told .given .1) (c .before .before .before .before .period-in-window .ensures .0) (c .before .before .before .before .before .before .width .ensures) _ (c .before .before .before .before .before .before .before .before .before .before .before .before .before .before .before .before .before .before .before .before .before .loop .inv .0 .upto) (c .before .before .before .before .before .before .before .before .before .before .before .before .before .before .before .before .before .before .week-on .ensures .0) (c .before .before .before .before .before .before .before .before .before .before .before .before .before .before .before .before .before .place .ensures .1) (c .before .before .before .before .before .before .before .before .before .before .before .before .before .working-into .ensures .0)) (sym (c .before .less2 .ensures) ∙ (c .if2 .taken))), no-work)
+returns c = (walked _ _ _ _ _ (limit-is _) (c .before .before .before .before .before .before .before .before .before .before .before .before .before .before .before .before .before .before .before .before .before .before .reach .ensures .0) _ (walking-no-work _ _ _ _ _ _ _ (c .before .before .before .before .before .before .before .before .before .before .before .before .before .before .before .before .before .before .before .before .before .loop .inv .0) (ltb-true (nanos (c .before .before .before .before .before .before .before .before .before .before .before .before .before .before .before .before .before .before .before .before .before .loop .x)) (nanos (c .before .before .before .before .before .before .before .before .before .before .before .before .before .before .before .before .before .before .before .before .before .before .reach .result)) (sym (c .before .before .before .before .before .before .before .before .before .before .before .before .before .before .before .before .before .before .before .before .precedes .ensures) ∙ (c .before .before .before .before .before .before .before .before .before .before .before .before .before .before .before .before .before .before .before .if1 .taken))) _ (c .before .before .before .before .before .before .before .before .before .before .before .before .before .before .before .before .before .before .week-on .ensures .0) (looked _ _ (wayOf (c .before .before .before .before .before .before .before .before .before .before .before .before .before .before .before .before .before .before .before .before .before .before .before .before .before .before .before .before .args .back)) _ _ _ _ _ _ _ _ (c .before .before .enum-told .given .1) (c .before .before .before .before .period-in-window .ensures .0) (c .before .before .before .before .before .before .width .ensures) _ (c .before .before .before .before .before .before .before .before .before .before .before .before .before .before .before .before .before .before .before .before .before .loop .inv .0 .upto) (c .before .before .before .before .before .before .before .before .before .before .before .before .before .before .before .before .before .before .week-on .ensures .0) (c .before .before .before .before .before .before .before .before .before .before .before .before .before .before .before .before .before .place .ensures .1) (c .before .before .before .before .before .before .before .before .before .before .before .before .before .working-into .ensures .0)) (sym (c .before .precedes2 .ensures) ∙ (c .if2 .taken))), no-work)
 
 loop-less : tie.Need-loop-less Inv-loop μ-loop
-loop-less c = let h = (ltb-true (size (c .before .before .before .before .before .before .before .before .before .before .before .before .before .before .before .before .before .before .before .before .before .loop .x)) (size (c .before .before .before .before .before .before .before .before .before .before .before .before .before .before .before .before .before .before .before .before .before .before .reach .result)) (sym (c .before .before .before .before .before .before .before .before .before .before .before .before .before .before .before .before .before .before .before .before .less .ensures) ∙ (c .before .before .before .before .before .before .before .before .before .before .before .before .before .before .before .before .before .before .before .if1 .taken))) in let e = (c .before .before .before .before .before .before .before .before .before .before .before .before .before .before .before .before .before .before .week-on .ensures .0) in omega arith
+loop-less c = let h = (ltb-true (nanos (c .before .before .before .before .before .before .before .before .before .before .before .before .before .before .before .before .before .before .before .before .before .loop .x)) (nanos (c .before .before .before .before .before .before .before .before .before .before .before .before .before .before .before .before .before .before .before .before .before .before .reach .result)) (sym (c .before .before .before .before .before .before .before .before .before .before .before .before .before .before .before .before .before .before .before .before .precedes .ensures) ∙ (c .before .before .before .before .before .before .before .before .before .before .before .before .before .before .before .before .before .before .before .if1 .taken))) in let e = (c .before .before .before .before .before .before .before .before .before .before .before .before .before .before .before .before .before .before .week-on .ensures .0) in omega arith
 
 loop-again : tie.Need-loop-again Inv-loop μ-loop
-loop-again c = (walking-nothing _ _ _ _ _ _ _ (c .before .before .before .before .before .before .before .before .before .before .before .before .before .before .before .before .before .before .before .before .before .loop .inv .0) (ltb-true (size (c .before .before .before .before .before .before .before .before .before .before .before .before .before .before .before .before .before .before .before .before .before .loop .x)) (size (c .before .before .before .before .before .before .before .before .before .before .before .before .before .before .before .before .before .before .before .before .before .before .reach .result)) (sym (c .before .before .before .before .before .before .before .before .before .before .before .before .before .before .before .before .before .before .before .before .less .ensures) ∙ (c .before .before .before .before .before .before .before .before .before .before .before .before .before .before .before .before .before .before .before .if1 .taken))) _ (c .before .before .before .before .before .before .before .before .before .before .before .before .before .before .before .before .before .before .week-on .ensures .0) (looked _ _ (wayOf (c .before .before .before .before .before .before .before .before .before .before .before .before .before .before .before .before .before .before .before .before .before .before .before .before .before .before .before .before .args .back)) _ _ _ _ _ _ _ _ (c .before .before .enum-told .given .1) (c .before .before .before .before .period-in-window .ensures .0) (c .before .before .before .before .before .before .width .ensures) _ (c .before .before .before .before .before .before .before .before .before .before .before .before .before .before .before .before .before .before .before .before .before .loop .inv .0 .upto) (c .before .before .before .before .before .before .before .before .before .before .before .before .before .before .before .before .before .before .week-on .ensures .0) (c .before .before .before .before .before .before .before .before .before .before .before .before .before .before .before .before .before .place .ensures .1) (c .before .before .before .before .before .before .before .before .before .before .before .before .before .working-into .ensures .0)) (sym (c .before .less2 .ensures) ∙ (c .if2 .left)), (c .before .before .before .before .before .before .before .before .before .before .before .before .before .before .before .before .before .before .week-on .ensures .1), (c .before .before .before .before .before .before .before .before .before .before .before .before .before .before .before .before .before .before .before .before .before .loop .inv .2), (c .before .before .before .before .before .before .before .before .before .before .before .before .before .before .before .before .before .before .before .before .before .loop .inv .3), (c .before .before .before .before .before .before .before .before .before .before .before .before .on .given) ∙ (c .before .before .before .before .before .before .before .before .before .before .before .before .before .before .before .before .before .before .before .before .before .loop .inv .4), (c .before .before .before .before .before .before .before .before .before .before .off .given) ∙ (c .before .before .before .before .before .before .before .before .before .before .before .before .before .before .before .before .before .before .before .before .before .loop .inv .5), (c .before .before .before .before .before .before .before .before .out .given) ∙ (c .before .before .before .before .before .before .before .before .before .before .before .before .before .before .before .before .before .before .before .before .before .loop .inv .6))
+loop-again c = (walking-nothing _ _ _ _ _ _ _ (c .before .before .before .before .before .before .before .before .before .before .before .before .before .before .before .before .before .before .before .before .before .loop .inv .0) (ltb-true (nanos (c .before .before .before .before .before .before .before .before .before .before .before .before .before .before .before .before .before .before .before .before .before .loop .x)) (nanos (c .before .before .before .before .before .before .before .before .before .before .before .before .before .before .before .before .before .before .before .before .before .before .reach .result)) (sym (c .before .before .before .before .before .before .before .before .before .before .before .before .before .before .before .before .before .before .before .before .precedes .ensures) ∙ (c .before .before .before .before .before .before .before .before .before .before .before .before .before .before .before .before .before .before .before .if1 .taken))) _ (c .before .before .before .before .before .before .before .before .before .before .before .before .before .before .before .before .before .before .week-on .ensures .0) (looked _ _ (wayOf (c .before .before .before .before .before .before .before .before .before .before .before .before .before .before .before .before .before .before .before .before .before .before .before .before .before .before .before .before .args .back)) _ _ _ _ _ _ _ _ (c .before .before .enum-told .given .1) (c .before .before .before .before .period-in-window .ensures .0) (c .before .before .before .before .before .before .width .ensures) _ (c .before .before .before .before .before .before .before .before .before .before .before .before .before .before .before .before .before .before .before .before .before .loop .inv .0 .upto) (c .before .before .before .before .before .before .before .before .before .before .before .before .before .before .before .before .before .before .week-on .ensures .0) (c .before .before .before .before .before .before .before .before .before .before .before .before .before .before .before .before .before .place .ensures .1) (c .before .before .before .before .before .before .before .before .before .before .before .before .before .working-into .ensures .0)) (sym (c .before .precedes2 .ensures) ∙ (c .if2 .left)), (c .before .before .before .before .before .before .before .before .before .before .before .before .before .before .before .before .before .before .week-on .ensures .1), (c .before .before .before .before .before .before .before .before .before .before .before .before .before .before .before .before .before .before .before .before .before .loop .inv .2), (c .before .before .before .before .before .before .before .before .before .before .before .before .before .before .before .before .before .before .before .before .before .loop .inv .3), (c .before .before .before .before .before .before .before .before .before .before .before .before .on .given) ∙ (c .before .before .before .before .before .before .before .before .before .before .before .before .before .before .before .before .before .before .before .before .before .loop .inv .4), (c .before .before .before .before .before .before .before .before .before .before .off .given) ∙ (c .before .before .before .before .before .before .before .before .before .before .before .before .before .before .before .before .before .before .before .before .before .loop .inv .5), (c .before .before .before .before .before .before .before .before .out .given) ∙ (c .before .before .before .before .before .before .before .before .before .before .before .before .before .before .before .before .before .before .before .before .before .loop .inv .6))
 
 enum-known-known : tie.Need-enum-known-known Inv-loop μ-loop
 enum-known-known c = search needs
 
 is-whole-requires : tie.Need-is-whole-requires Inv-loop μ-loop
-is-whole-requires c κs = end-fits _ _ ((growing-upto _ _ _ _ _ _ _ (c .before .before .before .before .before .before .before .before .before .before .before .before .before .before .before .before .before .before .before .before .loop .inv .0) (ltb-true (size (c .before .before .before .before .before .before .before .before .before .before .before .before .before .before .before .before .before .before .before .before .loop .x)) (size (c .before .before .before .before .before .before .before .before .before .before .before .before .before .before .before .before .before .before .before .before .before .reach .result)) (sym (c .before .before .before .before .before .before .before .before .before .before .before .before .before .before .before .before .before .before .before .less .ensures) ∙ (c .before .before .before .before .before .before .before .before .before .before .before .before .before .before .before .before .before .before .if1 .taken))) _ (c .before .before .before .before .before .before .before .before .before .before .before .before .before .before .before .before .before .week-on .ensures .0) (ahead-inside _ _ _ _ _ ((ahead-of (wayOf (c .before .before .before .before .before .before .before .before .before .before .before .before .before .before .before .before .before .before .before .before .before .before .before .before .before .before .before .args .back)) (nanos (c .before .before .before .before .before .before .before .before .before .before .before .before .before .before .before .before .before .before .before .before .before .before .before .before .before .before .before .args .t)) _ _ (c .before .before .before .before .before .before .before .before .before .before .before .before .before .before .before .before .before .before .before .before .before .reach .result) (c .before .before .before .before .before .before .before .before .before .before .before .before .before .before .before .before .before .before .before .before .loop .inv .1) (c .before .before .before .before .before .before .before .before .before .before .before .before .before .before .before .before .before .week-on .ensures .1) (c .before .before .before .before .before .before .before .before .before .before .before .before .before .before .before .before .before .before .before .before .before .reach .ensures .0) (c .before .before .before .before .before .before .before .before .before .before .before .before .before .before .before .before .before .before .before .before .loop .inv .0 .upto) (c .before .before .before .before .before .before .before .before .before .before .before .before .before .before .before .before .before .week-on .ensures .0)) .order) ((ahead-of (wayOf (c .before .before .before .before .before .before .before .before .before .before .before .before .before .before .before .before .before .before .before .before .before .before .before .before .before .before .before .args .back)) (nanos (c .before .before .before .before .before .before .before .before .before .before .before .before .before .before .before .before .before .before .before .before .before .before .before .before .before .before .before .args .t)) _ _ (c .before .before .before .before .before .before .before .before .before .before .before .before .before .before .before .before .before .before .before .before .before .reach .result) (c .before .before .before .before .before .before .before .before .before .before .before .before .before .before .before .before .before .before .before .before .loop .inv .1) (c .before .before .before .before .before .before .before .before .before .before .before .before .before .before .before .before .before .week-on .ensures .1) (c .before .before .before .before .before .before .before .before .before .before .before .before .before .before .before .before .before .before .before .before .before .reach .ensures .0) (c .before .before .before .before .before .before .before .before .before .before .before .before .before .before .before .before .before .before .before .before .loop .inv .0 .upto) (c .before .before .before .before .before .before .before .before .before .before .before .before .before .before .before .before .before .week-on .ensures .0)) .near)) _ _ (looked _ _ (wayOf (c .before .before .before .before .before .before .before .before .before .before .before .before .before .before .before .before .before .before .before .before .before .before .before .before .before .before .before .args .back)) _ _ _ _ _ _ _ _ (c .before .known .given .1) (c .before .before .before .period-in-window .ensures .0) (c .before .before .before .before .before .width .ensures) _ (c .before .before .before .before .before .before .before .before .before .before .before .before .before .before .before .before .before .before .before .before .loop .inv .0 .upto) (c .before .before .before .before .before .before .before .before .before .before .before .before .before .before .before .before .before .week-on .ensures .0) (c .before .before .before .before .before .before .before .before .before .before .before .before .before .before .before .before .place .ensures .1) (c .before .before .before .before .before .before .before .before .before .before .before .before .working-into .ensures .0))) .2) (c .before .before .before .before .before .before .before .before .before .before .before .before .before .before .before .before .before .before .before .before .before .reach .ensures .1)
+is-whole-requires c κs = end-fits _ _ ((growing-upto _ _ _ _ _ _ _ (c .before .before .before .before .before .before .before .before .before .before .before .before .before .before .before .before .before .before .before .before .loop .inv .0) (ltb-true (nanos (c .before .before .before .before .before .before .before .before .before .before .before .before .before .before .before .before .before .before .before .before .loop .x)) (nanos (c .before .before .before .before .before .before .before .before .before .before .before .before .before .before .before .before .before .before .before .before .before .reach .result)) (sym (c .before .before .before .before .before .before .before .before .before .before .before .before .before .before .before .before .before .before .before .precedes .ensures) ∙ (c .before .before .before .before .before .before .before .before .before .before .before .before .before .before .before .before .before .before .if1 .taken))) _ (c .before .before .before .before .before .before .before .before .before .before .before .before .before .before .before .before .before .week-on .ensures .0) (ahead-inside _ _ _ _ _ ((ahead-of (wayOf (c .before .before .before .before .before .before .before .before .before .before .before .before .before .before .before .before .before .before .before .before .before .before .before .before .before .before .before .args .back)) (nanos (c .before .before .before .before .before .before .before .before .before .before .before .before .before .before .before .before .before .before .before .before .before .before .before .before .before .before .before .args .t)) _ _ (c .before .before .before .before .before .before .before .before .before .before .before .before .before .before .before .before .before .before .before .before .before .reach .result) (c .before .before .before .before .before .before .before .before .before .before .before .before .before .before .before .before .before .before .before .before .loop .inv .1) (c .before .before .before .before .before .before .before .before .before .before .before .before .before .before .before .before .before .week-on .ensures .1) (c .before .before .before .before .before .before .before .before .before .before .before .before .before .before .before .before .before .before .before .before .before .reach .ensures .0) (c .before .before .before .before .before .before .before .before .before .before .before .before .before .before .before .before .before .before .before .before .loop .inv .0 .upto) (c .before .before .before .before .before .before .before .before .before .before .before .before .before .before .before .before .before .week-on .ensures .0)) .order) ((ahead-of (wayOf (c .before .before .before .before .before .before .before .before .before .before .before .before .before .before .before .before .before .before .before .before .before .before .before .before .before .before .before .args .back)) (nanos (c .before .before .before .before .before .before .before .before .before .before .before .before .before .before .before .before .before .before .before .before .before .before .before .before .before .before .before .args .t)) _ _ (c .before .before .before .before .before .before .before .before .before .before .before .before .before .before .before .before .before .before .before .before .before .reach .result) (c .before .before .before .before .before .before .before .before .before .before .before .before .before .before .before .before .before .before .before .before .loop .inv .1) (c .before .before .before .before .before .before .before .before .before .before .before .before .before .before .before .before .before .week-on .ensures .1) (c .before .before .before .before .before .before .before .before .before .before .before .before .before .before .before .before .before .before .before .before .before .reach .ensures .0) (c .before .before .before .before .before .before .before .before .before .before .before .before .before .before .before .before .before .before .before .before .loop .inv .0 .upto) (c .before .before .before .before .before .before .before .before .before .before .before .before .before .before .before .before .before .week-on .ensures .0)) .near)) _ _ (looked _ _ (wayOf (c .before .before .before .before .before .before .before .before .before .before .before .before .before .before .before .before .before .before .before .before .before .before .before .before .before .before .before .args .back)) _ _ _ _ _ _ _ _ (c .before .known .given .1) (c .before .before .before .period-in-window .ensures .0) (c .before .before .before .before .before .width .ensures) _ (c .before .before .before .before .before .before .before .before .before .before .before .before .before .before .before .before .before .before .before .before .loop .inv .0 .upto) (c .before .before .before .before .before .before .before .before .before .before .before .before .before .before .before .before .before .week-on .ensures .0) (c .before .before .before .before .before .before .before .before .before .before .before .before .before .before .before .before .place .ensures .1) (c .before .before .before .before .before .before .before .before .before .before .before .before .working-into .ensures .0))) .2) (c .before .before .before .before .before .before .before .before .before .before .before .before .before .before .before .before .before .before .before .before .before .reach .ensures .1)
 
 cut-requires : tie.Need-cut-requires Inv-loop μ-loop
-cut-requires c κs = ((growing-exact (c .before .before .before .before .before .period-in-window .ensures .1) (c .before .before .before .known .given .1)) .0, (growing-exact (c .before .before .before .before .before .period-in-window .ensures .1) (c .before .before .before .known .given .1)) .1, omega arith, cut-fits _ _ _ _ ((growing-upto _ _ _ _ _ _ _ (c .before .before .before .before .before .before .before .before .before .before .before .before .before .before .before .before .before .before .before .before .before .before .loop .inv .0) (ltb-true (size (c .before .before .before .before .before .before .before .before .before .before .before .before .before .before .before .before .before .before .before .before .before .before .loop .x)) (size (c .before .before .before .before .before .before .before .before .before .before .before .before .before .before .before .before .before .before .before .before .before .before .before .reach .result)) (sym (c .before .before .before .before .before .before .before .before .before .before .before .before .before .before .before .before .before .before .before .before .before .less .ensures) ∙ (c .before .before .before .before .before .before .before .before .before .before .before .before .before .before .before .before .before .before .before .before .if1 .taken))) _ (c .before .before .before .before .before .before .before .before .before .before .before .before .before .before .before .before .before .before .before .week-on .ensures .0) (ahead-inside _ _ _ _ _ ((ahead-of (wayOf (c .before .before .before .before .before .before .before .before .before .before .before .before .before .before .before .before .before .before .before .before .before .before .before .before .before .before .before .before .before .args .back)) (nanos (c .before .before .before .before .before .before .before .before .before .before .before .before .before .before .before .before .before .before .before .before .before .before .before .before .before .before .before .before .before .args .t)) _ _ (c .before .before .before .before .before .before .before .before .before .before .before .before .before .before .before .before .before .before .before .before .before .before .before .reach .result) (c .before .before .before .before .before .before .before .before .before .before .before .before .before .before .before .before .before .before .before .before .before .before .loop .inv .1) (c .before .before .before .before .before .before .before .before .before .before .before .before .before .before .before .before .before .before .before .week-on .ensures .1) (c .before .before .before .before .before .before .before .before .before .before .before .before .before .before .before .before .before .before .before .before .before .before .before .reach .ensures .0) (c .before .before .before .before .before .before .before .before .before .before .before .before .before .before .before .before .before .before .before .before .before .before .loop .inv .0 .upto) (c .before .before .before .before .before .before .before .before .before .before .before .before .before .before .before .before .before .before .before .week-on .ensures .0)) .order) ((ahead-of (wayOf (c .before .before .before .before .before .before .before .before .before .before .before .before .before .before .before .before .before .before .before .before .before .before .before .before .before .before .before .before .before .args .back)) (nanos (c .before .before .before .before .before .before .before .before .before .before .before .before .before .before .before .before .before .before .before .before .before .before .before .before .before .before .before .before .before .args .t)) _ _ (c .before .before .before .before .before .before .before .before .before .before .before .before .before .before .before .before .before .before .before .before .before .before .before .reach .result) (c .before .before .before .before .before .before .before .before .before .before .before .before .before .before .before .before .before .before .before .before .before .before .loop .inv .1) (c .before .before .before .before .before .before .before .before .before .before .before .before .before .before .before .before .before .before .before .week-on .ensures .1) (c .before .before .before .before .before .before .before .before .before .before .before .before .before .before .before .before .before .before .before .before .before .before .before .reach .ensures .0) (c .before .before .before .before .before .before .before .before .before .before .before .before .before .before .before .before .before .before .before .before .before .before .loop .inv .0 .upto) (c .before .before .before .before .before .before .before .before .before .before .before .before .before .before .before .before .before .before .before .week-on .ensures .0)) .near)) _ _ (looked _ _ (wayOf (c .before .before .before .before .before .before .before .before .before .before .before .before .before .before .before .before .before .before .before .before .before .before .before .before .before .before .before .before .before .args .back)) _ _ _ _ _ _ _ _ (c .before .before .before .known .given .1) (c .before .before .before .before .before .period-in-window .ensures .0) (c .before .before .before .before .before .before .before .width .ensures) _ (c .before .before .before .before .before .before .before .before .before .before .before .before .before .before .before .before .before .before .before .before .before .before .loop .inv .0 .upto) (c .before .before .before .before .before .before .before .before .before .before .before .before .before .before .before .before .before .before .before .week-on .ensures .0) (c .before .before .before .before .before .before .before .before .before .before .before .before .before .before .before .before .before .before .place .ensures .1) (c .before .before .before .before .before .before .before .before .before .before .before .before .before .before .working-into .ensures .0))) .0, (growing-upto _ _ _ _ _ _ _ (c .before .before .before .before .before .before .before .before .before .before .before .before .before .before .before .before .before .before .before .before .before .before .loop .inv .0) (ltb-true (size (c .before .before .before .before .before .before .before .before .before .before .before .before .before .before .before .before .before .before .before .before .before .before .loop .x)) (size (c .before .before .before .before .before .before .before .before .before .before .before .before .before .before .before .before .before .before .before .before .before .before .before .reach .result)) (sym (c .before .before .before .before .before .before .before .before .before .before .before .before .before .before .before .before .before .before .before .before .before .less .ensures) ∙ (c .before .before .before .before .before .before .before .before .before .before .before .before .before .before .before .before .before .before .before .before .if1 .taken))) _ (c .before .before .before .before .before .before .before .before .before .before .before .before .before .before .before .before .before .before .before .week-on .ensures .0) (ahead-inside _ _ _ _ _ ((ahead-of (wayOf (c .before .before .before .before .before .before .before .before .before .before .before .before .before .before .before .before .before .before .before .before .before .before .before .before .before .before .before .before .before .args .back)) (nanos (c .before .before .before .before .before .before .before .before .before .before .before .before .before .before .before .before .before .before .before .before .before .before .before .before .before .before .before .before .before .args .t)) _ _ (c .before .before .before .before .before .before .before .before .before .before .before .before .before .before .before .before .before .before .before .before .before .before .before .reach .result) (c .before .before .before .before .before .before .before .before .before .before .before .before .before .before .before .before .before .before .before .before .before .before .loop .inv .1) (c .before .before .before .before .before .before .before .before .before .before .before .before .before .before .before .before .before .before .before .week-on .ensures .1) (c .before .before .before .before .before .before .before .before .before .before .before .before .before .before .before .before .before .before .before .before .before .before .before .reach .ensures .0) (c .before .before .before .before .before .before .before .before .before .before .before .before .before .before .before .before .before .before .before .before .before .before .loop .inv .0 .upto) (c .before .before .before .before .before .before .before .before .before .before .before .before .before .before .before .before .before .before .before .week-on .ensures .0)) .order) ((ahead-of (wayOf (c .before .before .before .before .before .before .before .before .before .before .before .before .before .before .before .before .before .before .before .before .before .before .before .before .before .before .before .before .before .args .back)) (nanos (c .before .before .before .before .before .before .before .before .before .before .before .before .before .before .before .before .before .before .before .before .before .before .before .before .before .before .before .before .before .args .t)) _ _ (c .before .before .before .before .before .before .before .before .before .before .before .before .before .before .before .before .before .before .before .before .before .before .before .reach .result) (c .before .before .before .before .before .before .before .before .before .before .before .before .before .before .before .before .before .before .before .before .before .before .loop .inv .1) (c .before .before .before .before .before .before .before .before .before .before .before .before .before .before .before .before .before .before .before .week-on .ensures .1) (c .before .before .before .before .before .before .before .before .before .before .before .before .before .before .before .before .before .before .before .before .before .before .before .reach .ensures .0) (c .before .before .before .before .before .before .before .before .before .before .before .before .before .before .before .before .before .before .before .before .before .before .loop .inv .0 .upto) (c .before .before .before .before .before .before .before .before .before .before .before .before .before .before .before .before .before .before .before .week-on .ensures .0)) .near)) _ _ (looked _ _ (wayOf (c .before .before .before .before .before .before .before .before .before .before .before .before .before .before .before .before .before .before .before .before .before .before .before .before .before .before .before .before .before .args .back)) _ _ _ _ _ _ _ _ (c .before .before .before .known .given .1) (c .before .before .before .before .before .period-in-window .ensures .0) (c .before .before .before .before .before .before .before .width .ensures) _ (c .before .before .before .before .before .before .before .before .before .before .before .before .before .before .before .before .before .before .before .before .before .before .loop .inv .0 .upto) (c .before .before .before .before .before .before .before .before .before .before .before .before .before .before .before .before .before .before .before .week-on .ensures .0) (c .before .before .before .before .before .before .before .before .before .before .before .before .before .before .before .before .before .before .place .ensures .1) (c .before .before .before .before .before .before .before .before .before .before .before .before .before .before .working-into .ensures .0))) .2) (c .before .before .before .before .before .before .before .before .before .before .before .before .before .before .before .before .before .before .before .before .before .before .before .reach .ensures .1) (c .before .before .before .before .before .before .before .before .before .before .before .before .before .before .before .before .before .before .before .before .before .before .before .before .before .before .before .before .before .pre .0 .limit))
+cut-requires c κs = ((growing-exact (c .before .before .before .before .before .period-in-window .ensures .1) (c .before .before .before .known .given .1)) .0, (growing-exact (c .before .before .before .before .before .period-in-window .ensures .1) (c .before .before .before .known .given .1)) .1, omega arith, cut-fits _ _ _ _ ((growing-upto _ _ _ _ _ _ _ (c .before .before .before .before .before .before .before .before .before .before .before .before .before .before .before .before .before .before .before .before .before .before .loop .inv .0) (ltb-true (nanos (c .before .before .before .before .before .before .before .before .before .before .before .before .before .before .before .before .before .before .before .before .before .before .loop .x)) (nanos (c .before .before .before .before .before .before .before .before .before .before .before .before .before .before .before .before .before .before .before .before .before .before .before .reach .result)) (sym (c .before .before .before .before .before .before .before .before .before .before .before .before .before .before .before .before .before .before .before .before .before .precedes .ensures) ∙ (c .before .before .before .before .before .before .before .before .before .before .before .before .before .before .before .before .before .before .before .before .if1 .taken))) _ (c .before .before .before .before .before .before .before .before .before .before .before .before .before .before .before .before .before .before .before .week-on .ensures .0) (ahead-inside _ _ _ _ _ ((ahead-of (wayOf (c .before .before .before .before .before .before .before .before .before .before .before .before .before .before .before .before .before .before .before .before .before .before .before .before .before .before .before .before .before .args .back)) (nanos (c .before .before .before .before .before .before .before .before .before .before .before .before .before .before .before .before .before .before .before .before .before .before .before .before .before .before .before .before .before .args .t)) _ _ (c .before .before .before .before .before .before .before .before .before .before .before .before .before .before .before .before .before .before .before .before .before .before .before .reach .result) (c .before .before .before .before .before .before .before .before .before .before .before .before .before .before .before .before .before .before .before .before .before .before .loop .inv .1) (c .before .before .before .before .before .before .before .before .before .before .before .before .before .before .before .before .before .before .before .week-on .ensures .1) (c .before .before .before .before .before .before .before .before .before .before .before .before .before .before .before .before .before .before .before .before .before .before .before .reach .ensures .0) (c .before .before .before .before .before .before .before .before .before .before .before .before .before .before .before .before .before .before .before .before .before .before .loop .inv .0 .upto) (c .before .before .before .before .before .before .before .before .before .before .before .before .before .before .before .before .before .before .before .week-on .ensures .0)) .order) ((ahead-of (wayOf (c .before .before .before .before .before .before .before .before .before .before .before .before .before .before .before .before .before .before .before .before .before .before .before .before .before .before .before .before .before .args .back)) (nanos (c .before .before .before .before .before .before .before .before .before .before .before .before .before .before .before .before .before .before .before .before .before .before .before .before .before .before .before .before .before .args .t)) _ _ (c .before .before .before .before .before .before .before .before .before .before .before .before .before .before .before .before .before .before .before .before .before .before .before .reach .result) (c .before .before .before .before .before .before .before .before .before .before .before .before .before .before .before .before .before .before .before .before .before .before .loop .inv .1) (c .before .before .before .before .before .before .before .before .before .before .before .before .before .before .before .before .before .before .before .week-on .ensures .1) (c .before .before .before .before .before .before .before .before .before .before .before .before .before .before .before .before .before .before .before .before .before .before .before .reach .ensures .0) (c .before .before .before .before .before .before .before .before .before .before .before .before .before .before .before .before .before .before .before .before .before .before .loop .inv .0 .upto) (c .before .before .before .before .before .before .before .before .before .before .before .before .before .before .before .before .before .before .before .week-on .ensures .0)) .near)) _ _ (looked _ _ (wayOf (c .before .before .before .before .before .before .before .before .before .before .before .before .before .before .before .before .before .before .before .before .before .before .before .before .before .before .before .before .before .args .back)) _ _ _ _ _ _ _ _ (c .before .before .before .known .given .1) (c .before .before .before .before .before .period-in-window .ensures .0) (c .before .before .before .before .before .before .before .width .ensures) _ (c .before .before .before .before .before .before .before .before .before .before .before .before .before .before .before .before .before .before .before .before .before .before .loop .inv .0 .upto) (c .before .before .before .before .before .before .before .before .before .before .before .before .before .before .before .before .before .before .before .week-on .ensures .0) (c .before .before .before .before .before .before .before .before .before .before .before .before .before .before .before .before .before .before .place .ensures .1) (c .before .before .before .before .before .before .before .before .before .before .before .before .before .before .working-into .ensures .0))) .0, (growing-upto _ _ _ _ _ _ _ (c .before .before .before .before .before .before .before .before .before .before .before .before .before .before .before .before .before .before .before .before .before .before .loop .inv .0) (ltb-true (nanos (c .before .before .before .before .before .before .before .before .before .before .before .before .before .before .before .before .before .before .before .before .before .before .loop .x)) (nanos (c .before .before .before .before .before .before .before .before .before .before .before .before .before .before .before .before .before .before .before .before .before .before .before .reach .result)) (sym (c .before .before .before .before .before .before .before .before .before .before .before .before .before .before .before .before .before .before .before .before .before .precedes .ensures) ∙ (c .before .before .before .before .before .before .before .before .before .before .before .before .before .before .before .before .before .before .before .before .if1 .taken))) _ (c .before .before .before .before .before .before .before .before .before .before .before .before .before .before .before .before .before .before .before .week-on .ensures .0) (ahead-inside _ _ _ _ _ ((ahead-of (wayOf (c .before .before .before .before .before .before .before .before .before .before .before .before .before .before .before .before .before .before .before .before .before .before .before .before .before .before .before .before .before .args .back)) (nanos (c .before .before .before .before .before .before .before .before .before .before .before .before .before .before .before .before .before .before .before .before .before .before .before .before .before .before .before .before .before .args .t)) _ _ (c .before .before .before .before .before .before .before .before .before .before .before .before .before .before .before .before .before .before .before .before .before .before .before .reach .result) (c .before .before .before .before .before .before .before .before .before .before .before .before .before .before .before .before .before .before .before .before .before .before .loop .inv .1) (c .before .before .before .before .before .before .before .before .before .before .before .before .before .before .before .before .before .before .before .week-on .ensures .1) (c .before .before .before .before .before .before .before .before .before .before .before .before .before .before .before .before .before .before .before .before .before .before .before .reach .ensures .0) (c .before .before .before .before .before .before .before .before .before .before .before .before .before .before .before .before .before .before .before .before .before .before .loop .inv .0 .upto) (c .before .before .before .before .before .before .before .before .before .before .before .before .before .before .before .before .before .before .before .week-on .ensures .0)) .order) ((ahead-of (wayOf (c .before .before .before .before .before .before .before .before .before .before .before .before .before .before .before .before .before .before .before .before .before .before .before .before .before .before .before .before .before .args .back)) (nanos (c .before .before .before .before .before .before .before .before .before .before .before .before .before .before .before .before .before .before .before .before .before .before .before .before .before .before .before .before .before .args .t)) _ _ (c .before .before .before .before .before .before .before .before .before .before .before .before .before .before .before .before .before .before .before .before .before .before .before .reach .result) (c .before .before .before .before .before .before .before .before .before .before .before .before .before .before .before .before .before .before .before .before .before .before .loop .inv .1) (c .before .before .before .before .before .before .before .before .before .before .before .before .before .before .before .before .before .before .before .week-on .ensures .1) (c .before .before .before .before .before .before .before .before .before .before .before .before .before .before .before .before .before .before .before .before .before .before .before .reach .ensures .0) (c .before .before .before .before .before .before .before .before .before .before .before .before .before .before .before .before .before .before .before .before .before .before .loop .inv .0 .upto) (c .before .before .before .before .before .before .before .before .before .before .before .before .before .before .before .before .before .before .before .week-on .ensures .0)) .near)) _ _ (looked _ _ (wayOf (c .before .before .before .before .before .before .before .before .before .before .before .before .before .before .before .before .before .before .before .before .before .before .before .before .before .before .before .before .before .args .back)) _ _ _ _ _ _ _ _ (c .before .before .before .known .given .1) (c .before .before .before .before .before .period-in-window .ensures .0) (c .before .before .before .before .before .before .before .width .ensures) _ (c .before .before .before .before .before .before .before .before .before .before .before .before .before .before .before .before .before .before .before .before .before .before .loop .inv .0 .upto) (c .before .before .before .before .before .before .before .before .before .before .before .before .before .before .before .before .before .before .before .week-on .ensures .0) (c .before .before .before .before .before .before .before .before .before .before .before .before .before .before .before .before .before .before .place .ensures .1) (c .before .before .before .before .before .before .before .before .before .before .before .before .before .before .working-into .ensures .0))) .2) (c .before .before .before .before .before .before .before .before .before .before .before .before .before .before .before .before .before .before .before .before .before .before .before .reach .ensures .1) (c .before .before .before .before .before .before .before .before .before .before .before .before .before .before .before .before .before .before .before .before .before .before .before .before .before .before .before .before .before .pre .0 .limit))
 
 same-length-4 : tie.Need-same-length-4 Inv-loop μ-loop
 same-length-4 c = (c .before .before .before .before .before .before .before .before .before .before .before .before .before .before .on .given) ∙ (c .before .before .before .before .before .before .before .before .before .before .before .before .before .before .before .before .before .before .before .before .before .before .before .loop .inv .4)
@@ -92,19 +91,19 @@ same-length-6 : tie.Need-same-length-6 Inv-loop μ-loop
 same-length-6 c = (c .before .before .before .before .before .before .before .before .before .before .out .given) ∙ (c .before .before .before .before .before .before .before .before .before .before .before .before .before .before .before .before .before .before .before .before .before .before .before .loop .inv .6)
 
 returns-2 : tie.Need-returns-2 Inv-loop μ-loop
-returns-2 c = (walked _ _ _ _ _ (limit-is _) (c .before .before .before .before .before .before .before .before .before .before .before .before .before .before .before .before .before .before .before .before .before .before .before .before .reach .ensures .0) _ (walking-whole _ _ _ _ _ _ _ (c .before .before .before .before .before .before .before .before .before .before .before .before .before .before .before .before .before .before .before .before .before .before .before .loop .inv .0) (ltb-true (size (c .before .before .before .before .before .before .before .before .before .before .before .before .before .before .before .before .before .before .before .before .before .before .before .loop .x)) (size (c .before .before .before .before .before .before .before .before .before .before .before .before .before .before .before .before .before .before .before .before .before .before .before .before .reach .result)) (sym (c .before .before .before .before .before .before .before .before .before .before .before .before .before .before .before .before .before .before .before .before .before .before .less .ensures) ∙ (c .before .before .before .before .before .before .before .before .before .before .before .before .before .before .before .before .before .before .before .before .before .if1 .taken))) _ (c .before .before .before .before .before .before .before .before .before .before .before .before .before .before .before .before .before .before .before .before .week-on .ensures .0) (ahead-inside _ _ _ _ _ ((ahead-of (wayOf (c .before .before .before .before .before .before .before .before .before .before .before .before .before .before .before .before .before .before .before .before .before .before .before .before .before .before .before .before .before .before .args .back)) (nanos (c .before .before .before .before .before .before .before .before .before .before .before .before .before .before .before .before .before .before .before .before .before .before .before .before .before .before .before .before .before .before .args .t)) _ _ (c .before .before .before .before .before .before .before .before .before .before .before .before .before .before .before .before .before .before .before .before .before .before .before .before .reach .result) (c .before .before .before .before .before .before .before .before .before .before .before .before .before .before .before .before .before .before .before .before .before .before .before .loop .inv .1) (c .before .before .before .before .before .before .before .before .before .before .before .before .before .before .before .before .before .before .before .before .week-on .ensures .1) (c .before .before .before .before .before .before .before .before .before .before .before .before .before .before .before .before .before .before .before .before .before .before .before .before .reach .ensures .0) (c .before .before .before .before .before .before .before .before .before .before .before .before .before .before .before .before .before .before .before .before .before .before .before .loop .inv .0 .upto) (c .before .before .before .before .before .before .before .before .before .before .before .before .before .before .before .before .before .before .before .before .week-on .ensures .0)) .order) ((ahead-of (wayOf (c .before .before .before .before .before .before .before .before .before .before .before .before .before .before .before .before .before .before .before .before .before .before .before .before .before .before .before .before .before .before .args .back)) (nanos (c .before .before .before .before .before .before .before .before .before .before .before .before .before .before .before .before .before .before .before .before .before .before .before .before .before .before .before .before .before .before .args .t)) _ _ (c .before .before .before .before .before .before .before .before .before .before .before .before .before .before .before .before .before .before .before .before .before .before .before .before .reach .result) (c .before .before .before .before .before .before .before .before .before .before .before .before .before .before .before .before .before .before .before .before .before .before .before .loop .inv .1) (c .before .before .before .before .before .before .before .before .before .before .before .before .before .before .before .before .before .before .before .before .week-on .ensures .1) (c .before .before .before .before .before .before .before .before .before .before .before .before .before .before .before .before .before .before .before .before .before .before .before .before .reach .ensures .0) (c .before .before .before .before .before .before .before .before .before .before .before .before .before .before .before .before .before .before .before .before .before .before .before .loop .inv .0 .upto) (c .before .before .before .before .before .before .before .before .before .before .before .before .before .before .before .before .before .before .before .before .week-on .ensures .0)) .near)) _ _ (looked _ _ (wayOf (c .before .before .before .before .before .before .before .before .before .before .before .before .before .before .before .before .before .before .before .before .before .before .before .before .before .before .before .before .before .before .args .back)) _ _ _ _ _ _ _ _ (c .before .before .before .before .known .given .1) (c .before .before .before .before .before .before .period-in-window .ensures .0) (c .before .before .before .before .before .before .before .before .width .ensures) _ (c .before .before .before .before .before .before .before .before .before .before .before .before .before .before .before .before .before .before .before .before .before .before .before .loop .inv .0 .upto) (c .before .before .before .before .before .before .before .before .before .before .before .before .before .before .before .before .before .before .before .before .week-on .ensures .0) (c .before .before .before .before .before .before .before .before .before .before .before .before .before .before .before .before .before .before .before .place .ensures .1) (c .before .before .before .before .before .before .before .before .before .before .before .before .before .before .before .working-into .ensures .0)) (c .before .before .is-whole .ensures) (c .before .if3 .taken) _ (c .cut .ensures .0)), found-period (fits _ _ _ _ _ _ _ ((growing-exact (c .before .before .before .before .before .before .period-in-window .ensures .1) (c .before .before .before .before .known .given .1)) .0) (c .cut .ensures .1) ((growing-upto _ _ _ _ _ _ _ (c .before .before .before .before .before .before .before .before .before .before .before .before .before .before .before .before .before .before .before .before .before .before .before .loop .inv .0) (ltb-true (size (c .before .before .before .before .before .before .before .before .before .before .before .before .before .before .before .before .before .before .before .before .before .before .before .loop .x)) (size (c .before .before .before .before .before .before .before .before .before .before .before .before .before .before .before .before .before .before .before .before .before .before .before .before .reach .result)) (sym (c .before .before .before .before .before .before .before .before .before .before .before .before .before .before .before .before .before .before .before .before .before .before .less .ensures) ∙ (c .before .before .before .before .before .before .before .before .before .before .before .before .before .before .before .before .before .before .before .before .before .if1 .taken))) _ (c .before .before .before .before .before .before .before .before .before .before .before .before .before .before .before .before .before .before .before .before .week-on .ensures .0) (ahead-inside _ _ _ _ _ ((ahead-of (wayOf (c .before .before .before .before .before .before .before .before .before .before .before .before .before .before .before .before .before .before .before .before .before .before .before .before .before .before .before .before .before .before .args .back)) (nanos (c .before .before .before .before .before .before .before .before .before .before .before .before .before .before .before .before .before .before .before .before .before .before .before .before .before .before .before .before .before .before .args .t)) _ _ (c .before .before .before .before .before .before .before .before .before .before .before .before .before .before .before .before .before .before .before .before .before .before .before .before .reach .result) (c .before .before .before .before .before .before .before .before .before .before .before .before .before .before .before .before .before .before .before .before .before .before .before .loop .inv .1) (c .before .before .before .before .before .before .before .before .before .before .before .before .before .before .before .before .before .before .before .before .week-on .ensures .1) (c .before .before .before .before .before .before .before .before .before .before .before .before .before .before .before .before .before .before .before .before .before .before .before .before .reach .ensures .0) (c .before .before .before .before .before .before .before .before .before .before .before .before .before .before .before .before .before .before .before .before .before .before .before .loop .inv .0 .upto) (c .before .before .before .before .before .before .before .before .before .before .before .before .before .before .before .before .before .before .before .before .week-on .ensures .0)) .order) ((ahead-of (wayOf (c .before .before .before .before .before .before .before .before .before .before .before .before .before .before .before .before .before .before .before .before .before .before .before .before .before .before .before .before .before .before .args .back)) (nanos (c .before .before .before .before .before .before .before .before .before .before .before .before .before .before .before .before .before .before .before .before .before .before .before .before .before .before .before .before .before .before .args .t)) _ _ (c .before .before .before .before .before .before .before .before .before .before .before .before .before .before .before .before .before .before .before .before .before .before .before .before .reach .result) (c .before .before .before .before .before .before .before .before .before .before .before .before .before .before .before .before .before .before .before .before .before .before .before .loop .inv .1) (c .before .before .before .before .before .before .before .before .before .before .before .before .before .before .before .before .before .before .before .before .week-on .ensures .1) (c .before .before .before .before .before .before .before .before .before .before .before .before .before .before .before .before .before .before .before .before .before .before .before .before .reach .ensures .0) (c .before .before .before .before .before .before .before .before .before .before .before .before .before .before .before .before .before .before .before .before .before .before .before .loop .inv .0 .upto) (c .before .before .before .before .before .before .before .before .before .before .before .before .before .before .before .before .before .before .before .before .week-on .ensures .0)) .near)) _ _ (looked _ _ (wayOf (c .before .before .before .before .before .before .before .before .before .before .before .before .before .before .before .before .before .before .before .before .before .before .before .before .before .before .before .before .before .before .args .back)) _ _ _ _ _ _ _ _ (c .before .before .before .before .known .given .1) (c .before .before .before .before .before .before .period-in-window .ensures .0) (c .before .before .before .before .before .before .before .before .width .ensures) _ (c .before .before .before .before .before .before .before .before .before .before .before .before .before .before .before .before .before .before .before .before .before .before .before .loop .inv .0 .upto) (c .before .before .before .before .before .before .before .before .before .before .before .before .before .before .before .before .before .before .before .before .week-on .ensures .0) (c .before .before .before .before .before .before .before .before .before .before .before .before .before .before .before .before .before .before .before .place .ensures .1) (c .before .before .before .before .before .before .before .before .before .before .before .before .before .before .before .working-into .ensures .0))) .0, (growing-upto _ _ _ _ _ _ _ (c .before .before .before .before .before .before .before .before .before .before .before .before .before .before .before .before .before .before .before .before .before .before .before .loop .inv .0) (ltb-true (size (c .before .before .before .before .before .before .before .before .before .before .before .before .before .before .before .before .before .before .before .before .before .before .before .loop .x)) (size (c .before .before .before .before .before .before .before .before .before .before .before .before .before .before .before .before .before .before .before .before .before .before .before .before .reach .result)) (sym (c .before .before .before .before .before .before .before .before .before .before .before .before .before .before .before .before .before .before .before .before .before .before .less .ensures) ∙ (c .before .before .before .before .before .before .before .before .before .before .before .before .before .before .before .before .before .before .before .before .before .if1 .taken))) _ (c .before .before .before .before .before .before .before .before .before .before .before .before .before .before .before .before .before .before .before .before .week-on .ensures .0) (ahead-inside _ _ _ _ _ ((ahead-of (wayOf (c .before .before .before .before .before .before .before .before .before .before .before .before .before .before .before .before .before .before .before .before .before .before .before .before .before .before .before .before .before .before .args .back)) (nanos (c .before .before .before .before .before .before .before .before .before .before .before .before .before .before .before .before .before .before .before .before .before .before .before .before .before .before .before .before .before .before .args .t)) _ _ (c .before .before .before .before .before .before .before .before .before .before .before .before .before .before .before .before .before .before .before .before .before .before .before .before .reach .result) (c .before .before .before .before .before .before .before .before .before .before .before .before .before .before .before .before .before .before .before .before .before .before .before .loop .inv .1) (c .before .before .before .before .before .before .before .before .before .before .before .before .before .before .before .before .before .before .before .before .week-on .ensures .1) (c .before .before .before .before .before .before .before .before .before .before .before .before .before .before .before .before .before .before .before .before .before .before .before .before .reach .ensures .0) (c .before .before .before .before .before .before .before .before .before .before .before .before .before .before .before .before .before .before .before .before .before .before .before .loop .inv .0 .upto) (c .before .before .before .before .before .before .before .before .before .before .before .before .before .before .before .before .before .before .before .before .week-on .ensures .0)) .order) ((ahead-of (wayOf (c .before .before .before .before .before .before .before .before .before .before .before .before .before .before .before .before .before .before .before .before .before .before .before .before .before .before .before .before .before .before .args .back)) (nanos (c .before .before .before .before .before .before .before .before .before .before .before .before .before .before .before .before .before .before .before .before .before .before .before .before .before .before .before .before .before .before .args .t)) _ _ (c .before .before .before .before .before .before .before .before .before .before .before .before .before .before .before .before .before .before .before .before .before .before .before .before .reach .result) (c .before .before .before .before .before .before .before .before .before .before .before .before .before .before .before .before .before .before .before .before .before .before .before .loop .inv .1) (c .before .before .before .before .before .before .before .before .before .before .before .before .before .before .before .before .before .before .before .before .week-on .ensures .1) (c .before .before .before .before .before .before .before .before .before .before .before .before .before .before .before .before .before .before .before .before .before .before .before .before .reach .ensures .0) (c .before .before .before .before .before .before .before .before .before .before .before .before .before .before .before .before .before .before .before .before .before .before .before .loop .inv .0 .upto) (c .before .before .before .before .before .before .before .before .before .before .before .before .before .before .before .before .before .before .before .before .week-on .ensures .0)) .near)) _ _ (looked _ _ (wayOf (c .before .before .before .before .before .before .before .before .before .before .before .before .before .before .before .before .before .before .before .before .before .before .before .before .before .before .before .before .before .before .args .back)) _ _ _ _ _ _ _ _ (c .before .before .before .before .known .given .1) (c .before .before .before .before .before .before .period-in-window .ensures .0) (c .before .before .before .before .before .before .before .before .width .ensures) _ (c .before .before .before .before .before .before .before .before .before .before .before .before .before .before .before .before .before .before .before .before .before .before .before .loop .inv .0 .upto) (c .before .before .before .before .before .before .before .before .before .before .before .before .before .before .before .before .before .before .before .before .week-on .ensures .0) (c .before .before .before .before .before .before .before .before .before .before .before .before .before .before .before .before .before .before .before .place .ensures .1) (c .before .before .before .before .before .before .before .before .before .before .before .before .before .before .before .working-into .ensures .0))) .2) (c .before .before .before .before .before .before .before .before .before .before .before .before .before .before .before .before .before .before .before .before .before .before .before .before .reach .ensures .0) (c .cut .ensures .0)))
+returns-2 c = (walked _ _ _ _ _ (limit-is _) (c .before .before .before .before .before .before .before .before .before .before .before .before .before .before .before .before .before .before .before .before .before .before .before .before .reach .ensures .0) _ (walking-whole _ _ _ _ _ _ _ (c .before .before .before .before .before .before .before .before .before .before .before .before .before .before .before .before .before .before .before .before .before .before .before .loop .inv .0) (ltb-true (nanos (c .before .before .before .before .before .before .before .before .before .before .before .before .before .before .before .before .before .before .before .before .before .before .before .loop .x)) (nanos (c .before .before .before .before .before .before .before .before .before .before .before .before .before .before .before .before .before .before .before .before .before .before .before .before .reach .result)) (sym (c .before .before .before .before .before .before .before .before .before .before .before .before .before .before .before .before .before .before .before .before .before .before .precedes .ensures) ∙ (c .before .before .before .before .before .before .before .before .before .before .before .before .before .before .before .before .before .before .before .before .before .if1 .taken))) _ (c .before .before .before .before .before .before .before .before .before .before .before .before .before .before .before .before .before .before .before .before .week-on .ensures .0) (ahead-inside _ _ _ _ _ ((ahead-of (wayOf (c .before .before .before .before .before .before .before .before .before .before .before .before .before .before .before .before .before .before .before .before .before .before .before .before .before .before .before .before .before .before .args .back)) (nanos (c .before .before .before .before .before .before .before .before .before .before .before .before .before .before .before .before .before .before .before .before .before .before .before .before .before .before .before .before .before .before .args .t)) _ _ (c .before .before .before .before .before .before .before .before .before .before .before .before .before .before .before .before .before .before .before .before .before .before .before .before .reach .result) (c .before .before .before .before .before .before .before .before .before .before .before .before .before .before .before .before .before .before .before .before .before .before .before .loop .inv .1) (c .before .before .before .before .before .before .before .before .before .before .before .before .before .before .before .before .before .before .before .before .week-on .ensures .1) (c .before .before .before .before .before .before .before .before .before .before .before .before .before .before .before .before .before .before .before .before .before .before .before .before .reach .ensures .0) (c .before .before .before .before .before .before .before .before .before .before .before .before .before .before .before .before .before .before .before .before .before .before .before .loop .inv .0 .upto) (c .before .before .before .before .before .before .before .before .before .before .before .before .before .before .before .before .before .before .before .before .week-on .ensures .0)) .order) ((ahead-of (wayOf (c .before .before .before .before .before .before .before .before .before .before .before .before .before .before .before .before .before .before .before .before .before .before .before .before .before .before .before .before .before .before .args .back)) (nanos (c .before .before .before .before .before .before .before .before .before .before .before .before .before .before .before .before .before .before .before .before .before .before .before .before .before .before .before .before .before .before .args .t)) _ _ (c .before .before .before .before .before .before .before .before .before .before .before .before .before .before .before .before .before .before .before .before .before .before .before .before .reach .result) (c .before .before .before .before .before .before .before .before .before .before .before .before .before .before .before .before .before .before .before .before .before .before .before .loop .inv .1) (c .before .before .before .before .before .before .before .before .before .before .before .before .before .before .before .before .before .before .before .before .week-on .ensures .1) (c .before .before .before .before .before .before .before .before .before .before .before .before .before .before .before .before .before .before .before .before .before .before .before .before .reach .ensures .0) (c .before .before .before .before .before .before .before .before .before .before .before .before .before .before .before .before .before .before .before .before .before .before .before .loop .inv .0 .upto) (c .before .before .before .before .before .before .before .before .before .before .before .before .before .before .before .before .before .before .before .before .week-on .ensures .0)) .near)) _ _ (looked _ _ (wayOf (c .before .before .before .before .before .before .before .before .before .before .before .before .before .before .before .before .before .before .before .before .before .before .before .before .before .before .before .before .before .before .args .back)) _ _ _ _ _ _ _ _ (c .before .before .before .before .known .given .1) (c .before .before .before .before .before .before .period-in-window .ensures .0) (c .before .before .before .before .before .before .before .before .width .ensures) _ (c .before .before .before .before .before .before .before .before .before .before .before .before .before .before .before .before .before .before .before .before .before .before .before .loop .inv .0 .upto) (c .before .before .before .before .before .before .before .before .before .before .before .before .before .before .before .before .before .before .before .before .week-on .ensures .0) (c .before .before .before .before .before .before .before .before .before .before .before .before .before .before .before .before .before .before .before .place .ensures .1) (c .before .before .before .before .before .before .before .before .before .before .before .before .before .before .before .working-into .ensures .0)) (c .before .before .is-whole .ensures) (c .before .if3 .taken) _ (c .cut .ensures .0)), found-period (fits _ _ _ _ _ _ _ ((growing-exact (c .before .before .before .before .before .before .period-in-window .ensures .1) (c .before .before .before .before .known .given .1)) .0) (c .cut .ensures .1) ((growing-upto _ _ _ _ _ _ _ (c .before .before .before .before .before .before .before .before .before .before .before .before .before .before .before .before .before .before .before .before .before .before .before .loop .inv .0) (ltb-true (nanos (c .before .before .before .before .before .before .before .before .before .before .before .before .before .before .before .before .before .before .before .before .before .before .before .loop .x)) (nanos (c .before .before .before .before .before .before .before .before .before .before .before .before .before .before .before .before .before .before .before .before .before .before .before .before .reach .result)) (sym (c .before .before .before .before .before .before .before .before .before .before .before .before .before .before .before .before .before .before .before .before .before .before .precedes .ensures) ∙ (c .before .before .before .before .before .before .before .before .before .before .before .before .before .before .before .before .before .before .before .before .before .if1 .taken))) _ (c .before .before .before .before .before .before .before .before .before .before .before .before .before .before .before .before .before .before .before .before .week-on .ensures .0) (ahead-inside _ _ _ _ _ ((ahead-of (wayOf (c .before .before .before .before .before .before .before .before .before .before .before .before .before .before .before .before .before .before .before .before .before .before .before .before .before .before .before .before .before .before .args .back)) (nanos (c .before .before .before .before .before .before .before .before .before .before .before .before .before .before .before .before .before .before .before .before .before .before .before .before .before .before .before .before .before .before .args .t)) _ _ (c .before .before .before .before .before .before .before .before .before .before .before .before .before .before .before .before .before .before .before .before .before .before .before .before .reach .result) (c .before .before .before .before .before .before .before .before .before .before .before .before .before .before .before .before .before .before .before .before .before .before .before .loop .inv .1) (c .before .before .before .before .before .before .before .before .before .before .before .before .before .before .before .before .before .before .before .before .week-on .ensures .1) (c .before .before .before .before .before .before .before .before .before .before .before .before .before .before .before .before .before .before .before .before .before .before .before .before .reach .ensures .0) (c .before .before .before .before .before .before .before .before .before .before .before .before .before .before .before .before .before .before .before .before .before .before .before .loop .inv .0 .upto) (c .before .before .before .before .before .before .before .before .before .before .before .before .before .before .before .before .before .before .before .before .week-on .ensures .0)) .order) ((ahead-of (wayOf (c .before .before .before .before .before .before .before .before .before .before .before .before .before .before .before .before .before .before .before .before .before .before .before .before .before .before .before .before .before .before .args .back)) (nanos (c .before .before .before .before .before .before .before .before .before .before .before .before .before .before .before .before .before .before .before .before .before .before .before .before .before .before .before .before .before .before .args .t)) _ _ (c .before .before .before .before .before .before .before .before .before .before .before .before .before .before .before .before .before .before .before .before .before .before .before .before .reach .result) (c .before .before .before .before .before .before .before .before .before .before .before .before .before .before .before .before .before .before .before .before .before .before .before .loop .inv .1) (c .before .before .before .before .before .before .before .before .before .before .before .before .before .before .before .before .before .before .before .before .week-on .ensures .1) (c .before .before .before .before .before .before .before .before .before .before .before .before .before .before .before .before .before .before .before .before .before .before .before .before .reach .ensures .0) (c .before .before .before .before .before .before .before .before .before .before .before .before .before .before .before .before .before .before .before .before .before .before .before .loop .inv .0 .upto) (c .before .before .before .before .before .before .before .before .before .before .before .before .before .before .before .before .before .before .before .before .week-on .ensures .0)) .near)) _ _ (looked _ _ (wayOf (c .before .before .before .before .before .before .before .before .before .before .before .before .before .before .before .before .before .before .before .before .before .before .before .before .before .before .before .before .before .before .args .back)) _ _ _ _ _ _ _ _ (c .before .before .before .before .known .given .1) (c .before .before .before .before .before .before .period-in-window .ensures .0) (c .before .before .before .before .before .before .before .before .width .ensures) _ (c .before .before .before .before .before .before .before .before .before .before .before .before .before .before .before .before .before .before .before .before .before .before .before .loop .inv .0 .upto) (c .before .before .before .before .before .before .before .before .before .before .before .before .before .before .before .before .before .before .before .before .week-on .ensures .0) (c .before .before .before .before .before .before .before .before .before .before .before .before .before .before .before .before .before .before .before .place .ensures .1) (c .before .before .before .before .before .before .before .before .before .before .before .before .before .before .before .working-into .ensures .0))) .0, (growing-upto _ _ _ _ _ _ _ (c .before .before .before .before .before .before .before .before .before .before .before .before .before .before .before .before .before .before .before .before .before .before .before .loop .inv .0) (ltb-true (nanos (c .before .before .before .before .before .before .before .before .before .before .before .before .before .before .before .before .before .before .before .before .before .before .before .loop .x)) (nanos (c .before .before .before .before .before .before .before .before .before .before .before .before .before .before .before .before .before .before .before .before .before .before .before .before .reach .result)) (sym (c .before .before .before .before .before .before .before .before .before .before .before .before .before .before .before .before .before .before .before .before .before .before .precedes .ensures) ∙ (c .before .before .before .before .before .before .before .before .before .before .before .before .before .before .before .before .before .before .before .before .before .if1 .taken))) _ (c .before .before .before .before .before .before .before .before .before .before .before .before .before .before .before .before .before .before .before .before .week-on .ensures .0) (ahead-inside _ _ _ _ _ ((ahead-of (wayOf (c .before .before .before .before .before .before .before .before .before .before .before .before .before .before .before .before .before .before .before .before .before .before .before .before .before .before .before .before .before .before .args .back)) (nanos (c .before .before .before .before .before .before .before .before .before .before .before .before .before .before .before .before .before .before .before .before .before .before .before .before .before .before .before .before .before .before .args .t)) _ _ (c .before .before .before .before .before .before .before .before .before .before .before .before .before .before .before .before .before .before .before .before .before .before .before .before .reach .result) (c .before .before .before .before .before .before .before .before .before .before .before .before .before .before .before .before .before .before .before .before .before .before .before .loop .inv .1) (c .before .before .before .before .before .before .before .before .before .before .before .before .before .before .before .before .before .before .before .before .week-on .ensures .1) (c .before .before .before .before .before .before .before .before .before .before .before .before .before .before .before .before .before .before .before .before .before .before .before .before .reach .ensures .0) (c .before .before .before .before .before .before .before .before .before .before .before .before .before .before .before .before .before .before .before .before .before .before .before .loop .inv .0 .upto) (c .before .before .before .before .before .before .before .before .before .before .before .before .before .before .before .before .before .before .before .before .week-on .ensures .0)) .order) ((ahead-of (wayOf (c .before .before .before .before .before .before .before .before .before .before .before .before .before .before .before .before .before .before .before .before .before .before .before .before .before .before .before .before .before .before .args .back)) (nanos (c .before .before .before .before .before .before .before .before .before .before .before .before .before .before .before .before .before .before .before .before .before .before .before .before .before .before .before .before .before .before .args .t)) _ _ (c .before .before .before .before .before .before .before .before .before .before .before .before .before .before .before .before .before .before .before .before .before .before .before .before .reach .result) (c .before .before .before .before .before .before .before .before .before .before .before .before .before .before .before .before .before .before .before .before .before .before .before .loop .inv .1) (c .before .before .before .before .before .before .before .before .before .before .before .before .before .before .before .before .before .before .before .before .week-on .ensures .1) (c .before .before .before .before .before .before .before .before .before .before .before .before .before .before .before .before .before .before .before .before .before .before .before .before .reach .ensures .0) (c .before .before .before .before .before .before .before .before .before .before .before .before .before .before .before .before .before .before .before .before .before .before .before .loop .inv .0 .upto) (c .before .before .before .before .before .before .before .before .before .before .before .before .before .before .before .before .before .before .before .before .week-on .ensures .0)) .near)) _ _ (looked _ _ (wayOf (c .before .before .before .before .before .before .before .before .before .before .before .before .before .before .before .before .before .before .before .before .before .before .before .before .before .before .before .before .before .before .args .back)) _ _ _ _ _ _ _ _ (c .before .before .before .before .known .given .1) (c .before .before .before .before .before .before .period-in-window .ensures .0) (c .before .before .before .before .before .before .before .before .width .ensures) _ (c .before .before .before .before .before .before .before .before .before .before .before .before .before .before .before .before .before .before .before .before .before .before .before .loop .inv .0 .upto) (c .before .before .before .before .before .before .before .before .before .before .before .before .before .before .before .before .before .before .before .before .week-on .ensures .0) (c .before .before .before .before .before .before .before .before .before .before .before .before .before .before .before .before .before .before .before .place .ensures .1) (c .before .before .before .before .before .before .before .before .before .before .before .before .before .before .before .working-into .ensures .0))) .2) (c .before .before .before .before .before .before .before .before .before .before .before .before .before .before .before .before .before .before .before .before .before .before .before .before .reach .ensures .0) (c .cut .ensures .0)))
 
 loop-less-2 : tie.Need-loop-less-2 Inv-loop μ-loop
-loop-less-2 c = let h = (ltb-true (size (c .before .before .before .before .before .before .before .before .before .before .before .before .before .before .before .before .before .before .before .before .before .before .loop .x)) (size (c .before .before .before .before .before .before .before .before .before .before .before .before .before .before .before .before .before .before .before .before .before .before .before .reach .result)) (sym (c .before .before .before .before .before .before .before .before .before .before .before .before .before .before .before .before .before .before .before .before .before .less .ensures) ∙ (c .before .before .before .before .before .before .before .before .before .before .before .before .before .before .before .before .before .before .before .before .if1 .taken))) in let e = (c .before .before .before .before .before .before .before .before .before .before .before .before .before .before .before .before .before .before .before .week-on .ensures .0) in omega arith
+loop-less-2 c = let h = (ltb-true (nanos (c .before .before .before .before .before .before .before .before .before .before .before .before .before .before .before .before .before .before .before .before .before .before .loop .x)) (nanos (c .before .before .before .before .before .before .before .before .before .before .before .before .before .before .before .before .before .before .before .before .before .before .before .reach .result)) (sym (c .before .before .before .before .before .before .before .before .before .before .before .before .before .before .before .before .before .before .before .before .before .precedes .ensures) ∙ (c .before .before .before .before .before .before .before .before .before .before .before .before .before .before .before .before .before .before .before .before .if1 .taken))) in let e = (c .before .before .before .before .before .before .before .before .before .before .before .before .before .before .before .before .before .before .before .week-on .ensures .0) in omega arith
 
 loop-again-2 : tie.Need-loop-again-2 Inv-loop μ-loop
-loop-again-2 c = (walking-grows _ _ _ _ _ _ _ (c .before .before .before .before .before .before .before .before .before .before .before .before .before .before .before .before .before .before .before .before .before .before .loop .inv .0) (ltb-true (size (c .before .before .before .before .before .before .before .before .before .before .before .before .before .before .before .before .before .before .before .before .before .before .loop .x)) (size (c .before .before .before .before .before .before .before .before .before .before .before .before .before .before .before .before .before .before .before .before .before .before .before .reach .result)) (sym (c .before .before .before .before .before .before .before .before .before .before .before .before .before .before .before .before .before .before .before .before .before .less .ensures) ∙ (c .before .before .before .before .before .before .before .before .before .before .before .before .before .before .before .before .before .before .before .before .if1 .taken))) _ (c .before .before .before .before .before .before .before .before .before .before .before .before .before .before .before .before .before .before .before .week-on .ensures .0) (ahead-inside _ _ _ _ _ ((ahead-of (wayOf (c .before .before .before .before .before .before .before .before .before .before .before .before .before .before .before .before .before .before .before .before .before .before .before .before .before .before .before .before .before .args .back)) (nanos (c .before .before .before .before .before .before .before .before .before .before .before .before .before .before .before .before .before .before .before .before .before .before .before .before .before .before .before .before .before .args .t)) _ _ (c .before .before .before .before .before .before .before .before .before .before .before .before .before .before .before .before .before .before .before .before .before .before .before .reach .result) (c .before .before .before .before .before .before .before .before .before .before .before .before .before .before .before .before .before .before .before .before .before .before .loop .inv .1) (c .before .before .before .before .before .before .before .before .before .before .before .before .before .before .before .before .before .before .before .week-on .ensures .1) (c .before .before .before .before .before .before .before .before .before .before .before .before .before .before .before .before .before .before .before .before .before .before .before .reach .ensures .0) (c .before .before .before .before .before .before .before .before .before .before .before .before .before .before .before .before .before .before .before .before .before .before .loop .inv .0 .upto) (c .before .before .before .before .before .before .before .before .before .before .before .before .before .before .before .before .before .before .before .week-on .ensures .0)) .order) ((ahead-of (wayOf (c .before .before .before .before .before .before .before .before .before .before .before .before .before .before .before .before .before .before .before .before .before .before .before .before .before .before .before .before .before .args .back)) (nanos (c .before .before .before .before .before .before .before .before .before .before .before .before .before .before .before .before .before .before .before .before .before .before .before .before .before .before .before .before .before .args .t)) _ _ (c .before .before .before .before .before .before .before .before .before .before .before .before .before .before .before .before .before .before .before .before .before .before .before .reach .result) (c .before .before .before .before .before .before .before .before .before .before .before .before .before .before .before .before .before .before .before .before .before .before .loop .inv .1) (c .before .before .before .before .before .before .before .before .before .before .before .before .before .before .before .before .before .before .before .week-on .ensures .1) (c .before .before .before .before .before .before .before .before .before .before .before .before .before .before .before .before .before .before .before .before .before .before .before .reach .ensures .0) (c .before .before .before .before .before .before .before .before .before .before .before .before .before .before .before .before .before .before .before .before .before .before .loop .inv .0 .upto) (c .before .before .before .before .before .before .before .before .before .before .before .before .before .before .before .before .before .before .before .week-on .ensures .0)) .near)) _ _ (looked _ _ (wayOf (c .before .before .before .before .before .before .before .before .before .before .before .before .before .before .before .before .before .before .before .before .before .before .before .before .before .before .before .before .before .args .back)) _ _ _ _ _ _ _ _ (c .before .before .before .known .given .1) (c .before .before .before .before .before .period-in-window .ensures .0) (c .before .before .before .before .before .before .before .width .ensures) _ (c .before .before .before .before .before .before .before .before .before .before .before .before .before .before .before .before .before .before .before .before .before .before .loop .inv .0 .upto) (c .before .before .before .before .before .before .before .before .before .before .before .before .before .before .before .before .before .before .before .week-on .ensures .0) (c .before .before .before .before .before .before .before .before .before .before .before .before .before .before .before .before .before .before .place .ensures .1) (c .before .before .before .before .before .before .before .before .before .before .before .before .before .before .working-into .ensures .0)) (c .before .is-whole .ensures) (c .if3 .left), (c .before .before .before .before .before .before .before .before .before .before .before .before .before .before .before .before .before .before .before .week-on .ensures .1), (growing-exact (c .before .before .before .before .before .period-in-window .ensures .1) (c .before .before .before .known .given .1)) .0, (growing-exact (c .before .before .before .before .before .period-in-window .ensures .1) (c .before .before .before .known .given .1)) .1, (c .before .before .before .before .before .before .before .before .before .before .before .before .before .on .given) ∙ (c .before .before .before .before .before .before .before .before .before .before .before .before .before .before .before .before .before .before .before .before .before .before .loop .inv .4), (c .before .before .before .before .before .before .before .before .before .before .before .off .given) ∙ (c .before .before .before .before .before .before .before .before .before .before .before .before .before .before .before .before .before .before .before .before .before .before .loop .inv .5), (c .before .before .before .before .before .before .before .before .before .out .given) ∙ (c .before .before .before .before .before .before .before .before .before .before .before .before .before .before .before .before .before .before .before .before .before .before .loop .inv .6))
+loop-again-2 c = (walking-grows _ _ _ _ _ _ _ (c .before .before .before .before .before .before .before .before .before .before .before .before .before .before .before .before .before .before .before .before .before .before .loop .inv .0) (ltb-true (nanos (c .before .before .before .before .before .before .before .before .before .before .before .before .before .before .before .before .before .before .before .before .before .before .loop .x)) (nanos (c .before .before .before .before .before .before .before .before .before .before .before .before .before .before .before .before .before .before .before .before .before .before .before .reach .result)) (sym (c .before .before .before .before .before .before .before .before .before .before .before .before .before .before .before .before .before .before .before .before .before .precedes .ensures) ∙ (c .before .before .before .before .before .before .before .before .before .before .before .before .before .before .before .before .before .before .before .before .if1 .taken))) _ (c .before .before .before .before .before .before .before .before .before .before .before .before .before .before .before .before .before .before .before .week-on .ensures .0) (ahead-inside _ _ _ _ _ ((ahead-of (wayOf (c .before .before .before .before .before .before .before .before .before .before .before .before .before .before .before .before .before .before .before .before .before .before .before .before .before .before .before .before .before .args .back)) (nanos (c .before .before .before .before .before .before .before .before .before .before .before .before .before .before .before .before .before .before .before .before .before .before .before .before .before .before .before .before .before .args .t)) _ _ (c .before .before .before .before .before .before .before .before .before .before .before .before .before .before .before .before .before .before .before .before .before .before .before .reach .result) (c .before .before .before .before .before .before .before .before .before .before .before .before .before .before .before .before .before .before .before .before .before .before .loop .inv .1) (c .before .before .before .before .before .before .before .before .before .before .before .before .before .before .before .before .before .before .before .week-on .ensures .1) (c .before .before .before .before .before .before .before .before .before .before .before .before .before .before .before .before .before .before .before .before .before .before .before .reach .ensures .0) (c .before .before .before .before .before .before .before .before .before .before .before .before .before .before .before .before .before .before .before .before .before .before .loop .inv .0 .upto) (c .before .before .before .before .before .before .before .before .before .before .before .before .before .before .before .before .before .before .before .week-on .ensures .0)) .order) ((ahead-of (wayOf (c .before .before .before .before .before .before .before .before .before .before .before .before .before .before .before .before .before .before .before .before .before .before .before .before .before .before .before .before .before .args .back)) (nanos (c .before .before .before .before .before .before .before .before .before .before .before .before .before .before .before .before .before .before .before .before .before .before .before .before .before .before .before .before .before .args .t)) _ _ (c .before .before .before .before .before .before .before .before .before .before .before .before .before .before .before .before .before .before .before .before .before .before .before .reach .result) (c .before .before .before .before .before .before .before .before .before .before .before .before .before .before .before .before .before .before .before .before .before .before .loop .inv .1) (c .before .before .before .before .before .before .before .before .before .before .before .before .before .before .before .before .before .before .before .week-on .ensures .1) (c .before .before .before .before .before .before .before .before .before .before .before .before .before .before .before .before .before .before .before .before .before .before .before .reach .ensures .0) (c .before .before .before .before .before .before .before .before .before .before .before .before .before .before .before .before .before .before .before .before .before .before .loop .inv .0 .upto) (c .before .before .before .before .before .before .before .before .before .before .before .before .before .before .before .before .before .before .before .week-on .ensures .0)) .near)) _ _ (looked _ _ (wayOf (c .before .before .before .before .before .before .before .before .before .before .before .before .before .before .before .before .before .before .before .before .before .before .before .before .before .before .before .before .before .args .back)) _ _ _ _ _ _ _ _ (c .before .before .before .known .given .1) (c .before .before .before .before .before .period-in-window .ensures .0) (c .before .before .before .before .before .before .before .width .ensures) _ (c .before .before .before .before .before .before .before .before .before .before .before .before .before .before .before .before .before .before .before .before .before .before .loop .inv .0 .upto) (c .before .before .before .before .before .before .before .before .before .before .before .before .before .before .before .before .before .before .before .week-on .ensures .0) (c .before .before .before .before .before .before .before .before .before .before .before .before .before .before .before .before .before .before .place .ensures .1) (c .before .before .before .before .before .before .before .before .before .before .before .before .before .before .working-into .ensures .0)) (c .before .is-whole .ensures) (c .if3 .left), (c .before .before .before .before .before .before .before .before .before .before .before .before .before .before .before .before .before .before .before .week-on .ensures .1), (growing-exact (c .before .before .before .before .before .period-in-window .ensures .1) (c .before .before .before .known .given .1)) .0, (growing-exact (c .before .before .before .before .before .period-in-window .ensures .1) (c .before .before .before .known .given .1)) .1, (c .before .before .before .before .before .before .before .before .before .before .before .before .before .on .given) ∙ (c .before .before .before .before .before .before .before .before .before .before .before .before .before .before .before .before .before .before .before .before .before .before .loop .inv .4), (c .before .before .before .before .before .before .before .before .before .before .before .off .given) ∙ (c .before .before .before .before .before .before .before .before .before .before .before .before .before .before .before .before .before .before .before .before .before .before .loop .inv .5), (c .before .before .before .before .before .before .before .before .before .out .given) ∙ (c .before .before .before .before .before .before .before .before .before .before .before .before .before .before .before .before .before .before .before .before .before .before .loop .inv .6))
 
 enum-known-known-2 : tie.Need-enum-known-known-2 Inv-loop μ-loop
 enum-known-known-2 c = search needs
 
 cut-requires-2 : tie.Need-cut-requires-2 Inv-loop μ-loop
-cut-requires-2 c κs = ((ended-exact (c .before .before .before .period-in-window .ensures .1) (c .before .known2 .given .1)) .0, (ended-exact (c .before .before .before .period-in-window .ensures .1) (c .before .known2 .given .1)) .1, omega arith, cut-fits _ _ _ _ (ended-upto _ _ _ _ _ _ _ (c .before .before .before .before .before .before .before .before .before .before .before .before .before .before .before .before .before .before .before .before .loop .inv .0) (ltb-true (size (c .before .before .before .before .before .before .before .before .before .before .before .before .before .before .before .before .before .before .before .before .loop .x)) (size (c .before .before .before .before .before .before .before .before .before .before .before .before .before .before .before .before .before .before .before .before .before .reach .result)) (sym (c .before .before .before .before .before .before .before .before .before .before .before .before .before .before .before .before .before .before .before .less .ensures) ∙ (c .before .before .before .before .before .before .before .before .before .before .before .before .before .before .before .before .before .before .if1 .taken))) _ (c .before .before .before .before .before .before .before .before .before .before .before .before .before .before .before .before .before .week-on .ensures .0) (ahead-inside _ _ _ _ _ ((ahead-of (wayOf (c .before .before .before .before .before .before .before .before .before .before .before .before .before .before .before .before .before .before .before .before .before .before .before .before .before .before .before .args .back)) (nanos (c .before .before .before .before .before .before .before .before .before .before .before .before .before .before .before .before .before .before .before .before .before .before .before .before .before .before .before .args .t)) _ _ (c .before .before .before .before .before .before .before .before .before .before .before .before .before .before .before .before .before .before .before .before .before .reach .result) (c .before .before .before .before .before .before .before .before .before .before .before .before .before .before .before .before .before .before .before .before .loop .inv .1) (c .before .before .before .before .before .before .before .before .before .before .before .before .before .before .before .before .before .week-on .ensures .1) (c .before .before .before .before .before .before .before .before .before .before .before .before .before .before .before .before .before .before .before .before .before .reach .ensures .0) (c .before .before .before .before .before .before .before .before .before .before .before .before .before .before .before .before .before .before .before .before .loop .inv .0 .upto) (c .before .before .before .before .before .before .before .before .before .before .before .before .before .before .before .before .before .week-on .ensures .0)) .order) ((ahead-of (wayOf (c .before .before .before .before .before .before .before .before .before .before .before .before .before .before .before .before .before .before .before .before .before .before .before .before .before .before .before .args .back)) (nanos (c .before .before .before .before .before .before .before .before .before .before .before .before .before .before .before .before .before .before .before .before .before .before .before .before .before .before .before .args .t)) _ _ (c .before .before .before .before .before .before .before .before .before .before .before .before .before .before .before .before .before .before .before .before .before .reach .result) (c .before .before .before .before .before .before .before .before .before .before .before .before .before .before .before .before .before .before .before .before .loop .inv .1) (c .before .before .before .before .before .before .before .before .before .before .before .before .before .before .before .before .before .week-on .ensures .1) (c .before .before .before .before .before .before .before .before .before .before .before .before .before .before .before .before .before .before .before .before .before .reach .ensures .0) (c .before .before .before .before .before .before .before .before .before .before .before .before .before .before .before .before .before .before .before .before .loop .inv .0 .upto) (c .before .before .before .before .before .before .before .before .before .before .before .before .before .before .before .before .before .week-on .ensures .0)) .near)) _ _ (looked _ _ (wayOf (c .before .before .before .before .before .before .before .before .before .before .before .before .before .before .before .before .before .before .before .before .before .before .before .before .before .before .before .args .back)) _ _ _ _ _ _ _ _ (c .before .known2 .given .1) (c .before .before .before .period-in-window .ensures .0) (c .before .before .before .before .before .width .ensures) _ (c .before .before .before .before .before .before .before .before .before .before .before .before .before .before .before .before .before .before .before .before .loop .inv .0 .upto) (c .before .before .before .before .before .before .before .before .before .before .before .before .before .before .before .before .before .week-on .ensures .0) (c .before .before .before .before .before .before .before .before .before .before .before .before .before .before .before .before .place .ensures .1) (c .before .before .before .before .before .before .before .before .before .before .before .before .working-into .ensures .0))) (c .before .before .before .before .before .before .before .before .before .before .before .before .before .before .before .before .before .before .before .before .before .reach .ensures .1) (c .before .before .before .before .before .before .before .before .before .before .before .before .before .before .before .before .before .before .before .before .before .before .before .before .before .before .before .pre .0 .limit))
+cut-requires-2 c κs = ((ended-exact (c .before .before .before .period-in-window .ensures .1) (c .before .known2 .given .1)) .0, (ended-exact (c .before .before .before .period-in-window .ensures .1) (c .before .known2 .given .1)) .1, omega arith, cut-fits _ _ _ _ (ended-upto _ _ _ _ _ _ _ (c .before .before .before .before .before .before .before .before .before .before .before .before .before .before .before .before .before .before .before .before .loop .inv .0) (ltb-true (nanos (c .before .before .before .before .before .before .before .before .before .before .before .before .before .before .before .before .before .before .before .before .loop .x)) (nanos (c .before .before .before .before .before .before .before .before .before .before .before .before .before .before .before .before .before .before .before .before .before .reach .result)) (sym (c .before .before .before .before .before .before .before .before .before .before .before .before .before .before .before .before .before .before .before .precedes .ensures) ∙ (c .before .before .before .before .before .before .before .before .before .before .before .before .before .before .before .before .before .before .if1 .taken))) _ (c .before .before .before .before .before .before .before .before .before .before .before .before .before .before .before .before .before .week-on .ensures .0) (ahead-inside _ _ _ _ _ ((ahead-of (wayOf (c .before .before .before .before .before .before .before .before .before .before .before .before .before .before .before .before .before .before .before .before .before .before .before .before .before .before .before .args .back)) (nanos (c .before .before .before .before .before .before .before .before .before .before .before .before .before .before .before .before .before .before .before .before .before .before .before .before .before .before .before .args .t)) _ _ (c .before .before .before .before .before .before .before .before .before .before .before .before .before .before .before .before .before .before .before .before .before .reach .result) (c .before .before .before .before .before .before .before .before .before .before .before .before .before .before .before .before .before .before .before .before .loop .inv .1) (c .before .before .before .before .before .before .before .before .before .before .before .before .before .before .before .before .before .week-on .ensures .1) (c .before .before .before .before .before .before .before .before .before .before .before .before .before .before .before .before .before .before .before .before .before .reach .ensures .0) (c .before .before .before .before .before .before .before .before .before .before .before .before .before .before .before .before .before .before .before .before .loop .inv .0 .upto) (c .before .before .before .before .before .before .before .before .before .before .before .before .before .before .before .before .before .week-on .ensures .0)) .order) ((ahead-of (wayOf (c .before .before .before .before .before .before .before .before .before .before .before .before .before .before .before .before .before .before .before .before .before .before .before .before .before .before .before .args .back)) (nanos (c .before .before .before .before .before .before .before .before .before .before .before .before .before .before .before .before .before .before .before .before .before .before .before .before .before .before .before .args .t)) _ _ (c .before .before .before .before .before .before .before .before .before .before .before .before .before .before .before .before .before .before .before .before .before .reach .result) (c .before .before .before .before .before .before .before .before .before .before .before .before .before .before .before .before .before .before .before .before .loop .inv .1) (c .before .before .before .before .before .before .before .before .before .before .before .before .before .before .before .before .before .week-on .ensures .1) (c .before .before .before .before .before .before .before .before .before .before .before .before .before .before .before .before .before .before .before .before .before .reach .ensures .0) (c .before .before .before .before .before .before .before .before .before .before .before .before .before .before .before .before .before .before .before .before .loop .inv .0 .upto) (c .before .before .before .before .before .before .before .before .before .before .before .before .before .before .before .before .before .week-on .ensures .0)) .near)) _ _ (looked _ _ (wayOf (c .before .before .before .before .before .before .before .before .before .before .before .before .before .before .before .before .before .before .before .before .before .before .before .before .before .before .before .args .back)) _ _ _ _ _ _ _ _ (c .before .known2 .given .1) (c .before .before .before .period-in-window .ensures .0) (c .before .before .before .before .before .width .ensures) _ (c .before .before .before .before .before .before .before .before .before .before .before .before .before .before .before .before .before .before .before .before .loop .inv .0 .upto) (c .before .before .before .before .before .before .before .before .before .before .before .before .before .before .before .before .before .week-on .ensures .0) (c .before .before .before .before .before .before .before .before .before .before .before .before .before .before .before .before .place .ensures .1) (c .before .before .before .before .before .before .before .before .before .before .before .before .working-into .ensures .0))) (c .before .before .before .before .before .before .before .before .before .before .before .before .before .before .before .before .before .before .before .before .before .reach .ensures .1) (c .before .before .before .before .before .before .before .before .before .before .before .before .before .before .before .before .before .before .before .before .before .before .before .before .before .before .before .pre .0 .limit))
 
 same-length-7 : tie.Need-same-length-7 Inv-loop μ-loop
 same-length-7 c = (c .before .before .before .before .before .before .before .before .before .before .before .before .on .given) ∙ (c .before .before .before .before .before .before .before .before .before .before .before .before .before .before .before .before .before .before .before .before .before .loop .inv .4)
@@ -116,7 +115,7 @@ same-length-9 : tie.Need-same-length-9 Inv-loop μ-loop
 same-length-9 c = (c .before .before .before .before .before .before .before .before .out .given) ∙ (c .before .before .before .before .before .before .before .before .before .before .before .before .before .before .before .before .before .before .before .before .before .loop .inv .6)
 
 returns-3 : tie.Need-returns-3 Inv-loop μ-loop
-returns-3 c = (walked _ _ _ _ _ (limit-is _) (c .before .before .before .before .before .before .before .before .before .before .before .before .before .before .before .before .before .before .before .before .before .before .reach .ensures .0) _ (walking-ended _ _ _ _ _ _ _ (c .before .before .before .before .before .before .before .before .before .before .before .before .before .before .before .before .before .before .before .before .before .loop .inv .0) (ltb-true (size (c .before .before .before .before .before .before .before .before .before .before .before .before .before .before .before .before .before .before .before .before .before .loop .x)) (size (c .before .before .before .before .before .before .before .before .before .before .before .before .before .before .before .before .before .before .before .before .before .before .reach .result)) (sym (c .before .before .before .before .before .before .before .before .before .before .before .before .before .before .before .before .before .before .before .before .less .ensures) ∙ (c .before .before .before .before .before .before .before .before .before .before .before .before .before .before .before .before .before .before .before .if1 .taken))) _ (c .before .before .before .before .before .before .before .before .before .before .before .before .before .before .before .before .before .before .week-on .ensures .0) (ahead-inside _ _ _ _ _ ((ahead-of (wayOf (c .before .before .before .before .before .before .before .before .before .before .before .before .before .before .before .before .before .before .before .before .before .before .before .before .before .before .before .before .args .back)) (nanos (c .before .before .before .before .before .before .before .before .before .before .before .before .before .before .before .before .before .before .before .before .before .before .before .before .before .before .before .before .args .t)) _ _ (c .before .before .before .before .before .before .before .before .before .before .before .before .before .before .before .before .before .before .before .before .before .before .reach .result) (c .before .before .before .before .before .before .before .before .before .before .before .before .before .before .before .before .before .before .before .before .before .loop .inv .1) (c .before .before .before .before .before .before .before .before .before .before .before .before .before .before .before .before .before .before .week-on .ensures .1) (c .before .before .before .before .before .before .before .before .before .before .before .before .before .before .before .before .before .before .before .before .before .before .reach .ensures .0) (c .before .before .before .before .before .before .before .before .before .before .before .before .before .before .before .before .before .before .before .before .before .loop .inv .0 .upto) (c .before .before .before .before .before .before .before .before .before .before .before .before .before .before .before .before .before .before .week-on .ensures .0)) .order) ((ahead-of (wayOf (c .before .before .before .before .before .before .before .before .before .before .before .before .before .before .before .before .before .before .before .before .before .before .before .before .before .before .before .before .args .back)) (nanos (c .before .before .before .before .before .before .before .before .before .before .before .before .before .before .before .before .before .before .before .before .before .before .before .before .before .before .before .before .args .t)) _ _ (c .before .before .before .before .before .before .before .before .before .before .before .before .before .before .before .before .before .before .before .before .before .before .reach .result) (c .before .before .before .before .before .before .before .before .before .before .before .before .before .before .before .before .before .before .before .before .before .loop .inv .1) (c .before .before .before .before .before .before .before .before .before .before .before .before .before .before .before .before .before .before .week-on .ensures .1) (c .before .before .before .before .before .before .before .before .before .before .before .before .before .before .before .before .before .before .before .before .before .before .reach .ensures .0) (c .before .before .before .before .before .before .before .before .before .before .before .before .before .before .before .before .before .before .before .before .before .loop .inv .0 .upto) (c .before .before .before .before .before .before .before .before .before .before .before .before .before .before .before .before .before .before .week-on .ensures .0)) .near)) _ _ (looked _ _ (wayOf (c .before .before .before .before .before .before .before .before .before .before .before .before .before .before .before .before .before .before .before .before .before .before .before .before .before .before .before .before .args .back)) _ _ _ _ _ _ _ _ (c .before .before .known2 .given .1) (c .before .before .before .before .period-in-window .ensures .0) (c .before .before .before .before .before .before .width .ensures) _ (c .before .before .before .before .before .before .before .before .before .before .before .before .before .before .before .before .before .before .before .before .before .loop .inv .0 .upto) (c .before .before .before .before .before .before .before .before .before .before .before .before .before .before .before .before .before .before .week-on .ensures .0) (c .before .before .before .before .before .before .before .before .before .before .before .before .before .before .before .before .before .place .ensures .1) (c .before .before .before .before .before .before .before .before .before .before .before .before .before .working-into .ensures .0)) _ (c .cut2 .ensures .0)), found-period (fits _ _ _ _ _ _ _ ((ended-exact (c .before .before .before .before .period-in-window .ensures .1) (c .before .before .known2 .given .1)) .0) (c .cut2 .ensures .1) (ended-upto _ _ _ _ _ _ _ (c .before .before .before .before .before .before .before .before .before .before .before .before .before .before .before .before .before .before .before .before .before .loop .inv .0) (ltb-true (size (c .before .before .before .before .before .before .before .before .before .before .before .before .before .before .before .before .before .before .before .before .before .loop .x)) (size (c .before .before .before .before .before .before .before .before .before .before .before .before .before .before .before .before .before .before .before .before .before .before .reach .result)) (sym (c .before .before .before .before .before .before .before .before .before .before .before .before .before .before .before .before .before .before .before .before .less .ensures) ∙ (c .before .before .before .before .before .before .before .before .before .before .before .before .before .before .before .before .before .before .before .if1 .taken))) _ (c .before .before .before .before .before .before .before .before .before .before .before .before .before .before .before .before .before .before .week-on .ensures .0) (ahead-inside _ _ _ _ _ ((ahead-of (wayOf (c .before .before .before .before .before .before .before .before .before .before .before .before .before .before .before .before .before .before .before .before .before .before .before .before .before .before .before .before .args .back)) (nanos (c .before .before .before .before .before .before .before .before .before .before .before .before .before .before .before .before .before .before .before .before .before .before .before .before .before .before .before .before .args .t)) _ _ (c .before .before .before .before .before .before .before .before .before .before .before .before .before .before .before .before .before .before .before .before .before .before .reach .result) (c .before .before .before .before .before .before .before .before .before .before .before .before .before .before .before .before .before .before .before .before .before .loop .inv .1) (c .before .before .before .before .before .before .before .before .before .before .before .before .before .before .before .before .before .before .week-on .ensures .1) (c .before .before .before .before .before .before .before .before .before .before .before .before .before .before .before .before .before .before .before .before .before .before .reach .ensures .0) (c .before .before .before .before .before .before .before .before .before .before .before .before .before .before .before .before .before .before .before .before .before .loop .inv .0 .upto) (c .before .before .before .before .before .before .before .before .before .before .before .before .before .before .before .before .before .before .week-on .ensures .0)) .order) ((ahead-of (wayOf (c .before .before .before .before .before .before .before .before .before .before .before .before .before .before .before .before .before .before .before .before .before .before .before .before .before .before .before .before .args .back)) (nanos (c .before .before .before .before .before .before .before .before .before .before .before .before .before .before .before .before .before .before .before .before .before .before .before .before .before .before .before .before .args .t)) _ _ (c .before .before .before .before .before .before .before .before .before .before .before .before .before .before .before .before .before .before .before .before .before .before .reach .result) (c .before .before .before .before .before .before .before .before .before .before .before .before .before .before .before .before .before .before .before .before .before .loop .inv .1) (c .before .before .before .before .before .before .before .before .before .before .before .before .before .before .before .before .before .before .week-on .ensures .1) (c .before .before .before .before .before .before .before .before .before .before .before .before .before .before .before .before .before .before .before .before .before .before .reach .ensures .0) (c .before .before .before .before .before .before .before .before .before .before .before .before .before .before .before .before .before .before .before .before .before .loop .inv .0 .upto) (c .before .before .before .before .before .before .before .before .before .before .before .before .before .before .before .before .before .before .week-on .ensures .0)) .near)) _ _ (looked _ _ (wayOf (c .before .before .before .before .before .before .before .before .before .before .before .before .before .before .before .before .before .before .before .before .before .before .before .before .before .before .before .before .args .back)) _ _ _ _ _ _ _ _ (c .before .before .known2 .given .1) (c .before .before .before .before .period-in-window .ensures .0) (c .before .before .before .before .before .before .width .ensures) _ (c .before .before .before .before .before .before .before .before .before .before .before .before .before .before .before .before .before .before .before .before .before .loop .inv .0 .upto) (c .before .before .before .before .before .before .before .before .before .before .before .before .before .before .before .before .before .before .week-on .ensures .0) (c .before .before .before .before .before .before .before .before .before .before .before .before .before .before .before .before .before .place .ensures .1) (c .before .before .before .before .before .before .before .before .before .before .before .before .before .working-into .ensures .0))) (c .before .before .before .before .before .before .before .before .before .before .before .before .before .before .before .before .before .before .before .before .before .before .reach .ensures .0) (c .cut2 .ensures .0)))
+returns-3 c = (walked _ _ _ _ _ (limit-is _) (c .before .before .before .before .before .before .before .before .before .before .before .before .before .before .before .before .before .before .before .before .before .before .reach .ensures .0) _ (walking-ended _ _ _ _ _ _ _ (c .before .before .before .before .before .before .before .before .before .before .before .before .before .before .before .before .before .before .before .before .before .loop .inv .0) (ltb-true (nanos (c .before .before .before .before .before .before .before .before .before .before .before .before .before .before .before .before .before .before .before .before .before .loop .x)) (nanos (c .before .before .before .before .before .before .before .before .before .before .before .before .before .before .before .before .before .before .before .before .before .before .reach .result)) (sym (c .before .before .before .before .before .before .before .before .before .before .before .before .before .before .before .before .before .before .before .before .precedes .ensures) ∙ (c .before .before .before .before .before .before .before .before .before .before .before .before .before .before .before .before .before .before .before .if1 .taken))) _ (c .before .before .before .before .before .before .before .before .before .before .before .before .before .before .before .before .before .before .week-on .ensures .0) (ahead-inside _ _ _ _ _ ((ahead-of (wayOf (c .before .before .before .before .before .before .before .before .before .before .before .before .before .before .before .before .before .before .before .before .before .before .before .before .before .before .before .before .args .back)) (nanos (c .before .before .before .before .before .before .before .before .before .before .before .before .before .before .before .before .before .before .before .before .before .before .before .before .before .before .before .before .args .t)) _ _ (c .before .before .before .before .before .before .before .before .before .before .before .before .before .before .before .before .before .before .before .before .before .before .reach .result) (c .before .before .before .before .before .before .before .before .before .before .before .before .before .before .before .before .before .before .before .before .before .loop .inv .1) (c .before .before .before .before .before .before .before .before .before .before .before .before .before .before .before .before .before .before .week-on .ensures .1) (c .before .before .before .before .before .before .before .before .before .before .before .before .before .before .before .before .before .before .before .before .before .before .reach .ensures .0) (c .before .before .before .before .before .before .before .before .before .before .before .before .before .before .before .before .before .before .before .before .before .loop .inv .0 .upto) (c .before .before .before .before .before .before .before .before .before .before .before .before .before .before .before .before .before .before .week-on .ensures .0)) .order) ((ahead-of (wayOf (c .before .before .before .before .before .before .before .before .before .before .before .before .before .before .before .before .before .before .before .before .before .before .before .before .before .before .before .before .args .back)) (nanos (c .before .before .before .before .before .before .before .before .before .before .before .before .before .before .before .before .before .before .before .before .before .before .before .before .before .before .before .before .args .t)) _ _ (c .before .before .before .before .before .before .before .before .before .before .before .before .before .before .before .before .before .before .before .before .before .before .reach .result) (c .before .before .before .before .before .before .before .before .before .before .before .before .before .before .before .before .before .before .before .before .before .loop .inv .1) (c .before .before .before .before .before .before .before .before .before .before .before .before .before .before .before .before .before .before .week-on .ensures .1) (c .before .before .before .before .before .before .before .before .before .before .before .before .before .before .before .before .before .before .before .before .before .before .reach .ensures .0) (c .before .before .before .before .before .before .before .before .before .before .before .before .before .before .before .before .before .before .before .before .before .loop .inv .0 .upto) (c .before .before .before .before .before .before .before .before .before .before .before .before .before .before .before .before .before .before .week-on .ensures .0)) .near)) _ _ (looked _ _ (wayOf (c .before .before .before .before .before .before .before .before .before .before .before .before .before .before .before .before .before .before .before .before .before .before .before .before .before .before .before .before .args .back)) _ _ _ _ _ _ _ _ (c .before .before .known2 .given .1) (c .before .before .before .before .period-in-window .ensures .0) (c .before .before .before .before .before .before .width .ensures) _ (c .before .before .before .before .before .before .before .before .before .before .before .before .before .before .before .before .before .before .before .before .before .loop .inv .0 .upto) (c .before .before .before .before .before .before .before .before .before .before .before .before .before .before .before .before .before .before .week-on .ensures .0) (c .before .before .before .before .before .before .before .before .before .before .before .before .before .before .before .before .before .place .ensures .1) (c .before .before .before .before .before .before .before .before .before .before .before .before .before .working-into .ensures .0)) _ (c .cut2 .ensures .0)), found-period (fits _ _ _ _ _ _ _ ((ended-exact (c .before .before .before .before .period-in-window .ensures .1) (c .before .before .known2 .given .1)) .0) (c .cut2 .ensures .1) (ended-upto _ _ _ _ _ _ _ (c .before .before .before .before .before .before .before .before .before .before .before .before .before .before .before .before .before .before .before .before .before .loop .inv .0) (ltb-true (nanos (c .before .before .before .before .before .before .before .before .before .before .before .before .before .before .before .before .before .before .before .before .before .loop .x)) (nanos (c .before .before .before .before .before .before .before .before .before .before .before .before .before .before .before .before .before .before .before .before .before .before .reach .result)) (sym (c .before .before .before .before .before .before .before .before .before .before .before .before .before .before .before .before .before .before .before .before .precedes .ensures) ∙ (c .before .before .before .before .before .before .before .before .before .before .before .before .before .before .before .before .before .before .before .if1 .taken))) _ (c .before .before .before .before .before .before .before .before .before .before .before .before .before .before .before .before .before .before .week-on .ensures .0) (ahead-inside _ _ _ _ _ ((ahead-of (wayOf (c .before .before .before .before .before .before .before .before .before .before .before .before .before .before .before .before .before .before .before .before .before .before .before .before .before .before .before .before .args .back)) (nanos (c .before .before .before .before .before .before .before .before .before .before .before .before .before .before .before .before .before .before .before .before .before .before .before .before .before .before .before .before .args .t)) _ _ (c .before .before .before .before .before .before .before .before .before .before .before .before .before .before .before .before .before .before .before .before .before .before .reach .result) (c .before .before .before .before .before .before .before .before .before .before .before .before .before .before .before .before .before .before .before .before .before .loop .inv .1) (c .before .before .before .before .before .before .before .before .before .before .before .before .before .before .before .before .before .before .week-on .ensures .1) (c .before .before .before .before .before .before .before .before .before .before .before .before .before .before .before .before .before .before .before .before .before .before .reach .ensures .0) (c .before .before .before .before .before .before .before .before .before .before .before .before .before .before .before .before .before .before .before .before .before .loop .inv .0 .upto) (c .before .before .before .before .before .before .before .before .before .before .before .before .before .before .before .before .before .before .week-on .ensures .0)) .order) ((ahead-of (wayOf (c .before .before .before .before .before .before .before .before .before .before .before .before .before .before .before .before .before .before .before .before .before .before .before .before .before .before .before .before .args .back)) (nanos (c .before .before .before .before .before .before .before .before .before .before .before .before .before .before .before .before .before .before .before .before .before .before .before .before .before .before .before .before .args .t)) _ _ (c .before .before .before .before .before .before .before .before .before .before .before .before .before .before .before .before .before .before .before .before .before .before .reach .result) (c .before .before .before .before .before .before .before .before .before .before .before .before .before .before .before .before .before .before .before .before .before .loop .inv .1) (c .before .before .before .before .before .before .before .before .before .before .before .before .before .before .before .before .before .before .week-on .ensures .1) (c .before .before .before .before .before .before .before .before .before .before .before .before .before .before .before .before .before .before .before .before .before .before .reach .ensures .0) (c .before .before .before .before .before .before .before .before .before .before .before .before .before .before .before .before .before .before .before .before .before .loop .inv .0 .upto) (c .before .before .before .before .before .before .before .before .before .before .before .before .before .before .before .before .before .before .week-on .ensures .0)) .near)) _ _ (looked _ _ (wayOf (c .before .before .before .before .before .before .before .before .before .before .before .before .before .before .before .before .before .before .before .before .before .before .before .before .before .before .before .before .args .back)) _ _ _ _ _ _ _ _ (c .before .before .known2 .given .1) (c .before .before .before .before .period-in-window .ensures .0) (c .before .before .before .before .before .before .width .ensures) _ (c .before .before .before .before .before .before .before .before .before .before .before .before .before .before .before .before .before .before .before .before .before .loop .inv .0 .upto) (c .before .before .before .before .before .before .before .before .before .before .before .before .before .before .before .before .before .before .week-on .ensures .0) (c .before .before .before .before .before .before .before .before .before .before .before .before .before .before .before .before .before .place .ensures .1) (c .before .before .before .before .before .before .before .before .before .before .before .before .before .working-into .ensures .0))) (c .before .before .before .before .before .before .before .before .before .before .before .before .before .before .before .before .before .before .before .before .before .before .reach .ensures .0) (c .cut2 .ensures .0)))
 
 enum-told-2 : tie.Need-enum-told-2 Inv-loop μ-loop
 enum-told-2 c = search needs
@@ -131,10 +130,10 @@ same-length-12 : tie.Need-same-length-12 Inv-loop μ-loop
 same-length-12 c = (c .before .before .before .before .before .before .out .given) ∙ (c .before .before .before .before .before .before .before .before .before .before .before .before .before .before .before .before .before .before .before .loop .inv .6)
 
 returns-4 : tie.Need-returns-4 Inv-loop μ-loop
-returns-4 c = (walked _ _ _ _ _ (limit-is _) (c .before .before .before .before .before .before .before .before .before .before .before .before .before .before .before .before .before .before .before .before .reach .ensures .0) _ (walking-far _ _ _ _ _ _ _ (c .before .before .before .before .before .before .before .before .before .before .before .before .before .before .before .before .before .before .before .loop .inv .0) (ltb-true (size (c .before .before .before .before .before .before .before .before .before .before .before .before .before .before .before .before .before .before .before .loop .x)) (size (c .before .before .before .before .before .before .before .before .before .before .before .before .before .before .before .before .before .before .before .before .reach .result)) (sym (c .before .before .before .before .before .before .before .before .before .before .before .before .before .before .before .before .before .before .less .ensures) ∙ (c .before .before .before .before .before .before .before .before .before .before .before .before .before .before .before .before .before .if1 .taken))) _ (c .before .before .before .before .before .before .before .before .before .before .before .before .before .before .before .before .week-on .ensures .0) (looked _ _ (wayOf (c .before .before .before .before .before .before .before .before .before .before .before .before .before .before .before .before .before .before .before .before .before .before .before .before .before .before .args .back)) _ _ _ _ _ _ _ _ (c .enum-told2 .given .1) (c .before .before .period-in-window .ensures .0) (c .before .before .before .before .width .ensures) _ (c .before .before .before .before .before .before .before .before .before .before .before .before .before .before .before .before .before .before .before .loop .inv .0 .upto) (c .before .before .before .before .before .before .before .before .before .before .before .before .before .before .before .before .week-on .ensures .0) (c .before .before .before .before .before .before .before .before .before .before .before .before .before .before .before .place .ensures .1) (c .before .before .before .before .before .before .before .before .before .before .before .working-into .ensures .0))), no-work)
+returns-4 c = (walked _ _ _ _ _ (limit-is _) (c .before .before .before .before .before .before .before .before .before .before .before .before .before .before .before .before .before .before .before .before .reach .ensures .0) _ (walking-far _ _ _ _ _ _ _ (c .before .before .before .before .before .before .before .before .before .before .before .before .before .before .before .before .before .before .before .loop .inv .0) (ltb-true (nanos (c .before .before .before .before .before .before .before .before .before .before .before .before .before .before .before .before .before .before .before .loop .x)) (nanos (c .before .before .before .before .before .before .before .before .before .before .before .before .before .before .before .before .before .before .before .before .reach .result)) (sym (c .before .before .before .before .before .before .before .before .before .before .before .before .before .before .before .before .before .before .precedes .ensures) ∙ (c .before .before .before .before .before .before .before .before .before .before .before .before .before .before .before .before .before .if1 .taken))) _ (c .before .before .before .before .before .before .before .before .before .before .before .before .before .before .before .before .week-on .ensures .0) (looked _ _ (wayOf (c .before .before .before .before .before .before .before .before .before .before .before .before .before .before .before .before .before .before .before .before .before .before .before .before .before .before .args .back)) _ _ _ _ _ _ _ _ (c .enum-told2 .given .1) (c .before .before .period-in-window .ensures .0) (c .before .before .before .before .width .ensures) _ (c .before .before .before .before .before .before .before .before .before .before .before .before .before .before .before .before .before .before .before .loop .inv .0 .upto) (c .before .before .before .before .before .before .before .before .before .before .before .before .before .before .before .before .week-on .ensures .0) (c .before .before .before .before .before .before .before .before .before .before .before .before .before .before .before .place .ensures .1) (c .before .before .before .before .before .before .before .before .before .before .before .working-into .ensures .0))), no-work)
 
 cut-requires-3 : tie.Need-cut-requires-3 Inv-loop μ-loop
-cut-requires-3 c κs = ((c .before .before .before .loop .inv .2), (c .before .before .before .loop .inv .3), omega arith, cut-fits _ _ _ _ (last-upto _ _ _ _ _ _ _ (c .before .before .before .loop .inv .0) (ltb-false (size (c .before .before .before .loop .x)) (size (c .before .before .before .before .reach .result)) (sym (c .before .before .less .ensures) ∙ (c .before .if1 .left))) (c .if4 .taken)) (c .before .before .before .before .reach .ensures .1) (c .before .before .before .before .before .before .before .before .before .before .pre .0 .limit))
+cut-requires-3 c κs = ((c .before .before .before .loop .inv .2), (c .before .before .before .loop .inv .3), omega arith, cut-fits _ _ _ _ (last-upto _ _ _ _ _ _ _ (c .before .before .before .loop .inv .0) (ltb-false (nanos (c .before .before .before .loop .x)) (nanos (c .before .before .before .before .reach .result)) (sym (c .before .before .precedes .ensures) ∙ (c .before .if1 .left))) (c .if4 .taken)) (c .before .before .before .before .reach .ensures .1) (c .before .before .before .before .before .before .before .before .before .before .pre .0 .limit))
 
 same-length-13 : tie.Need-same-length-13 Inv-loop μ-loop
 same-length-13 c = (c .before .before .before .before .loop .inv .4)
@@ -146,7 +145,7 @@ same-length-15 : tie.Need-same-length-15 Inv-loop μ-loop
 same-length-15 c = (c .before .before .before .before .loop .inv .6)
 
 returns-5 : tie.Need-returns-5 Inv-loop μ-loop
-returns-5 c = (walked _ _ _ _ _ (limit-is _) (c .before .before .before .before .before .reach .ensures .0) _ (walking-last _ _ _ _ _ _ _ (c .before .before .before .before .loop .inv .0) (ltb-false (size (c .before .before .before .before .loop .x)) (size (c .before .before .before .before .before .reach .result)) (sym (c .before .before .before .less .ensures) ∙ (c .before .before .if1 .left))) (c .before .if4 .taken) _ (c .cut3 .ensures .0)), found-period (fits _ _ _ _ _ _ _ (c .before .before .before .before .loop .inv .2) (c .cut3 .ensures .1) (last-upto _ _ _ _ _ _ _ (c .before .before .before .before .loop .inv .0) (ltb-false (size (c .before .before .before .before .loop .x)) (size (c .before .before .before .before .before .reach .result)) (sym (c .before .before .before .less .ensures) ∙ (c .before .before .if1 .left))) (c .before .if4 .taken)) (c .before .before .before .before .before .reach .ensures .0) (c .cut3 .ensures .0)))
+returns-5 c = (walked _ _ _ _ _ (limit-is _) (c .before .before .before .before .before .reach .ensures .0) _ (walking-last _ _ _ _ _ _ _ (c .before .before .before .before .loop .inv .0) (ltb-false (nanos (c .before .before .before .before .loop .x)) (nanos (c .before .before .before .before .before .reach .result)) (sym (c .before .before .before .precedes .ensures) ∙ (c .before .before .if1 .left))) (c .before .if4 .taken) _ (c .cut3 .ensures .0)), found-period (fits _ _ _ _ _ _ _ (c .before .before .before .before .loop .inv .2) (c .cut3 .ensures .1) (last-upto _ _ _ _ _ _ _ (c .before .before .before .before .loop .inv .0) (ltb-false (nanos (c .before .before .before .before .loop .x)) (nanos (c .before .before .before .before .before .reach .result)) (sym (c .before .before .before .precedes .ensures) ∙ (c .before .before .if1 .left))) (c .before .if4 .taken)) (c .before .before .before .before .before .reach .ensures .0) (c .cut3 .ensures .0)))
 
 same-length-16 : tie.Need-same-length-16 Inv-loop μ-loop
 same-length-16 c = (c .before .before .before .loop .inv .4)
@@ -158,7 +157,7 @@ same-length-18 : tie.Need-same-length-18 Inv-loop μ-loop
 same-length-18 c = (c .before .before .before .loop .inv .6)
 
 returns-6 : tie.Need-returns-6 Inv-loop μ-loop
-returns-6 c = (walked _ _ _ _ _ (limit-is _) (c .before .before .before .before .reach .ensures .0) _ (walking-ends _ _ _ _ _ _ _ (c .before .before .before .loop .inv .0) (ltb-false (size (c .before .before .before .loop .x)) (size (c .before .before .before .before .reach .result)) (sym (c .before .before .less .ensures) ∙ (c .before .if1 .left))) (c .if4 .left)), out-of-range)
+returns-6 c = (walked _ _ _ _ _ (limit-is _) (c .before .before .before .before .reach .ensures .0) _ (walking-ends _ _ _ _ _ _ _ (c .before .before .before .loop .inv .0) (ltb-false (nanos (c .before .before .before .loop .x)) (nanos (c .before .before .before .before .reach .result)) (sym (c .before .before .precedes .ensures) ∙ (c .before .if1 .left))) (c .if4 .left)), out-of-range)
 
 pub walk-into-spec : {M : Type 1} → statement M
 walk-into-spec =
@@ -168,14 +167,14 @@ walk-into-spec =
     μ-loop
     reach-requires
     loop-holds
-    less-requires
+    precedes-requires
     week-on-requires
     place-requires
     working-into-requires
     width-requires
     period-in-window-requires
     enum-told
-    less-requires-2
+    precedes-requires-2
     same-length
     same-length-2
     same-length-3

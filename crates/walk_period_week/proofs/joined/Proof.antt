@@ -1,7 +1,7 @@
 -- `walk_period_week::joined` meets its contract: the blocks left give what all behind the nearest give. Assumes nothing.
 use Rattle.walk_period_week.proofs.Finding.{tail-closed, tail-on, tail-open, rest-none}
 use Rattle.walk_period_week.specs.SoFars.{rest}
-use Rattle.walk_step.specs.Spending.{wayOf}
+use Rattle.walk_distance.specs.Distances.{wayOf}
 use Rattle.model.specs.Walk.{periodIn, growing}
 use native.Mathlib.Omega.{arith}
 use Prim.Native.Nat.{_-_}

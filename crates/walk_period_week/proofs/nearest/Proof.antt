@@ -8,38 +8,38 @@ use Rattle.walk_period_week.proofs.nearest.Tie as tie
 sub-k : tie.Need-sub-k
 sub-k c = search needs
 
-mul-minus : tie.Need-mul-minus
-mul-minus c = search needs
+mul-difference : tie.Need-mul-difference
+mul-difference c = search needs
 
-sub-minus : tie.Need-sub-minus
-sub-minus c = search needs
+sub-difference : tie.Need-sub-difference
+sub-difference c = search needs
 
-mul-minus-2 : tie.Need-mul-minus-2
-mul-minus-2 c = search needs
+mul-difference-2 : tie.Need-mul-difference-2
+mul-difference-2 c = search needs
 
-shared-slice-read-minus : tie.Need-shared-slice-read-minus
-shared-slice-read-minus c = search needs
+shared-slice-read-difference : tie.Need-shared-slice-read-difference
+shared-slice-read-difference c = search needs
 
-minus-requires : tie.Need-minus-requires
-minus-requires c κs = search needs
+difference-requires : tie.Need-difference-requires
+difference-requires c κs = search needs
 
-mul-minus-3 : tie.Need-mul-minus-3
-mul-minus-3 c = search needs
+mul-difference-3 : tie.Need-mul-difference-3
+mul-difference-3 c = search needs
 
-sub-minus-2 : tie.Need-sub-minus-2
-sub-minus-2 c = search needs
+sub-difference-2 : tie.Need-sub-difference-2
+sub-difference-2 c = search needs
 
-mul-minus-4 : tie.Need-mul-minus-4
-mul-minus-4 c = search needs
+mul-difference-4 : tie.Need-mul-difference-4
+mul-difference-4 c = search needs
 
-shared-slice-read-minus-2 : tie.Need-shared-slice-read-minus-2
-shared-slice-read-minus-2 c = search needs
+shared-slice-read-difference-2 : tie.Need-shared-slice-read-difference-2
+shared-slice-read-difference-2 c = search needs
 
-minus-requires-2 : tie.Need-minus-requires-2
-minus-requires-2 c κs = search needs
+difference-requires-2 : tie.Need-difference-requires-2
+difference-requires-2 c κs = search needs
 
 returns : tie.Need-returns
-returns c = rw (c .before .before .before .before .if1 .taken) (rest-back _ _ _ _ _ _ _ (c .before .before .before .before .before .before .pre .0) refl (c .before .before .minus .ensures) (c .minus2 .ensures))
+returns c = rw (c .before .before .before .before .if1 .taken) (rest-back _ _ _ _ _ _ _ (c .before .before .before .before .before .before .pre .0) refl (c .before .before .difference .ensures) (c .difference2 .ensures))
 
 mul-from : tie.Need-mul-from
 mul-from c = search needs
@@ -70,16 +70,16 @@ nearest-spec =
     tie.close
     (tie.spec
     sub-k
-    mul-minus
-    sub-minus
-    mul-minus-2
-    shared-slice-read-minus
-    minus-requires
-    mul-minus-3
-    sub-minus-2
-    mul-minus-4
-    shared-slice-read-minus-2
-    minus-requires-2
+    mul-difference
+    sub-difference
+    mul-difference-2
+    shared-slice-read-difference
+    difference-requires
+    mul-difference-3
+    sub-difference-2
+    mul-difference-4
+    shared-slice-read-difference-2
+    difference-requires-2
     returns
     mul-from
     mul-from-2

@@ -1,6 +1,6 @@
 -- `walk_period_week::period_in_window` meets its contract: by its tests, of proofs/Hunting.antt. Assumes nothing.
-use Rattle.walk_step.specs.Spending.{wayOf}
-use Rattle.block.specs.Counted.{size}
+use Rattle.instant.specs.Instant.{nanos}
+use Rattle.walk_distance.specs.Distances.{wayOf}
 use Rattle.walk_period_week.proofs.Finding.{window-grows, window-nothing, window-ended, window-far, window-open, window-closed}
 use Rattle.walk_period_week.specs.SoFars.{exact-nothing, exact-growing, exact-ended, exact-far}
 use native.Mathlib.Omega.{arith}
@@ -48,10 +48,10 @@ further-requires-3 : tie.Need-further-requires-3
 further-requires-3 c κs = (c .before .before .before .before .before .before .before .before .before .before .before .pre .1)
 
 returns-5 : tie.Need-returns-5
-returns-5 c = (window-open _ _ _ _ _ _ (c .before .before .before .before .before .before .before .before .before .before .before .before .args .some) (size (c .before .before .before .before .before .before .before .before .before .before .before .before .args .f)) (size (c .before .before .before .before .before .before .before .before .before .before .before .before .args .e)) _ _ (c .before .before .before .before .before .before .before .before .before .nearest .ensures) _ (c .before .before .before .before .before .before .before .before .further .ensures .0) (c .before .before .before .before .before .before .before .stops .ensures) (c .before .before .before .before .before .before .if3 .left) _ (c .before .before .before .before .before .start-of .ensures .0) (c .before .before .before .before .joined .ensures) _ _ (c .further2 .ensures .0) (c .before .before .to .given .1), exact-growing (c .before .before .before .before .before .start-of .ensures .1) (c .further2 .ensures .1))
+returns-5 c = (window-open _ _ _ _ _ _ (c .before .before .before .before .before .before .before .before .before .before .before .before .args .some) (nanos (c .before .before .before .before .before .before .before .before .before .before .before .before .args .f)) (nanos (c .before .before .before .before .before .before .before .before .before .before .before .before .args .e)) _ _ (c .before .before .before .before .before .before .before .before .before .nearest .ensures) _ (c .before .before .before .before .before .before .before .before .further .ensures .0) (c .before .before .before .before .before .before .before .stops .ensures) (c .before .before .before .before .before .before .if3 .left) _ (c .before .before .before .before .before .start-of .ensures .0) (c .before .before .before .before .joined .ensures) _ _ (c .further2 .ensures .0) (c .before .before .to .given .1), exact-growing (c .before .before .before .before .before .start-of .ensures .1) (c .further2 .ensures .1))
 
 returns-6 : tie.Need-returns-6
-returns-6 c = (window-closed _ _ _ _ _ _ (c .before .before .before .before .before .before .before .before .before .before .before .before .args .some) (size (c .before .before .before .before .before .before .before .before .before .before .before .before .args .f)) (size (c .before .before .before .before .before .before .before .before .before .before .before .before .args .e)) _ _ (c .before .before .before .before .before .before .before .before .before .nearest .ensures) _ (c .before .before .before .before .before .before .before .before .further .ensures .0) (c .before .before .before .before .before .before .before .stops .ensures) (c .before .before .before .before .before .before .if3 .left) _ (c .before .before .before .before .before .start-of .ensures .0) (c .before .before .before .before .joined .ensures) _ _ (c .further3 .ensures .0) (c .before .before .to2 .given .1), exact-ended (c .before .before .before .before .before .start-of .ensures .1) (c .further3 .ensures .1))
+returns-6 c = (window-closed _ _ _ _ _ _ (c .before .before .before .before .before .before .before .before .before .before .before .before .args .some) (nanos (c .before .before .before .before .before .before .before .before .before .before .before .before .args .f)) (nanos (c .before .before .before .before .before .before .before .before .before .before .before .before .args .e)) _ _ (c .before .before .before .before .before .before .before .before .before .nearest .ensures) _ (c .before .before .before .before .before .before .before .before .further .ensures .0) (c .before .before .before .before .before .before .before .stops .ensures) (c .before .before .before .before .before .before .if3 .left) _ (c .before .before .before .before .before .start-of .ensures .0) (c .before .before .before .before .joined .ensures) _ _ (c .further3 .ensures .0) (c .before .before .to2 .given .1), exact-ended (c .before .before .before .before .before .start-of .ensures .1) (c .further3 .ensures .1))
 
 pub period-in-window-spec : {M : Type 1} → statement M
 period-in-window-spec =

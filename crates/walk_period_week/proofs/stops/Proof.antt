@@ -11,11 +11,11 @@ same-requires c κs = search needs
 returns : tie.Need-returns
 returns c = rw (c .before .if1 .taken) (ap not (c .same .ensures))
 
-less-requires : tie.Need-less-requires
-less-requires c κs = search needs
+precedes-requires : tie.Need-precedes-requires
+precedes-requires c κs = search needs
 
 returns-2 : tie.Need-returns-2
-returns-2 c = rw (c .before .if1 .left) (c .less .ensures)
+returns-2 c = rw (c .before .if1 .left) (c .precedes .ensures)
 
 pub stops-spec : {M : Type 1} → statement M
-stops-spec = tie.close (tie.spec same-requires returns less-requires returns-2)
+stops-spec = tie.close (tie.spec same-requires returns precedes-requires returns-2)

@@ -12,11 +12,11 @@ use borrow.Author.Needs.{needs}
 use Rattle.walk_search_week.proofs.exceeds.Statement.{statement}
 use Rattle.walk_search_week.proofs.exceeds.Tie as tie
 
-minus-requires : tie.Need-minus-requires
-minus-requires c κs = search needs
+difference-requires : tie.Need-difference-requires
+difference-requires c κs = search needs
 
 returns : tie.Need-returns
-returns c = ap (ltb (c .before .args .limit)) (c .minus .ensures)
+returns c = ap (ltb (c .before .args .limit)) (c .difference .ensures)
 
 pub exceeds-spec : {M : Type 1} → statement M
-exceeds-spec = tie.close (tie.spec minus-requires returns)
+exceeds-spec = tie.close (tie.spec difference-requires returns)

@@ -20,41 +20,41 @@ abbrev μ-loop : tie.MeasureT-loop
 loop-holds : tie.Need-loop-holds Inv-loop μ-loop
 loop-holds c = (omega arith, refl)
 
-mul-minus : tie.Need-mul-minus Inv-loop μ-loop
-mul-minus c = search needs
+mul-difference : tie.Need-mul-difference Inv-loop μ-loop
+mul-difference c = search needs
 
-sub-minus : tie.Need-sub-minus Inv-loop μ-loop
-sub-minus c = search needs
+sub-difference : tie.Need-sub-difference Inv-loop μ-loop
+sub-difference c = search needs
 
-mul-minus-2 : tie.Need-mul-minus-2 Inv-loop μ-loop
-mul-minus-2 c = search needs
+mul-difference-2 : tie.Need-mul-difference-2 Inv-loop μ-loop
+mul-difference-2 c = search needs
 
-shared-slice-read-minus : tie.Need-shared-slice-read-minus Inv-loop μ-loop
-shared-slice-read-minus c = search needs
+shared-slice-read-difference : tie.Need-shared-slice-read-difference Inv-loop μ-loop
+shared-slice-read-difference c = search needs
 
-minus-requires : tie.Need-minus-requires Inv-loop μ-loop
-minus-requires c κs = search needs
+difference-requires : tie.Need-difference-requires Inv-loop μ-loop
+difference-requires c κs = search needs
 
 add-from : tie.Need-add-from Inv-loop μ-loop
-add-from c = omega (arith, ((c .minus .ensures)), ((c .before .before .before .before .before .pre .1)))
+add-from c = omega (arith, ((c .difference .ensures)), ((c .before .before .before .before .before .pre .1)))
 
-mul-minus-3 : tie.Need-mul-minus-3 Inv-loop μ-loop
-mul-minus-3 c = search needs
+mul-difference-3 : tie.Need-mul-difference-3 Inv-loop μ-loop
+mul-difference-3 c = search needs
 
-sub-minus-2 : tie.Need-sub-minus-2 Inv-loop μ-loop
-sub-minus-2 c = search needs
+sub-difference-2 : tie.Need-sub-difference-2 Inv-loop μ-loop
+sub-difference-2 c = search needs
 
-mul-minus-4 : tie.Need-mul-minus-4 Inv-loop μ-loop
-mul-minus-4 c = search needs
+mul-difference-4 : tie.Need-mul-difference-4 Inv-loop μ-loop
+mul-difference-4 c = search needs
 
-shared-slice-read-minus-2 : tie.Need-shared-slice-read-minus-2 Inv-loop μ-loop
-shared-slice-read-minus-2 c = search needs
+shared-slice-read-difference-2 : tie.Need-shared-slice-read-difference-2 Inv-loop μ-loop
+shared-slice-read-difference-2 c = search needs
 
-minus-requires-2 : tie.Need-minus-requires-2 Inv-loop μ-loop
-minus-requires-2 c κs = search needs
+difference-requires-2 : tie.Need-difference-requires-2 Inv-loop μ-loop
+difference-requires-2 c κs = search needs
 
 add-to : tie.Need-add-to Inv-loop μ-loop
-add-to c = omega (arith, ((c .minus2 .ensures)), ((c .before .before .before .before .before .before .before .pre .1)))
+add-to c = omega (arith, ((c .difference2 .ensures)), ((c .before .before .before .before .before .before .before .pre .1)))
 
 sub-i : tie.Need-sub-i Inv-loop μ-loop
 sub-i c = search needs
@@ -63,16 +63,16 @@ exceeds-requires : tie.Need-exceeds-requires Inv-loop μ-loop
 exceeds-requires c κs = search needs
 
 returns : tie.Need-returns Inv-loop μ-loop
-returns c = step-gap _ _ _ _ _ _ _ _ _ (first-moved ((c .before .before .before .before .before .before .before .before .before .args .g)) (back-at _ _ _ _ _ ((c .before .before .before .before .before .before .loop-test .taken)) ((c .before .before .before .before .minus .ensures)) ((c .before .before .minus2 .ensures)))) ((c .before .before .before .before .before .before .before .loop .inv .1)) (sym ((c .before .exceeds .ensures)) ∙ ((c .if1 .taken)))
+returns c = step-gap _ _ _ _ _ _ _ _ _ (first-moved ((c .before .before .before .before .before .before .before .before .before .args .g)) (back-at _ _ _ _ _ ((c .before .before .before .before .before .before .loop-test .taken)) ((c .before .before .before .before .difference .ensures)) ((c .before .before .difference2 .ensures)))) ((c .before .before .before .before .before .before .before .loop .inv .1)) (sym ((c .before .exceeds .ensures)) ∙ ((c .if1 .taken)))
 
-minus-requires-3 : tie.Need-minus-requires-3 Inv-loop μ-loop
-minus-requires-3 c κs = search needs
+difference-requires-3 : tie.Need-difference-requires-3 Inv-loop μ-loop
+difference-requires-3 c κs = search needs
 
 add-t22 : tie.Need-add-t22 Inv-loop μ-loop
-add-t22 c = omega (arith, ((c .before .minus3 .ensures)), ((c .if2 .taken)), ((c .before .before .before .before .before .before .minus .ensures)), ((c .before .before .before .before .minus2 .ensures)), ((c .before .before .before .before .before .before .before .before .before .before .before .pre .1)))
+add-t22 c = omega (arith, ((c .before .difference3 .ensures)), ((c .if2 .taken)), ((c .before .before .before .before .before .before .difference .ensures)), ((c .before .before .before .before .difference2 .ensures)), ((c .before .before .before .before .before .before .before .before .before .before .before .pre .1)))
 
 returns-2 : tie.Need-returns-2 Inv-loop μ-loop
-returns-2 c = step-found _ _ _ _ _ _ _ _ _ (first-moved ((c .before .before .before .before .before .before .before .before .before .before .before .args .g)) (back-at _ _ _ _ _ ((c .before .before .before .before .before .before .before .before .loop-test .taken)) ((c .before .before .before .before .before .before .minus .ensures)) ((c .before .before .before .before .minus2 .ensures)))) ((c .before .before .before .before .before .before .before .before .before .loop .inv .1)) (sym ((c .before .before .before .exceeds .ensures)) ∙ ((c .before .before .if1 .left))) _ ((c .before .minus3 .ensures)) ((c .if2 .taken))
+returns-2 c = step-found _ _ _ _ _ _ _ _ _ (first-moved ((c .before .before .before .before .before .before .before .before .before .before .before .args .g)) (back-at _ _ _ _ _ ((c .before .before .before .before .before .before .before .before .loop-test .taken)) ((c .before .before .before .before .before .before .difference .ensures)) ((c .before .before .before .before .difference2 .ensures)))) ((c .before .before .before .before .before .before .before .before .before .loop .inv .1)) (sym ((c .before .before .before .exceeds .ensures)) ∙ ((c .before .before .if1 .left))) _ ((c .before .difference3 .ensures)) ((c .if2 .taken))
 
 sub-left : tie.Need-sub-left Inv-loop μ-loop
 sub-left c = omega (arith, ((c .if2 .left)))
@@ -81,7 +81,7 @@ loop-less : tie.Need-loop-less Inv-loop μ-loop
 loop-less c = omega (arith, ((c .before .before .before .before .before .before .before .before .loop-test .taken)))
 
 loop-again : tie.Need-loop-again Inv-loop μ-loop
-loop-again c = (omega (arith, ((c .before .before .before .before .before .before .before .before .before .loop .inv .0))), step-on _ _ _ _ _ _ _ _ _ (first-moved ((c .before .before .before .before .before .before .before .before .before .before .before .args .g)) (back-at _ _ _ _ _ ((c .before .before .before .before .before .before .before .before .loop-test .taken)) ((c .before .before .before .before .before .before .minus .ensures)) ((c .before .before .before .before .minus2 .ensures)))) ((c .before .before .before .before .before .before .before .before .before .loop .inv .1)) (sym ((c .before .before .before .exceeds .ensures)) ∙ ((c .before .before .if1 .left))) _ ((c .before .minus3 .ensures)) ((c .if2 .left)))
+loop-again c = (omega (arith, ((c .before .before .before .before .before .before .before .before .before .loop .inv .0))), step-on _ _ _ _ _ _ _ _ _ (first-moved ((c .before .before .before .before .before .before .before .before .before .before .before .args .g)) (back-at _ _ _ _ _ ((c .before .before .before .before .before .before .before .before .loop-test .taken)) ((c .before .before .before .before .before .before .difference .ensures)) ((c .before .before .before .before .difference2 .ensures)))) ((c .before .before .before .before .before .before .before .before .before .loop .inv .1)) (sym ((c .before .before .before .exceeds .ensures)) ∙ ((c .before .before .if1 .left))) _ ((c .before .difference3 .ensures)) ((c .if2 .left)))
 
 add-exceeds : tie.Need-add-exceeds Inv-loop μ-loop
 add-exceeds c = omega (arith, ((c .before .before .before .pre .1)))
@@ -102,22 +102,22 @@ search-backward-spec =
     Inv-loop
     μ-loop
     loop-holds
-    mul-minus
-    sub-minus
-    mul-minus-2
-    shared-slice-read-minus
-    minus-requires
+    mul-difference
+    sub-difference
+    mul-difference-2
+    shared-slice-read-difference
+    difference-requires
     add-from
-    mul-minus-3
-    sub-minus-2
-    mul-minus-4
-    shared-slice-read-minus-2
-    minus-requires-2
+    mul-difference-3
+    sub-difference-2
+    mul-difference-4
+    shared-slice-read-difference-2
+    difference-requires-2
     add-to
     sub-i
     exceeds-requires
     returns
-    minus-requires-3
+    difference-requires-3
     add-t22
     returns-2
     sub-left

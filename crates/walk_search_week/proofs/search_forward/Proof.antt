@@ -56,14 +56,14 @@ exceeds-requires c κs = search needs
 returns : tie.Need-returns Inv-loop μ-loop
 returns c = step-gap _ _ _ _ _ _ _ _ _ (first-moved ((c .before .before .before .before .before .before .before .args .g)) (from-first _ _ _ ((c .before .before .before .before .loop-test .taken)))) ((c .before .before .before .before .before .loop .inv .1)) (sym ((c .before .exceeds .ensures)) ∙ ((c .if1 .taken)))
 
-minus-requires : tie.Need-minus-requires Inv-loop μ-loop
-minus-requires c κs = search needs
+difference-requires : tie.Need-difference-requires Inv-loop μ-loop
+difference-requires c κs = search needs
 
 add-t21 : tie.Need-add-t21 Inv-loop μ-loop
-add-t21 c = let u = on-upto ((c .before .before .before .before .before .before .before .before .before .args .w)) _ _ _ ((c .before .before .before .before .before .before .before .before .before .pre .1)) ((c .before .before .before .before .before .before .before .before .before .pre .2)) ((c .before .before .before .before .before .before .loop-test .taken)) in let v = ((c .before .before .before .before .before .before .before .before .before .pre .3)) in omega (arith, u .0, u .1, ((c .before .minus .ensures)), ((c .if2 .taken)))
+add-t21 c = let u = on-upto ((c .before .before .before .before .before .before .before .before .before .args .w)) _ _ _ ((c .before .before .before .before .before .before .before .before .before .pre .1)) ((c .before .before .before .before .before .before .before .before .before .pre .2)) ((c .before .before .before .before .before .before .loop-test .taken)) in let v = ((c .before .before .before .before .before .before .before .before .before .pre .3)) in omega (arith, u .0, u .1, ((c .before .difference .ensures)), ((c .if2 .taken)))
 
 returns-2 : tie.Need-returns-2 Inv-loop μ-loop
-returns-2 c = step-found _ _ _ _ _ _ _ _ _ (first-moved ((c .before .before .before .before .before .before .before .before .before .args .g)) (from-first _ _ _ ((c .before .before .before .before .before .before .loop-test .taken)))) ((c .before .before .before .before .before .before .before .loop .inv .1)) (sym ((c .before .before .before .exceeds .ensures)) ∙ ((c .before .before .if1 .left))) _ ((c .before .minus .ensures)) ((c .if2 .taken))
+returns-2 c = step-found _ _ _ _ _ _ _ _ _ (first-moved ((c .before .before .before .before .before .before .before .before .before .args .g)) (from-first _ _ _ ((c .before .before .before .before .before .before .loop-test .taken)))) ((c .before .before .before .before .before .before .before .loop .inv .1)) (sym ((c .before .before .before .exceeds .ensures)) ∙ ((c .before .before .if1 .left))) _ ((c .before .difference .ensures)) ((c .if2 .taken))
 
 sub-left : tie.Need-sub-left Inv-loop μ-loop
 sub-left c = omega (arith, ((c .if2 .left)))
@@ -72,7 +72,7 @@ loop-less : tie.Need-loop-less Inv-loop μ-loop
 loop-less c = omega (arith, ((c .before .before .before .before .before .before .loop-test .taken)))
 
 loop-again : tie.Need-loop-again Inv-loop μ-loop
-loop-again c = (omega (arith, ((c .before .before .before .before .before .before .loop-test .taken))), step-on _ _ _ _ _ _ _ _ _ (first-moved ((c .before .before .before .before .before .before .before .before .before .args .g)) (from-first _ _ _ ((c .before .before .before .before .before .before .loop-test .taken)))) ((c .before .before .before .before .before .before .before .loop .inv .1)) (sym ((c .before .before .before .exceeds .ensures)) ∙ ((c .before .before .if1 .left))) _ ((c .before .minus .ensures)) ((c .if2 .left)))
+loop-again c = (omega (arith, ((c .before .before .before .before .before .before .loop-test .taken))), step-on _ _ _ _ _ _ _ _ _ (first-moved ((c .before .before .before .before .before .before .before .before .before .args .g)) (from-first _ _ _ ((c .before .before .before .before .before .before .loop-test .taken)))) ((c .before .before .before .before .before .before .before .loop .inv .1)) (sym ((c .before .before .before .exceeds .ensures)) ∙ ((c .before .before .if1 .left))) _ ((c .before .difference .ensures)) ((c .if2 .left)))
 
 add-exceeds : tie.Need-add-exceeds Inv-loop μ-loop
 add-exceeds c = omega (arith, ((c .before .before .before .pre .3)))
@@ -105,7 +105,7 @@ search-forward-spec =
     add-i
     exceeds-requires
     returns
-    minus-requires
+    difference-requires
     add-t21
     returns-2
     sub-left

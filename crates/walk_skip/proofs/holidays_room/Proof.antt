@@ -35,14 +35,14 @@ holiday-room-requires c κs = (fits-at _ _ _ _ noClosed ((c .before .loop-test .
 returns : tie.Need-returns Inv-loop μ-loop
 returns c = open-no _ _ _ _ ((c .before .before .before .before .loop .inv .0)) noClosed ((c .before .before .before .loop-test .taken)) (omega (arith, (c .before .before .before .before .loop .inv .2), (c .before .before .before .before .before .before .before .pre .0))) ((c .before .holiday-room .ensures)) ((c .if1 .taken))
 
-least-requires : tie.Need-least-requires Inv-loop μ-loop
-least-requires c κs = search needs
+minimum-requires : tie.Need-minimum-requires Inv-loop μ-loop
+minimum-requires c κs = search needs
 
 loop-less : tie.Need-loop-less Inv-loop μ-loop
 loop-less c = omega arith
 
 loop-again : tie.Need-loop-again Inv-loop μ-loop
-loop-again c = (open-more _ _ _ _ ((c .before .before .before .before .before .loop .inv .0)) noClosed ((c .before .before .before .before .loop-test .taken)) (omega (arith, (c .before .before .before .before .before .loop .inv .2), (c .before .before .before .before .before .before .before .before .pre .0))) ((c .before .before .holiday-room .ensures)) ((c .before .if1 .left)) ((c .least .ensures)), omega arith, (c .before .before .before .before .before .loop .inv .2))
+loop-again c = (open-more _ _ _ _ ((c .before .before .before .before .before .loop .inv .0)) noClosed ((c .before .before .before .before .loop-test .taken)) (omega (arith, (c .before .before .before .before .before .loop .inv .2), (c .before .before .before .before .before .before .before .before .pre .0))) ((c .before .before .holiday-room .ensures)) ((c .before .if1 .left)) ((c .minimum .ensures)), omega arith, (c .before .before .before .before .before .loop .inv .2))
 
 returns-2 : tie.Need-returns-2 Inv-loop μ-loop
 returns-2 c = open-ends _ _ _ _ ((c .before .loop .inv .0)) ((c .before .loop .inv .1)) ((c .loop-test .left)) (omega (arith, (c .before .loop .inv .2), (c .before .before .before .before .pre .0)))
@@ -59,7 +59,7 @@ holidays-room-spec =
     add-i
     holiday-room-requires
     returns
-    least-requires
+    minimum-requires
     loop-less
     loop-again
     returns-2)

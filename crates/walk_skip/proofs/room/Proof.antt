@@ -15,11 +15,11 @@ in-range-requires c κs = search needs
 returns : tie.Need-returns
 returns c = (room-range _ _ _ (nanos ((c .before .before .before .before .args .t)) - 11 * day) (nanos ((c .before .before .before .before .args .t)) + 11 * day) refl refl ((c .before .in-range .ensures .0)) ((c .if1 .taken)), omega arith)
 
-sub-least : tie.Need-sub-least
-sub-least c = omega (arith, (c .before .before .before .before .before .pre .1 .low))
+sub-minimum : tie.Need-sub-minimum
+sub-minimum c = omega (arith, (c .before .before .before .before .before .pre .1 .low))
 
-add-least : tie.Need-add-least
-add-least c = omega (arith, (c .before .before .before .before .before .before .pre .1 .high))
+add-minimum : tie.Need-add-minimum
+add-minimum c = omega (arith, (c .before .before .before .before .before .before .pre .1 .high))
 
 rules-room-requires : tie.Need-rules-room-requires
 rules-room-requires c κs = let h = (c .before .before .before .before .in-range .ensures .1) (omega (arith, (c .before .before .before .if1 .left))) in let n = (c .before .before .before .before .before .before .before .pre .1 .ns) in let h0 = h .0 in let h1 = h .1 in ((c .before .before .before .before .before .before .before .pre .0 .works), (c .before .before .before .before .before .before .before .pre .0 .work-fits), record { low = omega arith; high = omega arith; ns = n }, record { low = omega arith; high = omega arith; ns = n }, omega arith)
@@ -36,17 +36,17 @@ returns-3 c = let h = (c .before .before .before .before .before .before .before
 holidays-room-requires : tie.Need-holidays-room-requires
 holidays-room-requires c κs = let h = (c .before .before .before .before .before .before .before .before .before .before .in-range .ensures .1) (omega (arith, (c .before .before .before .before .before .before .before .before .before .if1 .left))) in let n = (c .before .before .before .before .before .before .before .before .before .before .before .before .before .pre .1 .ns) in let h0 = h .0 in let h1 = h .1 in ((c .before .before .before .before .before .before .before .before .before .before .before .before .before .pre .0 .closings), (c .before .before .before .before .before .before .before .before .before .before .before .before .before .pre .0 .closed-fits), record { low = omega arith; high = omega arith; ns = n }, record { low = omega arith; high = omega arith; ns = n })
 
-least-requires : tie.Need-least-requires
-least-requires c κs = search needs
+minimum-requires : tie.Need-minimum-requires
+minimum-requires c κs = search needs
 
-least-requires-2 : tie.Need-least-requires-2
-least-requires-2 c κs = search needs
+minimum-requires-2 : tie.Need-minimum-requires-2
+minimum-requires-2 c κs = search needs
 
-least-requires-3 : tie.Need-least-requires-3
-least-requires-3 c κs = search needs
+minimum-requires-3 : tie.Need-minimum-requires-3
+minimum-requires-3 c κs = search needs
 
 returns-4 : tie.Need-returns-4
-returns-4 c = let h = (c .before .before .before .before .before .before .before .before .before .before .before .before .before .before .in-range .ensures .1) (omega (arith, (c .before .before .before .before .before .before .before .before .before .before .before .before .before .if1 .left))) in let n = (c .before .before .before .before .before .before .before .before .before .before .before .before .before .before .before .before .before .pre .1 .ns) in let h0 = h .0 in let h1 = h .1 in (room-all _ _ _ (((c .before .before .before .before .before .before .before .before .before .before .before .before .before .before .before .before .before .args .t .sec) - 950400) * 1000000000 + (c .before .before .before .before .before .before .before .before .before .before .before .before .before .before .before .before .before .args .t .ns)) (((c .before .before .before .before .before .before .before .before .before .before .before .before .before .before .before .before .before .args .t .sec) + 950400) * 1000000000 + (c .before .before .before .before .before .before .before .before .before .before .before .before .before .before .before .before .before .args .t .ns)) (omega arith) (omega arith) ((c .before .before .before .before .before .before .before .before .before .before .before .before .before .before .in-range .ensures .0)) ((c .before .before .before .before .before .before .before .before .before .before .before .before .before .if1 .left)) ((c .before .before .before .before .before .before .before .before .before .rules-room .ensures)) ((c .before .before .before .before .before .before .before .before .if2 .left)) ((c .before .before .before .before .before .before .rules-room2 .ensures)) ((c .before .before .before .before .before .if3 .left)) ((c .before .before .before .holidays-room .ensures)) ((c .before .before .least .ensures)) ((c .before .least2 .ensures)) ((c .least3 .ensures)), omega (arith, (c .before .before .least .ensures), (c .least3 .ensures), (c .before .before .before .before .before .before .before .before .before .before .before .before .before .before .in-range .ensures .2)))
+returns-4 c = let h = (c .before .before .before .before .before .before .before .before .before .before .before .before .before .before .in-range .ensures .1) (omega (arith, (c .before .before .before .before .before .before .before .before .before .before .before .before .before .if1 .left))) in let n = (c .before .before .before .before .before .before .before .before .before .before .before .before .before .before .before .before .before .pre .1 .ns) in let h0 = h .0 in let h1 = h .1 in (room-all _ _ _ (((c .before .before .before .before .before .before .before .before .before .before .before .before .before .before .before .before .before .args .t .sec) - 950400) * 1000000000 + (c .before .before .before .before .before .before .before .before .before .before .before .before .before .before .before .before .before .args .t .ns)) (((c .before .before .before .before .before .before .before .before .before .before .before .before .before .before .before .before .before .args .t .sec) + 950400) * 1000000000 + (c .before .before .before .before .before .before .before .before .before .before .before .before .before .before .before .before .before .args .t .ns)) (omega arith) (omega arith) ((c .before .before .before .before .before .before .before .before .before .before .before .before .before .before .in-range .ensures .0)) ((c .before .before .before .before .before .before .before .before .before .before .before .before .before .if1 .left)) ((c .before .before .before .before .before .before .before .before .before .rules-room .ensures)) ((c .before .before .before .before .before .before .before .before .if2 .left)) ((c .before .before .before .before .before .before .rules-room2 .ensures)) ((c .before .before .before .before .before .if3 .left)) ((c .before .before .before .holidays-room .ensures)) ((c .before .before .minimum .ensures)) ((c .before .minimum2 .ensures)) ((c .minimum3 .ensures)), omega (arith, (c .before .before .minimum .ensures), (c .minimum3 .ensures), (c .before .before .before .before .before .before .before .before .before .before .before .before .before .before .in-range .ensures .2)))
 
 pub room-spec : {M : Type 1} → statement M
 room-spec =
@@ -54,14 +54,14 @@ room-spec =
     (tie.spec
     in-range-requires
     returns
-    sub-least
-    add-least
+    sub-minimum
+    add-minimum
     rules-room-requires
     returns-2
     rules-room-requires-2
     returns-3
     holidays-room-requires
-    least-requires
-    least-requires-2
-    least-requires-3
+    minimum-requires
+    minimum-requires-2
+    minimum-requires-3
     returns-4)

@@ -38,14 +38,14 @@ room-requires c κs = (zone-at ((c .part .ensures)) (fits-at _ _ _ _ noRule ((c 
 returns : tie.Need-returns Inv-loop μ-loop
 returns c = open-no _ _ _ _ ((c .before .before .before .before .before .before .loop .inv .0)) noRule ((c .before .before .before .before .before .loop-test .taken)) (omega (arith, (c .before .before .before .before .before .before .loop .inv .2), (c .before .before .before .before .before .before .before .before .pre .0))) (rule-room ((c .before .before .before .before .before .before .before .before .args .back)) ((c .before .before .before .before .before .before .before .before .args .pack .now)) (getD ((c .before .before .before .before .before .before .before .before .args .t2)) ((c .before .before .before .before .before .before .loop .i)) noRule) ((c .before .before .before .before .before .before .before .before .args .a)) ((c .before .before .before .before .before .before .before .before .args .b)) ((c .before .before .part .ensures)) ((c .before .before .before .before .before .before .before .before .pre .2 .ns)) ((c .before .before .before .before .before .before .before .before .pre .3 .ns)) ((c .before .room .ensures))) ((c .if1 .taken))
 
-least-requires : tie.Need-least-requires Inv-loop μ-loop
-least-requires c κs = search needs
+minimum-requires : tie.Need-minimum-requires Inv-loop μ-loop
+minimum-requires c κs = search needs
 
 loop-less : tie.Need-loop-less Inv-loop μ-loop
 loop-less c = omega arith
 
 loop-again : tie.Need-loop-again Inv-loop μ-loop
-loop-again c = (open-more _ _ _ _ ((c .before .before .before .before .before .before .before .loop .inv .0)) noRule ((c .before .before .before .before .before .before .loop-test .taken)) (omega (arith, (c .before .before .before .before .before .before .before .loop .inv .2), (c .before .before .before .before .before .before .before .before .before .pre .0))) (rule-room ((c .before .before .before .before .before .before .before .before .before .args .back)) ((c .before .before .before .before .before .before .before .before .before .args .pack .now)) (getD ((c .before .before .before .before .before .before .before .before .before .args .t2)) ((c .before .before .before .before .before .before .before .loop .i)) noRule) ((c .before .before .before .before .before .before .before .before .before .args .a)) ((c .before .before .before .before .before .before .before .before .before .args .b)) ((c .before .before .before .part .ensures)) ((c .before .before .before .before .before .before .before .before .before .pre .2 .ns)) ((c .before .before .before .before .before .before .before .before .before .pre .3 .ns)) ((c .before .before .room .ensures))) ((c .before .if1 .left)) ((c .least .ensures)), omega arith, (c .before .before .before .before .before .before .before .loop .inv .2))
+loop-again c = (open-more _ _ _ _ ((c .before .before .before .before .before .before .before .loop .inv .0)) noRule ((c .before .before .before .before .before .before .loop-test .taken)) (omega (arith, (c .before .before .before .before .before .before .before .loop .inv .2), (c .before .before .before .before .before .before .before .before .before .pre .0))) (rule-room ((c .before .before .before .before .before .before .before .before .before .args .back)) ((c .before .before .before .before .before .before .before .before .before .args .pack .now)) (getD ((c .before .before .before .before .before .before .before .before .before .args .t2)) ((c .before .before .before .before .before .before .before .loop .i)) noRule) ((c .before .before .before .before .before .before .before .before .before .args .a)) ((c .before .before .before .before .before .before .before .before .before .args .b)) ((c .before .before .before .part .ensures)) ((c .before .before .before .before .before .before .before .before .before .pre .2 .ns)) ((c .before .before .before .before .before .before .before .before .before .pre .3 .ns)) ((c .before .before .room .ensures))) ((c .before .if1 .left)) ((c .minimum .ensures)), omega arith, (c .before .before .before .before .before .before .before .loop .inv .2))
 
 returns-2 : tie.Need-returns-2 Inv-loop μ-loop
 returns-2 c = open-ends _ _ _ _ ((c .before .loop .inv .0)) ((c .before .loop .inv .1)) ((c .loop-test .left)) (omega (arith, (c .before .loop .inv .2), (c .before .before .before .pre .0)))
@@ -63,7 +63,7 @@ rules-room-spec =
     add-i
     room-requires
     returns
-    least-requires
+    minimum-requires
     loop-less
     loop-again
     returns-2)

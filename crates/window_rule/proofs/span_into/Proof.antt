@@ -8,11 +8,11 @@ use borrow.Author.Needs.{needs}
 use Rattle.window_rule.proofs.span_into.Statement.{statement}
 use Rattle.window_rule.proofs.span_into.Tie as tie
 
-greatest-requires : tie.Need-greatest-requires
-greatest-requires c κs = search needs
+maximum-requires : tie.Need-maximum-requires
+maximum-requires c κs = search needs
 
-least-requires : tie.Need-least-requires
-least-requires c κs = search needs
+minimum-requires : tie.Need-minimum-requires
+minimum-requires c κs = search needs
 
 sub-add : tie.Need-sub-add
 sub-add c = search needs
@@ -27,17 +27,17 @@ same-length : tie.Need-same-length
 same-length c = search needs
 
 returns : tie.Need-returns
-returns c = span-in _ _ _ _ _ _ _ _ _ _ (c .before .before .before .before .before .before .greatest .ensures) (c .before .before .before .before .before .least .ensures) (c .before .before .add .ensures .0) (c .before .before .add .ensures .1) (c .before .before .add .ensures .2)
+returns c = span-in _ _ _ _ _ _ _ _ _ _ (c .before .before .before .before .before .before .maximum .ensures) (c .before .before .before .before .before .minimum .ensures) (c .before .before .add .ensures .0) (c .before .before .add .ensures .1) (c .before .before .add .ensures .2)
 
 returns-2 : tie.Need-returns-2
-returns-2 c = span-out _ _ _ _ _ _ _ _ (c .before .before .greatest .ensures) (c .before .least .ensures) (c .if1 .left) (c .before .before .before .before .pre .normal)
+returns-2 c = span-out _ _ _ _ _ _ _ _ (c .before .before .maximum .ensures) (c .before .minimum .ensures) (c .if1 .left) (c .before .before .before .before .pre .normal)
 
 pub span-into-spec : {M : Type 1} → statement M
 span-into-spec =
     tie.close
     (tie.spec
-    greatest-requires
-    least-requires
+    maximum-requires
+    minimum-requires
     sub-add
     sub-add-2
     add-requires

@@ -8,36 +8,36 @@ use Rattle.zone_changes.proofs.change_in.Tie as tie
 day-in-requires : tie.Need-day-in-requires
 day-in-requires c κs = search needs
 
-cast-minus : tie.Need-cast-minus
-cast-minus c = search needs
+cast-difference : tie.Need-cast-difference
+cast-difference c = search needs
 
-mul-minus : tie.Need-mul-minus
-mul-minus c = search needs
+mul-difference : tie.Need-mul-difference
+mul-difference c = search needs
 
-cast-minus-2 : tie.Need-cast-minus-2
-cast-minus-2 c = search needs
+cast-difference-2 : tie.Need-cast-difference-2
+cast-difference-2 c = search needs
 
-add-minus : tie.Need-add-minus
-add-minus c = search needs
+add-difference : tie.Need-add-difference
+add-difference c = search needs
 
-add-minus-2 : tie.Need-add-minus-2
-add-minus-2 c = search needs
+add-difference-2 : tie.Need-add-difference-2
+add-difference-2 c = search needs
 
-minus-requires : tie.Need-minus-requires
-minus-requires c κs = search needs
+difference-requires : tie.Need-difference-requires
+difference-requires c κs = search needs
 
 returns : tie.Need-returns
-returns c = change-is (c .before .before .args .offset) (c .before .before .args .year) (changeRuleIs (c .before .before .args .turn)) (c .before .day-in .ensures) (c .minus .ensures)
+returns c = change-is (c .before .before .args .offset) (c .before .before .args .year) (changeRuleIs (c .before .before .args .turn)) (c .before .day-in .ensures) (c .difference .ensures)
 
 pub change-in-spec : {M : Type 1} → statement M
 change-in-spec =
     tie.close
     (tie.spec
     day-in-requires
-    cast-minus
-    mul-minus
-    cast-minus-2
-    add-minus
-    add-minus-2
-    minus-requires
+    cast-difference
+    mul-difference
+    cast-difference-2
+    add-difference
+    add-difference-2
+    difference-requires
     returns)

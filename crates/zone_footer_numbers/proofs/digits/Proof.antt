@@ -29,8 +29,8 @@ returns-3 c = (search count-high, search count-small)
 mul-n : tie.Need-mul-n Inv-loop μ-loop
 mul-n c = omega (arith, count-more (c .before .before .before .before .before .loop .inv) (c .before .before .before .before .loop-test .taken))
 
-wide-requires : tie.Need-wide-requires Inv-loop μ-loop
-wide-requires c κs = search needs
+byte-to-u32-requires : tie.Need-byte-to-u32-requires Inv-loop μ-loop
+byte-to-u32-requires c κs = search needs
 
 add-n : tie.Need-add-n Inv-loop μ-loop
 add-n c = omega (arith, count-more (c .before .before .before .before .before .before .loop .inv) (c .before .before .before .before .before .loop-test .taken))
@@ -62,7 +62,7 @@ digits-spec =
     returns-2
     returns-3
     mul-n
-    wide-requires
+    byte-to-u32-requires
     add-n
     add-i
     sub-left

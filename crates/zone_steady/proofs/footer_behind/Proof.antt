@@ -23,14 +23,14 @@ around-requires c κs = let h = start-fits ((c .before .footer2 .given .1)) ((c 
 around-requires-2 : tie.Need-around-requires-2
 around-requires-2 c κs = let h = end-fits ((c .before .before .footer2 .given .1)) ((c .before .before .before .before .pre .0)) in (h .0, h .1, (c .before .before .before .before .pre .1))
 
-greatest-requires : tie.Need-greatest-requires
-greatest-requires c κs = search needs
+maximum-requires : tie.Need-maximum-requires
+maximum-requires c κs = search needs
 
-greatest-requires-2 : tie.Need-greatest-requires-2
-greatest-requires-2 c κs = search needs
+maximum-requires-2 : tie.Need-maximum-requires-2
+maximum-requires-2 c κs = search needs
 
 returns : tie.Need-returns
-returns c = daylight-behind ((c .before .before .before .before .before .before .before .before .footer2 .given .1)) ((c .before .before .before .before .before .before .before .before .before .before .pre .0)) _ ((c .before .before .before .before .before .before .before .before .before .before .pre .2)) ((c .before .before .before .before .before .before .around .ensures)) ((c .before .before .before .before .before .around2 .ensures)) ((c .before .before .before .before .greatest .ensures)) ((c .before .before .before .greatest2 .ensures)) (omega arith)
+returns c = daylight-behind ((c .before .before .before .before .before .before .before .before .footer2 .given .1)) ((c .before .before .before .before .before .before .before .before .before .before .pre .0)) _ ((c .before .before .before .before .before .before .before .before .before .before .pre .2)) ((c .before .before .before .before .before .before .around .ensures)) ((c .before .before .before .before .before .around2 .ensures)) ((c .before .before .before .before .maximum .ensures)) ((c .before .before .before .maximum2 .ensures)) (omega arith)
 
 returns-2 : tie.Need-returns-2
 returns-2 c = empty-behind _ ((c .enum-told .given .1)) ((c .before .before .pre .2))
@@ -42,7 +42,7 @@ returns-4 : tie.Need-returns-4
 returns-4 c = fixed-behind _ ((c .before .footer .given .1)) ((c .before .before .before .pre .2))
 
 returns-5 : tie.Need-returns-5
-returns-5 c = standard-behind ((c .before .before .before .before .before .before .before .before .footer2 .given .1)) ((c .before .before .before .before .before .before .before .before .before .before .pre .0)) _ ((c .before .before .before .before .before .before .before .before .before .before .pre .2)) ((c .before .before .before .before .before .before .around .ensures)) ((c .before .before .before .before .before .around2 .ensures)) ((c .before .before .before .before .greatest .ensures)) ((c .before .before .before .greatest2 .ensures)) (omega arith)
+returns-5 c = standard-behind ((c .before .before .before .before .before .before .before .before .footer2 .given .1)) ((c .before .before .before .before .before .before .before .before .before .before .pre .0)) _ ((c .before .before .before .before .before .before .before .before .before .before .pre .2)) ((c .before .before .before .before .before .before .around .ensures)) ((c .before .before .before .before .before .around2 .ensures)) ((c .before .before .before .before .maximum .ensures)) ((c .before .before .before .maximum2 .ensures)) (omega arith)
 
 pub footer-behind-spec : {M : Type 1} → statement M
 footer-behind-spec =
@@ -54,8 +54,8 @@ footer-behind-spec =
     enum-known-footer-2
     around-requires
     around-requires-2
-    greatest-requires
-    greatest-requires-2
+    maximum-requires
+    maximum-requires-2
     returns
     returns-2
     returns-3
