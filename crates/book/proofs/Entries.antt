@@ -22,7 +22,7 @@ use Rattle.model.specs.Book as model
 use Rattle.model.specs.Book.{holidays, dates, entryOf, entriesOf}
 use Rattle.zone_pack.specs.Directory.{countAt, startAt, lenAt, partAt, recordOk, entriesOk, dirOk}
 use Rattle.zone_pack.proofs.Parts.{parts-index, as-dir}
-use Rattle.book.specs.declared.Time.{Time}
+use Rattle.civil.specs.declared.Time.{Time}
 use Rattle.book.specs.declared.Entry.{Entry}
 use Rattle.book.specs.Meaning.{recordsOf, yearAt, dayAt, datesAt, bodyIn, meaning, kindOf, timeFrom, entryFrom, bytesAt, noEntry, IsTimed, IsEntry, kindAt, datesIn}
 use Rattle.book.specs.Accepts.{isTime, isHours, areDays, isDates, isBody, isRecord, isRecordAt, isBook}

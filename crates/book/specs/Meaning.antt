@@ -12,7 +12,8 @@ use Rattle.model.specs.Instant.{second}
 unfoldable pub use Rattle.book_dates.specs.Days.{yearAt, dayAt, datesAt}
 use Rattle.model.specs.Book as model
 use Rattle.model.specs.Book.{Hours, Body, default, work, pause, holidays, entriesOf, dates, tally}
-use Rattle.book.specs.declared.Time.{Time}
+use Rattle.civil.specs.Dates.{timeIn}
+use Rattle.civil.specs.declared.Time.{Time}
 use Rattle.book.specs.declared.Entry.{Entry}
 use Rattle.book.specs.declared.Tallies.{Tallies}
 
@@ -21,10 +22,6 @@ abbrev pub recordsOf : List ℕ → List model.Entry
 recordsOf b = orEmpty (entriesOf b)
 
 -- ---- records
-
--- a time of day in nanoseconds
-abbrev pub timeIn : Time → ℕ
-timeIn t = t .seconds * second + t .nanos
 
 abbrev pub hoursIn : Entry → Hours
 hoursIn e = record { days = e .days; from = timeIn (e .start); to = timeIn (e .end) }

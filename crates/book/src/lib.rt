@@ -9,12 +9,7 @@ ghost use Rattle.model.specs.Book.{withinLimits, lastDefault};
 ghost use Rattle.big_endian.specs.Walk.{allFrom};
 ghost use Rattle.book.specs.Meaning.{recordsOf, dayAt, datesAt, timeFrom, entryFrom, bytesAt, IsEntry, kindAt, datesIn, talliesOf};
 ghost use Rattle.book.specs.Accepts.{isTime, isHours, isDates, isBody, isRecord, isRecordAt, isBook};
-
-// A time of day.
-pub struct Time {
-    pub seconds: u32,
-    pub nanos: u32,
-}
+use civil::Time;
 
 // A record of the book. A name and dates are given by where they stand in the book.
 pub struct Entry {

@@ -14,7 +14,7 @@ ghost use Rattle.book.specs.Meaning.{recordsOf, bodyIn, meaning};
 ghost use Rattle.book.specs.Accepts.{isBook};
 ghost use Rattle.build.specs.Read.{filesOf, zoneMeant, zoneLookupIs, ZoneLookupFits, OpenedWell, IsUtc, SameBytes, SameName, LooksUp, lookupAfter, ruleFrom, holidaysFrom, Sized, Long, Refuses, Reads, Answers, rulesRead};
 use book::Entry;
-use book::Time;
+use civil::Time;
 use rule::HolidayDates;
 use rule::Rule;
 use rule::Schedule;

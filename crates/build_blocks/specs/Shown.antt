@@ -11,7 +11,7 @@ use Rattle.instant.specs.declared.Instant.{Instant}
 use Rattle.block_list.specs.Listed.{listOf}
 use Rattle.block_list.specs.declared.Block.{Block}
 use Rattle.block_list.specs.declared.Blocks.{Blocks}
-use Rattle.book.specs.Meaning.{timeIn}
+use Rattle.civil.specs.Dates.{timeIn}
 use Rattle.rule.specs.Rules.{ruleIs}
 use Rattle.rule.specs.declared.Rule.{Rule}
 use Rattle.zone_local.specs.Dates.{tillTime}

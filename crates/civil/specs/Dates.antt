@@ -1,12 +1,13 @@
 -- What the code's dates mean: the definitions' dates, with an answer where there is none.
 use Rattle.model.specs.Basic.{if_then_else_}
 use mathlib.Core.Bool.{_&&_}
-use Prim.Native.Nat.{ℕ, _+_, _*_}
+use Prim.Native.Nat.{ℕ, _+_, _*_, _<_}
 use lib.Dec.{ltb}
 use Rattle.model.specs.Calendar as M
 use Rattle.model.specs.Calendar.{isDate, dayNumber}
 use Rattle.model.specs.Instant.{second}
 use Rattle.civil.specs.declared.Date.{Date}
+use Rattle.civil.specs.declared.Time.{Time}
 use Rattle.civil.specs.declared.DayRead.{DayRead}
 use Rattle.civil.specs.declared.DayRead.the-variants.{Day, NoDate}
 use Rattle.civil.specs.declared.TimeRead.{TimeRead}
@@ -23,3 +24,12 @@ dayRead d = if isDate (d .year) (d .month) (d .day) then Day (dayNumber (d .year
 -- a time of day in nanoseconds. Document 01: "Time of day: second 0 to 86,399 and nanoseconds."
 unfoldable pub timeRead : ℕ → ℕ → TimeRead
 timeRead s n = if ltb s 86400 && ltb n second then Nanoseconds (s * second + n) else NoTime
+
+-- a time of day in nanoseconds
+abbrev pub timeIn : Time → ℕ
+timeIn t = t .seconds * second + t .nanos
+
+-- a time of day: "second 0 to 86,399 and nanoseconds"
+pub record TimeFits (t : Time) : Type 0 where
+  pub seconds : t .seconds < 86400
+  pub nanos : t .nanos < second

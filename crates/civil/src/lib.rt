@@ -11,6 +11,12 @@ pub struct Date {
     pub day: u32,
 }
 
+// A time of day.
+pub struct Time {
+    pub seconds: u32,
+    pub nanos: u32,
+}
+
 const LENGTHS: [u32; 13] = [0, 31, 28, 31, 30, 31, 30, 31, 31, 30, 31, 30, 31];
 
 const STARTS: [u32; 13] = [0, 0, 31, 59, 90, 120, 151, 181, 212, 243, 273, 304, 334];

@@ -7,8 +7,8 @@ use Rattle.model.specs.Basic.{distinct}
 use Rattle.model.specs.Instant.{second}
 use Rattle.model.specs.Working as model
 use Rattle.laws_skip.specs.Books.{BuiltWell}
-use Rattle.book.specs.Meaning.{timeIn, datesAt}
-use Rattle.book.specs.declared.Time.{Time}
+use Rattle.book.specs.Meaning.{datesAt}
+use Rattle.civil.specs.Dates.{timeIn, TimeFits}
 use Rattle.zone.specs.Zones.{meant, ZoneOk}
 use Rattle.rule.specs.declared.Rule.{Rule}
 use Rattle.rule.specs.declared.HolidayDates.{HolidayDates}
@@ -34,10 +34,6 @@ scheduleIs b p s = record {
 }
 
 -- ---- what the rules of a built schedule have
-
-pub record TimeFits (t : Time) : Type 0 where
-  pub seconds : t .seconds < 86400
-  pub nanos : t .nanos < 1000000000
 
 pub record RuleFits (p : List ℕ) (r : Rule) : Type 0 where
   pub opened : ZoneOk (fileAt p (r .at) (r .len)) (r .zone)

@@ -1,6 +1,6 @@
 // A built schedule by value: the work and break rules and the holiday records of a book, each with its zone. Zone files stay in the lent pack and
 // dates in the lent book: a rule says where they stand.
-use book::Time;
+use civil::Time;
 use zone::Zone;
 
 // A work or break rule.

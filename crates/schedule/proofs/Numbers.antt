@@ -15,9 +15,8 @@ use Rattle.model.specs.Basic.{isIn}
 use Rattle.model.specs.Answer.{Answer, gives, refuses}
 use Rattle.model.specs.Instant as M
 use Rattle.model.specs.Instant.{second, firstInstant, lastInstant, isBelow0, secondFrom, instantOf, instant, areOpposite, durationOf, duration, negated}
-use Rattle.instant.specs.Instant.{nanos}
+use Rattle.instant.specs.Instant.{nanos, InRange}
 use Rattle.instant.specs.declared.Instant.{Instant}
-use Rattle.zone_local.specs.Dates.{InRange}
 use Rattle.instant_signed.specs.Reads.{ofNanos, instantRead, secondsFrom}
 use Rattle.instant_signed.specs.Durations.{signedPair, durationRead, negatedRead, negation}
 use Rattle.instant_signed.specs.declared.InstantRead.{InstantRead}

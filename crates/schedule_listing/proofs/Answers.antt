@@ -20,9 +20,8 @@ use Rattle.model.specs.Calls.{listCall, list, stretchCount, numbersAfter}
 use Rattle.model.specs.Instant.{second, firstInstant, lastInstant, isBelow0, secondFrom, instantOf}
 use Rattle.model.specs.Walk.{stretches}
 use Rattle.model.specs.Working.{Schedule}
-use Rattle.instant.specs.Instant.{nanos}
+use Rattle.instant.specs.Instant.{nanos, InRange}
 use Rattle.instant.specs.declared.Instant.{Instant}
-use Rattle.zone_local.specs.Dates.{InRange}
 use Rattle.instant_signed.specs.Reads.{ofNanos, instantRead}
 use Rattle.instant_signed.specs.declared.InstantRead.{InstantRead}
 use Rattle.instant_signed.specs.declared.InstantRead.the-variants as R

@@ -12,9 +12,8 @@ use Rattle.model.specs.Blocks.{Block, block}
 use Rattle.model.specs.Working.{Schedule, working}
 use Rattle.model.specs.Walk.{begun, onward, listed, stretches}
 use Rattle.laws_blocks.specs.Move.{moves}
-use Rattle.instant.specs.Instant.{nanos}
+use Rattle.instant.specs.Instant.{nanos, InRange}
 use Rattle.instant.specs.declared.Instant.{Instant}
-use Rattle.zone_local.specs.Dates.{InRange}
 use Rattle.laws_skip.specs.WindowEnds.{Inside}
 use Rattle.laws_skip.specs.Schedules.{working-inside}
 use Rattle.block.specs.Counted.{blockOf}

@@ -16,9 +16,8 @@ use Rattle.model.specs.Walk.{Way, on, back, at, reach, period}
 use Rattle.model.specs.Build.{build}
 use Rattle.model.specs.Calls.{Reply, ends, periodCall}
 use Rattle.laws_base.specs.Test.{by-test, and-both}
-use Rattle.instant.specs.Instant.{nanos}
+use Rattle.instant.specs.Instant.{nanos, InRange}
 use Rattle.instant.specs.declared.Instant.{Instant}
-use Rattle.zone_local.specs.Dates.{InRange}
 use Rattle.instant_signed.specs.Reads.{ofNanos, instantRead, secondsFrom}
 use Rattle.instant_signed.specs.declared.InstantRead.the-variants as R
 use Rattle.rule.specs.Rules.{scheduleIs}

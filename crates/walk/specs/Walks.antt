@@ -9,9 +9,8 @@ use Rattle.model.specs.Walk.{Way, search}
 use Rattle.model.specs.Working as model
 use Rattle.model.specs.Skip.{neededSearch}
 use Rattle.laws_skip.specs.Skips.{Previous as Previous′, keep, maySkip}
-use Rattle.instant.specs.Instant.{nanos}
+use Rattle.instant.specs.Instant.{nanos, InRange}
 use Rattle.instant.specs.declared.Instant.{Instant}
-use Rattle.zone_local.specs.Dates.{InRange}
 use Rattle.walk.specs.declared.Previous.{Previous}
 use Rattle.walk.specs.declared.Reached.{Reached}
 use Rattle.walk.specs.declared.Reached.the-variants as R

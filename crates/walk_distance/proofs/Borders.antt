@@ -4,9 +4,8 @@ use Prim.Native.Nat.{ℕ, _+_, _≤_, _<_, min}
 use native.Mathlib.Omega.{arith}
 use Rattle.model.specs.Instant.{week}
 use Rattle.model.specs.Walk.{Way, on, back, at, reach}
-use Rattle.instant.specs.Instant.{nanos}
+use Rattle.instant.specs.Instant.{nanos, InRange}
 use Rattle.instant.specs.declared.Instant.{Instant}
-use Rattle.zone_local.specs.Dates.{InRange}
 use Rattle.walk_distance.specs.Distances.{Short, Ahead}
 
 -- a window that begins before the range's end

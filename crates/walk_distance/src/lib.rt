@@ -3,14 +3,13 @@
 ghost use mathlib.Core.Path.{_≡_};
 ghost use Prim.Native.Nat.{ℕ, _+_, _*_, _-_, _≤_, _<_, min};
 ghost use lib.ListN.{length};
-ghost use Rattle.instant.specs.Instant.{nanos};
+ghost use Rattle.instant.specs.Instant.{nanos, InRange};
 ghost use Rattle.model.specs.Instant.{week};
 ghost use Rattle.model.specs.Walk.{ahead};
 ghost use Rattle.model.specs.Walk as way;
 ghost use Rattle.laws_blocks.specs.Move.{moves};
 ghost use Rattle.laws_skip.specs.WindowEnds.{Inside};
 ghost use Rattle.rule.specs.Rules.{scheduleIs, ScheduleFits};
-ghost use Rattle.zone_local.specs.Dates.{InRange};
 ghost use Rattle.walk_distance.specs.Distances.{wayOf};
 ghost use Rattle.window_dates.specs.Windows.{Window};
 ghost use Rattle.block_pairs.specs.Pairs.{pairs};

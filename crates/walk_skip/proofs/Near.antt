@@ -19,8 +19,7 @@ use Rattle.book.specs.Meaning.{dayAt, datesAt}
 use Rattle.laws_zone.specs.Zones.{fits-sound}
 use Rattle.rule.specs.Rules.{fileAt, holidaysIs, HolidaysFit}
 use Rattle.rule.specs.declared.HolidayDates.{HolidayDates}
-use Rattle.zone_local.specs.Dates.{InRange}
-use Rattle.instant.specs.Instant.{nanos}
+use Rattle.instant.specs.Instant.{InRange, nanos}
 use Rattle.instant.specs.declared.Instant.{Instant}
 use Rattle.zone.specs.Zones.{meant}
 use Rattle.zone_steady.specs.Steady.{Room, low, high}

@@ -23,7 +23,7 @@ use Rattle.laws_demand3.specs.Local.{offsetNanos, first-from, last-upto}
 use Rattle.laws_skip.specs.Counts.{dates-most}
 use Rattle.zone.specs.Zones.{meant, ZoneOk}
 use Rattle.zone.specs.declared.Zone.{Zone as Zone′}
-use Rattle.book.specs.Meaning.{timeIn}
+use Rattle.civil.specs.Dates.{timeIn}
 use Rattle.instant.specs.Instant.{nanos}
 use Rattle.instant.specs.declared.Instant.{Instant}
 use Rattle.block.specs.declared.Block.{Block as Item}

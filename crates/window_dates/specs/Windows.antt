@@ -5,9 +5,9 @@ use Rattle.model.specs.Calendar.{firstDay, lastDay}
 use Rattle.model.specs.Instant.{day}
 use Rattle.model.specs.Tzif.{Zone}
 use Rattle.model.specs.Working.{firstDate, lastDate}
-use Rattle.instant.specs.Instant.{nanos}
+use Rattle.instant.specs.Instant.{nanos, InRange}
 use Rattle.instant.specs.declared.Instant.{Instant}
-use Rattle.zone_local.specs.Dates.{InRange, KeepsOffset}
+use Rattle.zone_local.specs.Dates.{KeepsOffset}
 use Rattle.window_dates.specs.declared.Days.{Days}
 
 -- a window of at most k days inside the range

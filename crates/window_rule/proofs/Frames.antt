@@ -21,12 +21,12 @@ use Rattle.laws_zone.specs.Zones.{fits-sound}
 use Rattle.instant.specs.Instant.{nanos}
 use Rattle.instant.specs.declared.Instant.{Instant}
 use Rattle.block.specs.declared.Block.{Block as Item}
-use Rattle.book.specs.Meaning.{timeIn}
-use Rattle.book.specs.declared.Time.{Time}
+use Rattle.civil.specs.Dates.{timeIn, TimeFits}
+use Rattle.civil.specs.declared.Time.{Time}
 use Rattle.zone.specs.Zones.{meant, ZoneOk}
 use Rattle.zone.specs.declared.Zone.{Zone as Zone′}
 use Rattle.rule.specs.declared.Rule.{Rule as Rule′}
-use Rattle.rule.specs.Rules.{fileAt, ruleIs, RuleFits, TimeFits}
+use Rattle.rule.specs.Rules.{fileAt, ruleIs, RuleFits}
 use Rattle.zone_local.specs.Dates.{held, pieceOf, during, tillTime, KeepsOffset, IsIn}
 use Rattle.zone_local.proofs.Facts.{plain-piece, kept-small}
 use Rattle.window_dates.specs.Windows.{Window, DaysOf}

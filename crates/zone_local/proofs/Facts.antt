@@ -18,16 +18,15 @@ use Rattle.laws_zone.specs.Zones.{fits-sound}
 use Rattle.laws_zone.specs.Runs.{Run}
 use Rattle.laws_demand3.specs.Local.{offsetNanos, off-high}
 use Rattle.laws_skip.specs.Steady.{less, till, const-date}
-use Rattle.instant.specs.Instant.{nanos}
+use Rattle.instant.specs.Instant.{nanos, InRange}
 use Rattle.instant.specs.declared.Instant.{Instant}
 use Rattle.zone.specs.Zones.{meant, ZoneOk}
 use Rattle.zone.specs.declared.Zone.{Zone as Zone′}
-use Rattle.book.specs.Meaning.{timeIn}
-use Rattle.book.specs.declared.Time.{Time}
-use Rattle.rule.specs.Rules.{TimeFits}
+use Rattle.civil.specs.Dates.{timeIn, TimeFits}
+use Rattle.civil.specs.declared.Time.{Time}
 use Rattle.block.specs.Counted.{blockOf}
 use Rattle.block.specs.declared.Block.{Block}
-use Rattle.zone_local.specs.Dates.{InRange, during, rangeEnd, pieceOf, held, KeepsOffset, IsIn, tillTime}
+use Rattle.zone_local.specs.Dates.{during, rangeEnd, pieceOf, held, KeepsOffset, IsIn, tillTime}
 
 pub local-is : (z : Zone) (sec ns o : ℕ) → ns < 1000000000 → o ≡ offsetAt z sec → (sec + o - 93600) / 86400 ≡ localDay z (sec * 1000000000 + ns)
 unfolding localDay

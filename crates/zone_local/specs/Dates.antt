@@ -15,12 +15,6 @@ use Rattle.laws_demand3.specs.Local.{offsetNanos}
 use Rattle.instant.specs.Instant.{nanos}
 use Rattle.instant.specs.declared.Instant.{Instant}
 
--- an instant of the range, its nanoseconds below a second
-pub record InRange (t : Instant) : Type 0 where
-  pub low : 12654496799 ≤ t .sec
-  pub high : t .sec ≤ 643761727200
-  pub ns : t .ns < 1000000000
-
 -- a date of the years -9999 to 9999
 pub record IsDay (d : ℕ) : Type 0 where
   pub low : firstDay ≤ d

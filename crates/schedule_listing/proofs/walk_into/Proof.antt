@@ -1,9 +1,8 @@
 -- `schedule_listing::walk_into` meets its contract: the loop keeps `Walking`, of proofs/Windows.antt. Assumes nothing.
 use Rattle.schedule_listing.proofs.Windows.{Walking, walking-starts, walking-ready, walking-on, walked-room, walked-few, walked-count, walked-same, range-last, range-small}
 use Rattle.rule.specs.Rules.{scheduleIs}
-use Rattle.zone_local.specs.Dates.{InRange}
+use Rattle.instant.specs.Instant.{InRange, nanos}
 use Rattle.block.specs.Counted.{blockOf}
-use Rattle.instant.specs.Instant.{nanos}
 use lib.ListN.{length}
 use Prim.Native.Nat.{_-_}
 use mathlib.Core.Path.{_≡_, refl, sym, _∙_}

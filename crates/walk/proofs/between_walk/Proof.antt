@@ -1,9 +1,8 @@
 -- `walk::between_walk` meets its contract: the loop keeps `Adding`, of proofs/Sums.antt. Assumes nothing.
 use Rattle.rule.specs.Rules.{scheduleIs}
-use Rattle.zone_local.specs.Dates.{InRange}
+use Rattle.instant.specs.Instant.{InRange, nanos}
 use Rattle.walk.proofs.Sums.{Adding, adding-starts, adding-reuses, adding-resolves, adding-time, adding-count, run-most}
 use Rattle.walk.proofs.Steps.{sum-fits, some-of}
-use Rattle.instant.specs.Instant.{nanos}
 use Prim.Native.Nat.{_+_, _-_, _<_}
 use borrow.Author.Needs.{needs}
 use native.Mathlib.Omega.{arith}

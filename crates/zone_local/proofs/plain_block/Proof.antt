@@ -1,5 +1,5 @@
 -- `zone_local::plain_block` meets its contract. Assumes nothing.
-use Rattle.book.specs.Meaning.{timeIn}
+use Rattle.civil.specs.Dates.{timeIn}
 use mathlib.Core.Path.{refl, sym, _∙_}
 use Rattle.zone_local.proofs.Facts.{plain-start, plain-same, plain-next}
 use borrow.Author.Needs.{needs}
