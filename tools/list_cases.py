@@ -1,5 +1,5 @@
 #!/usr/bin/env python3
-"""Writes stored listings with the answers that are expected, for the program `replay_lists`.
+"""Writes stored listings with the answers that are expected, for the program `test_replay_lists`.
 
 usage: tools/list_cases.py CASES OUT
 

@@ -1,5 +1,5 @@
 #!/usr/bin/env python3
-"""Puts cases of book, zone pack, query lines and expected answers into a few files, for the program `replay`.
+"""Puts cases of book, zone pack, query lines and expected answers into a few files, for the program `test_replay`.
 
 usage: tools/vector_cases.py FOLDER.. OUT
 

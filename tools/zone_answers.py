@@ -1,5 +1,5 @@
 #!/usr/bin/env python3
-"""Makes the zone pack and the stored answers of the program zone_test.
+"""Makes the zone pack and the stored answers of the program test_zones.
 
 usage: tools/zone_answers.py ZONEINFO OUT
 

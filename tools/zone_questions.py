@@ -1,9 +1,9 @@
 #!/usr/bin/env python3
-"""Makes the zone files, the questions and the expected answers of the program zone_calls_test.
+"""Makes the zone files, the questions and the expected answers of the program test_zone_calls.
 
 usage: tools/zone_questions.py ZONEINFO CRATE
 
-ZONEINFO is a folder of compiled zone files (Debian's package tzdata installs one), CRATE the folder crates/zone_calls_test. data/zones.bin gets the files of the
+ZONEINFO is a folder of compiled zone files (Debian's package tzdata installs one), CRATE the folder crates/test_zone_calls. data/zones.bin gets the files of the
 zones named below, one behind the other; data/questions.bin the questions, 52 bytes each: which call, the file's place and length, 4 bytes each, then five
 signed numbers of 8 bytes with 2^63 added, all big-endian. The expected lines go to CRATE/stdout.
 

@@ -1,11 +1,11 @@
 #!/usr/bin/env python3
-"""Says of every file of a zone database whether document 01 calls it usable, and holds the program zone_test to that.
+"""Says of every file of a zone database whether document 01 calls it usable, and holds the program test_zones to that.
 
 usage: tools/zone_survey.py ZONEINFO [PROGRAM [DAMAGED]]
 
 ZONEINFO is a folder of compiled zone files (Debian's package tzdata installs one). Every file below it is a record of a zone pack, under its path
 in the folder; a pack has at most 1,024 records and 65,536 bytes, so there are many. The judgement below is written from document 01 and RFC 8536
-and shares nothing with the crates. PROGRAM is zone_test as `rt check zone_test` builds it (target/bin/zone_test): it is run on each pack, and what
+and shares nothing with the crates. PROGRAM is test_zones as `rt check test_zones` builds it (target/bin/test_zones): it is run on each pack, and what
 it calls usable is compared. Beside a pack lie answers of Python's zoneinfo for local times about every change and four times a year, and in a second
 run for the next change of the offset (made as zone_answers.py makes them), which the program compares. DAMAGED is a number of files more, made from those that are usable by changing, dropping
 or adding a byte, from a fixed seed, and as many files whose footers are put together at random from good and bad parts: they are judged and

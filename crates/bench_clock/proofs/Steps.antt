@@ -1,12 +1,12 @@
 -- Laws of the functions that are timed: what each answer is, one turn of each loop, and the whole. Assumes nothing.
 use mathlib.Core.Path.{_≡_, refl, sym, ap, _∙_}
-use mathlib.Core.Bool.{not, true, false}
+use mathlib.Core.Bool.{not, false}
 use mathlib.Core.List.{List, [], _∷_}
 use Prim.Native.Nat.{ℕ, zero, suc, _+_, _*_, _-_, _/_, _≤_, _<_}
 use native.Mathlib.Omega.{arith}
 use lib.Dec.{eqb}
 use lib.IntN.{ℤ, pos}
-use lib.ListN.{length, getD, set, take, drop, length-set}
+use lib.ListN.{getD, set, take, drop}
 use mir.Syntax.{w64}
 use mir.Val.{SFits, toZ, ofZ}
 use mir.Facts.{toZ-ofZ}
@@ -15,7 +15,6 @@ use Rattle.model.specs.Answer.{Answer, gives, refuses}
 use Rattle.model.specs.Build.{build}
 use Rattle.model.specs.Calls.{Reply, betweenCall, moveCall, periodCall, listCall, said, numbersAfter}
 use Rattle.model.specs.Instant.{second}
-use Rattle.model.specs.Walk.{on, back}
 use Rattle.model.specs.Working.{Schedule}
 use Rattle.laws_base.specs.Test.{by-test, clash}
 use Rattle.rule.specs.Rules.{scheduleIs}
@@ -24,15 +23,15 @@ use Rattle.build.specs.Read.{answerIs}
 use Rattle.build.specs.declared.Built.{Built}
 use Rattle.schedule.specs.declared.TimeAnswer.{TimeAnswer}
 use Rattle.schedule.specs.declared.TimeAnswer.the-variants as T
-use Rattle.schedule.specs.declared.Moved.{Moved}
-use Rattle.schedule.specs.declared.Moved.the-variants as M
-use Rattle.schedule.specs.Answers.{timeIs, movedIs}
+use Rattle.schedule.specs.declared.MoveAnswer.{MoveAnswer}
+use Rattle.schedule.specs.declared.MoveAnswer.the-variants as M
+use Rattle.schedule.specs.Answers.{timeIs, moveIs}
 use Rattle.schedule_periods.specs.declared.PeriodAnswer.{PeriodAnswer}
 use Rattle.schedule_periods.specs.declared.PeriodAnswer.the-variants as P
 use Rattle.schedule_periods.specs.Replies.{periodIs}
 use Rattle.bench_clock.specs.declared.Told.{Told}
 use Rattle.bench_clock.specs.declared.Told.the-variants as A
-use Rattle.bench_clock.specs.Asked.{toldIs, asked, written, writtenAt, answered, groupsFrom, groups, groupsOf, limitIn, limitOf, listed, listedOf}
+use Rattle.bench_clock.specs.Asked.{replyIs, asked, written, writtenAt, answered, groupsFrom, groups, groupsOf, limitIn, limitOf, listed, listedOf}
 
 -- ---- the calls' answers
 
@@ -42,10 +41,10 @@ time-two k e u v p q = rw (p, q) (rw e at k)
 pub time-no : {r : TimeAnswer} {d : Answer (List ℤ)} {n p : ℕ} → timeIs r ≡ d → r ≡ T.Refused n p → refuses n p ≡ d
 time-no k e = rw e at k
 
-pub moved-two : {r : Moved} {d : Answer (List ℤ)} {x y : ℤ} {c : ℕ} → movedIs r ≡ d → r ≡ M.At x y c → (u v : ℤ) → u ≡ x → v ≡ y → gives (u ∷ v ∷ []) ≡ d
+pub moved-two : {r : MoveAnswer} {d : Answer (List ℤ)} {x y : ℤ} {c : ℕ} → moveIs r ≡ d → r ≡ M.At x y c → (u v : ℤ) → u ≡ x → v ≡ y → gives (u ∷ v ∷ []) ≡ d
 moved-two k e u v p q = rw (p, q) (rw e at k)
 
-pub moved-no : {r : Moved} {d : Answer (List ℤ)} {n p : ℕ} → movedIs r ≡ d → r ≡ M.Refused n p → refuses n p ≡ d
+pub moved-no : {r : MoveAnswer} {d : Answer (List ℤ)} {n p : ℕ} → moveIs r ≡ d → r ≡ M.Refused n p → refuses n p ≡ d
 moved-no k e = rw e at k
 
 pub period-four : {r : PeriodAnswer} {d : Answer Reply} {x y z w : ℤ} → periodIs r ≡ d → r ≡ P.Is x y z w
@@ -83,23 +82,23 @@ module _ (k : ℕ) (s : Schedule) (a b c d : ℤ) {x : Answer (List ℤ)} where
 -- ---- writing
 
 module _ (i : ℕ) (e : List ℤ) {r : Told} where
-  pub two-put : {p q : ℤ} → r ≡ A.Two p q → (a b : ℤ) → a ≡ p → b ≡ q → set (set e i a) (i + 1) b ≡ writtenAt i (toldIs r) e
+  pub two-put : {p q : ℤ} → r ≡ A.Two p q → (a b : ℤ) → a ≡ p → b ≡ q → set (set e i a) (i + 1) b ≡ writtenAt i (replyIs r) e
   unfolding written
   two-put t a b h k = rw (t, h, k)
 
   pub four-put : {p q x y : ℤ} → r ≡ A.Four p q x y → (a b c d : ℤ) → a ≡ p → b ≡ q → c ≡ x → d ≡ y
-      → set (set (set (set e i a) (i + 1) b) (i + 1 + 1) c) (i + 1 + 1 + 1) d ≡ writtenAt i (toldIs r) e
+      → set (set (set (set e i a) (i + 1) b) (i + 1 + 1) c) (i + 1 + 1 + 1) d ≡ writtenAt i (replyIs r) e
   unfolding written
   four-put t a b c d h k l m = rw (t, h, k, l, m)
 
-  pub refused-put : {n p : ℕ} → r ≡ A.Refused n p → (a : ℤ) → a ≡ pos n → set e i a ≡ writtenAt i (toldIs r) e
+  pub refused-put : {n p : ℕ} → r ≡ A.Refused n p → (a : ℤ) → a ≡ pos n → set e i a ≡ writtenAt i (replyIs r) e
   refused-put t a h = rw (t, h)
 
 -- one question answered, where each number fits
 pub turn-is : (k : ℕ) (s : Schedule) (i : ℕ) (e : List ℤ) (r : Told) {x : List ℤ}
     → SFits w64 (getD e i (pos 0)) → SFits w64 (getD e (i + 1) (pos 0)) → SFits w64 (getD e (i + 1 + 1) (pos 0)) → SFits w64 (getD e (i + 1 + 1 + 1) (pos 0))
-    → toldIs r ≡ asked k s (toZ w64 (ofZ w64 (getD e i (pos 0)))) (toZ w64 (ofZ w64 (getD e (i + 1) (pos 0)))) (toZ w64 (ofZ w64 (getD e (i + 1 + 1) (pos 0))))
-    (toZ w64 (ofZ w64 (getD e (i + 1 + 1 + 1) (pos 0)))) → x ≡ writtenAt i (toldIs r) e → x ≡ answered k s i e
+    → replyIs r ≡ asked k s (toZ w64 (ofZ w64 (getD e i (pos 0)))) (toZ w64 (ofZ w64 (getD e (i + 1) (pos 0)))) (toZ w64 (ofZ w64 (getD e (i + 1 + 1) (pos 0))))
+    (toZ w64 (ofZ w64 (getD e (i + 1 + 1 + 1) (pos 0)))) → x ≡ writtenAt i (replyIs r) e → x ≡ answered k s i e
 unfolding answered
 turn-is k s i e r f g h j p q = q ∙ ap (λ l. writtenAt i l e) (rw (toZ-ofZ f, toZ-ofZ g, toZ-ofZ h, toZ-ofZ j) at p)
 

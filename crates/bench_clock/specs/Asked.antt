@@ -1,4 +1,6 @@
 -- What the functions that are timed leave in the lent numbers, by the definitions of the calls.
+use mathlib.Core.Path.{_≡_}
+use mathlib.Core.Bool.{Bool}
 use mathlib.Core.List.{List, [], _∷_}
 use Prim.Native.Nat.{ℕ, zero, suc, _+_, _/_}
 use lib.Dec.{eqb}
@@ -11,14 +13,17 @@ use Rattle.model.specs.Calls.{betweenCall, moveCall, periodCall, listCall, said
 use Rattle.model.specs.Instant.{second}
 use Rattle.model.specs.Walk.{on, back}
 use Rattle.model.specs.Working.{Schedule}
+use Rattle.rule.specs.Rules.{scheduleIs}
+use Rattle.rule.specs.declared.Schedule as rule
+use Rattle.walk_distance.specs.Distances.{wayOf}
 use Rattle.bench_clock.specs.declared.Told.{Told}
 use Rattle.bench_clock.specs.declared.Told.the-variants as T
 
 -- the numbers of an answer
-abbrev pub toldIs : Told → Answer (List ℤ)
-toldIs (T.Two a b) = gives (a ∷ b ∷ [])
-toldIs (T.Four a b c d) = gives (a ∷ b ∷ c ∷ d ∷ [])
-toldIs (T.Refused n p) = refuses n p
+abbrev pub replyIs : Told → Answer (List ℤ)
+replyIs (T.Two a b) = gives (a ∷ b ∷ [])
+replyIs (T.Four a b c d) = gives (a ∷ b ∷ c ∷ d ∷ [])
+replyIs (T.Refused n p) = refuses n p
 
 -- the answer to a question, by its kind
 unfoldable pub asked : ℕ → Schedule → ℤ → ℤ → ℤ → ℤ → Answer (List ℤ)
@@ -75,3 +80,37 @@ listed (suc n) s a b c d e = listed n s a b c d (numbersAfter (listCall s a b c 
 abbrev pub listedOf : ℕ → Answer Schedule → ℤ → ℤ → ℤ → ℤ → List ℤ → List ℤ
 listedOf n (gives s) a b c d e = listed n s a b c d e
 listedOf n (refuses m p) a b c d e = e
+
+-- ---- what each function promises
+
+-- r is the answer of `between`
+abbrev pub IsTime : List ℕ → List ℕ → rule.Schedule → ℤ → ℤ → ℤ → ℤ → Told → Type 0
+IsTime book pack s a b c d r = replyIs r ≡ said (betweenCall (scheduleIs book pack s) a b c d)
+
+-- r is the answer of `add` or `sub`
+abbrev pub IsMove : List ℕ → List ℕ → rule.Schedule → Bool → ℤ → ℤ → ℤ → ℤ → Told → Type 0
+IsMove book pack s isBack a b c d r = replyIs r ≡ said (moveCall (wayOf isBack) (scheduleIs book pack s) a b c d)
+
+-- r is the next or the previous period
+abbrev pub IsPeriod : List ℕ → List ℕ → rule.Schedule → Bool → ℤ → ℤ → Told → Type 0
+IsPeriod book pack s isBack a b r = replyIs r ≡ said (periodCall (wayOf isBack) (scheduleIs book pack s) a b)
+
+-- the question at i has its answer in its place
+abbrev pub AnsweredAt : List ℕ → List ℕ → rule.Schedule → ℕ → ℕ → List ℤ → List ℤ → Type 0
+AnsweredAt book pack s kind i old new = new ≡ answered kind (scheduleIs book pack s) i old
+
+-- all questions have their answers in their places
+abbrev pub AllAnswered : List ℕ → List ℕ → rule.Schedule → ℕ → List ℤ → List ℤ → Type 0
+AllAnswered book pack s kind old new = new ≡ groups kind (scheduleIs book pack s) old
+
+-- the same from a book and a pack
+abbrev pub BookAnswered : List ℕ → List ℕ → ℕ → List ℤ → List ℤ → Type 0
+BookAnswered book pack kind old new = new ≡ groupsOf kind (build book pack) old
+
+-- the lent numbers hold what so many listings leave in them
+abbrev pub Lists : List ℕ → List ℕ → rule.Schedule → ℕ → ℤ → ℤ → ℤ → ℤ → List ℤ → List ℤ → Type 0
+Lists book pack s times a b c d old new = new ≡ listed times (scheduleIs book pack s) a b c d old
+
+-- the same from a book and a pack
+abbrev pub ListsOf : List ℕ → List ℕ → ℕ → ℤ → ℤ → ℤ → ℤ → List ℤ → List ℤ → Type 0
+ListsOf book pack times a b c d old new = new ≡ listedOf times (build book pack) a b c d old

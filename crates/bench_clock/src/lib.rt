@@ -1,18 +1,13 @@
 // The calls for a program that times them (bench/clock): many answers, builds and listings of one book in a call, so that the book is built once
 // for all answers. What is asked stands in the lent numbers and the answers come in their place: so no two of them are known to be equal before.
 ghost use mathlib.Core.Path.{_≡_};
-ghost use mathlib.Core.List.{List};
-ghost use Prim.Native.Nat.{ℕ, _+_, _≤_};
-ghost use lib.ListN.{length, getD};
-ghost use lib.IntN.{ℤ};
-ghost use Rattle.model.specs.Build as definition;
-ghost use Rattle.model.specs.Calls.{betweenCall, moveCall, periodCall, said};
+ghost use Prim.Native.Nat.{_+_, _≤_};
+ghost use lib.ListN.{length};
 ghost use Rattle.rule.specs.Rules.{scheduleIs, ScheduleFits};
-ghost use Rattle.walk_distance.specs.Distances.{wayOf};
 ghost use Rattle.bench_week.specs.Weeks.{Each};
-ghost use Rattle.bench_clock.specs.Asked.{toldIs, asked, writtenAt, answered, groups, groupsOf, limitOf, listed, listedOf};
+ghost use Rattle.bench_clock.specs.Asked.{replyIs, asked, writtenAt, limitOf, IsTime, IsMove, IsPeriod, AnsweredAt, AllAnswered, BookAnswered, Lists, ListsOf};
 use rule::Schedule;
-use schedule::Moved;
+use schedule::MoveAnswer;
 use schedule::TimeAnswer;
 use schedule_periods::PeriodAnswer;
 
@@ -27,7 +22,7 @@ pub enum Told {
 
 fn time(book: &[u8], pack: &[u8], s: Schedule, a: i64, b: i64, c: i64, d: i64) -> Told
     requires { ⌜ ScheduleFits (now book) (now pack) s ⌝ }
-    ensures { λ r. ⌜ toldIs r ≡ said (betweenCall (scheduleIs (now (book .entry)) (now (pack .entry)) s) «a» «b» «c» «d») ⌝ }
+    ensures { λ r. ⌜ IsTime (now (book .entry)) (now (pack .entry)) s a b c d r ⌝ }
 {
     match schedule::between_in(book, pack, s, a, b, c, d) {
         TimeAnswer::Is(sec, ns, _) => Told::Two(sec, ns),
@@ -37,17 +32,17 @@ fn time(book: &[u8], pack: &[u8], s: Schedule, a: i64, b: i64, c: i64, d: i64) -
 
 fn moved(book: &[u8], pack: &[u8], s: Schedule, back: bool, a: i64, b: i64, c: i64, d: i64) -> Told
     requires { ⌜ ScheduleFits (now book) (now pack) s ⌝ }
-    ensures { λ r. ⌜ toldIs r ≡ said (moveCall (wayOf back) (scheduleIs (now (book .entry)) (now (pack .entry)) s) «a» «b» «c» «d») ⌝ }
+    ensures { λ r. ⌜ IsMove (now (book .entry)) (now (pack .entry)) s back a b c d r ⌝ }
 {
     match schedule::move_in(book, pack, s, back, a, b, c, d) {
-        Moved::At(sec, ns, _) => Told::Two(sec, ns),
-        Moved::Refused(number, place) => Told::Refused(number, place),
+        MoveAnswer::At(sec, ns, _) => Told::Two(sec, ns),
+        MoveAnswer::Refused(number, place) => Told::Refused(number, place),
     }
 }
 
 fn period(book: &[u8], pack: &[u8], s: Schedule, back: bool, a: i64, b: i64) -> Told
     requires { ⌜ ScheduleFits (now book) (now pack) s ⌝ }
-    ensures { λ r. ⌜ toldIs r ≡ said (periodCall (wayOf back) (scheduleIs (now (book .entry)) (now (pack .entry)) s) «a» «b») ⌝ }
+    ensures { λ r. ⌜ IsPeriod (now (book .entry)) (now (pack .entry)) s back a b r ⌝ }
 {
     match schedule_periods::period_in(book, pack, s, back, a, b) {
         PeriodAnswer::Is(p, q, x, y) => Told::Four(p, q, x, y),
@@ -58,7 +53,7 @@ fn period(book: &[u8], pack: &[u8], s: Schedule, back: bool, a: i64, b: i64) -> 
 // The answer to one question: kind 0 is between, 1 add, 2 sub, 3 the next period, any other the previous one. Periods do not look at c and d.
 fn answer(book: &[u8], pack: &[u8], s: Schedule, kind: u8, a: i64, b: i64, c: i64, d: i64) -> Told
     requires { ⌜ ScheduleFits (now book) (now pack) s ⌝ }
-    ensures { λ r. ⌜ toldIs r ≡ asked kind (scheduleIs (now (book .entry)) (now (pack .entry)) s) «a» «b» «c» «d» ⌝ }
+    ensures { λ r. ⌜ replyIs r ≡ asked kind (scheduleIs (now (book .entry)) (now (pack .entry)) s) «a» «b» «c» «d» ⌝ }
 {
     if kind == 0 {
         return time(book, pack, s, a, b, c, d);
@@ -72,7 +67,7 @@ fn answer(book: &[u8], pack: &[u8], s: Schedule, kind: u8, a: i64, b: i64, c: i6
 // Writes an answer's two or four numbers from i on; of a refusal its number.
 fn put(xs: &mut [i64], i: usize, r: Told)
     requires { ⌜ i + 4 ≤ length (now xs) ⌝ }
-    ensures { λ _. ⌜ now (xs .exit) ≡ writtenAt i (toldIs r) (now (xs .entry)) ⌝ }
+    ensures { λ _. ⌜ now (xs .exit) ≡ writtenAt i (replyIs r) (now (xs .entry)) ⌝ }
 {
     match r {
         Told::Two(p, q) => {
@@ -100,7 +95,7 @@ fn put(xs: &mut [i64], i: usize, r: Told)
 // Answers the question whose four numbers begin at i, in their place.
 fn turn(book: &[u8], pack: &[u8], s: Schedule, kind: u8, xs: &mut [i64], i: usize)
     requires { ⌜ ScheduleFits (now book) (now pack) s × (i + 4 ≤ length (now xs)) ⌝ }
-    ensures { λ _. ⌜ now (xs .exit) ≡ answered kind (scheduleIs (now (book .entry)) (now (pack .entry)) s) i (now (xs .entry)) ⌝ }
+    ensures { λ _. ⌜ AnsweredAt (now (book .entry)) (now (pack .entry)) s kind i (now (xs .entry)) (now (xs .exit)) ⌝ }
 {
     let j = i + 1;
     let k = j + 1;
@@ -111,7 +106,7 @@ fn turn(book: &[u8], pack: &[u8], s: Schedule, kind: u8, xs: &mut [i64], i: usiz
 
 fn turns(book: &[u8], pack: &[u8], s: Schedule, kind: u8, xs: &mut [i64])
     requires { ⌜ ScheduleFits (now book) (now pack) s ⌝ }
-    ensures { λ _. ⌜ now (xs .exit) ≡ groups kind (scheduleIs (now (book .entry)) (now (pack .entry)) s) (now (xs .entry)) ⌝ }
+    ensures { λ _. ⌜ AllAnswered (now (book .entry)) (now (pack .entry)) s kind (now (xs .entry)) (now (xs .exit)) ⌝ }
 {
     let mut i: usize = 0;
     let mut left = xs.len() / 4;
@@ -125,7 +120,7 @@ fn turns(book: &[u8], pack: &[u8], s: Schedule, kind: u8, xs: &mut [i64])
 // Answers the questions of one kind, four numbers each, in their place. A book that is refused changes nothing.
 #[no_mangle]
 pub extern "C" fn bench_clock_answers(book: &[u8], pack: &[u8], kind: u8, xs: &mut [i64])
-    ensures { λ _. ⌜ now (xs .exit) ≡ groupsOf kind (definition.build (now (book .entry)) (now (pack .entry))) (now (xs .entry)) ⌝ }
+    ensures { λ _. ⌜ BookAnswered (now (book .entry)) (now (pack .entry)) kind (now (xs .entry)) (now (xs .exit)) ⌝ }
 {
     let b = build::build(book, pack);
     if b.number != 0 {
@@ -175,7 +170,7 @@ fn lists(
     out: &mut [i64],
 )
     requires { ⌜ ScheduleFits (now book) (now pack) s ⌝ }
-    ensures { λ _. ⌜ now (out .exit) ≡ listed times (scheduleIs (now (book .entry)) (now (pack .entry)) s) «a» «b» «c» «d» (now (out .entry)) ⌝ }
+    ensures { λ _. ⌜ Lists (book .entry .now) (pack .entry .now) s times a b c d (out .entry .now) (out .exit .now) ⌝ }
 {
     let mut left = times;
     while 0 < left {
@@ -196,7 +191,7 @@ pub extern "C" fn bench_clock_lists(
     d: i64,
     out: &mut [i64],
 )
-    ensures { λ _. ⌜ now (out .exit) ≡ listedOf times (definition.build (now (book .entry)) (now (pack .entry))) «a» «b» «c» «d» (now (out .entry)) ⌝ }
+    ensures { λ _. ⌜ ListsOf (book .entry .now) (pack .entry .now) times a b c d (out .entry .now) (out .exit .now) ⌝ }
 {
     let r = build::build(book, pack);
     if r.number != 0 {

@@ -1,6 +1,5 @@
 // The public calls for a program that measures how much stack each needs (tools/stack.py). Each answers one number, so that the call is not left out.
-use schedule::AddAnswer;
-use schedule::SubAnswer;
+use schedule::MoveAnswer;
 use schedule::TimeAnswer;
 use schedule_listing::Listing;
 use schedule_periods::PeriodAnswer;
@@ -25,16 +24,16 @@ pub extern "C" fn stack_between(book: &[u8], pack: &[u8], a: i64, b: i64, c: i64
 #[no_mangle]
 pub extern "C" fn stack_add(book: &[u8], pack: &[u8], a: i64, b: i64, c: i64, d: i64) -> i64 {
     match schedule::add(book, pack, a, b, c, d) {
-        AddAnswer::At(sec, _, _) => sec,
-        AddAnswer::Refused(number, _) => number as i64,
+        MoveAnswer::At(sec, _, _) => sec,
+        MoveAnswer::Refused(number, _) => number as i64,
     }
 }
 
 #[no_mangle]
 pub extern "C" fn stack_sub(book: &[u8], pack: &[u8], a: i64, b: i64, c: i64, d: i64) -> i64 {
     match schedule::sub(book, pack, a, b, c, d) {
-        SubAnswer::At(sec, _, _) => sec,
-        SubAnswer::Refused(number, _) => number as i64,
+        MoveAnswer::At(sec, _, _) => sec,
+        MoveAnswer::Refused(number, _) => number as i64,
     }
 }
 

@@ -8,7 +8,10 @@ use Rattle.model.specs.Basic.{if_then_else_}
 use Rattle.model.specs.Answer.{Answer, gives, refuses}
 use Rattle.model.specs.Blocks.{total}
 use Rattle.model.specs.Instant.{second}
+use Rattle.model.specs.Build.{build}
 use Rattle.model.specs.Working.{Schedule, working}
+use Rattle.rule.specs.Rules.{scheduleIs}
+use Rattle.rule.specs.declared.Schedule.{Schedule as Schedule′}
 
 -- b has g of each number of a, in its place
 pub record Each (g : ℕ → ℕ) (a b : List ℕ) : Type 0 where
@@ -25,3 +28,10 @@ weekIn s x =
 abbrev pub weeksOf : Answer Schedule → ℕ → ℕ
 weeksOf (gives s) x = weekIn s x
 weeksOf (refuses n p) x = x
+
+-- b has the working time of the week that begins at each second of a, by a schedule and by a book
+abbrev pub WeeksBy : List ℕ → List ℕ → Schedule′ → List ℕ → List ℕ → Type 0
+WeeksBy book pack s a b = Each (weekIn (scheduleIs book pack s)) a b
+
+abbrev pub WeeksIn : List ℕ → List ℕ → List ℕ → List ℕ → Type 0
+WeeksIn book pack a b = Each (weeksOf (build book pack)) a b

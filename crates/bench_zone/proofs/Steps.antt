@@ -1,8 +1,8 @@
--- Laws of filling in place: one turn, and the whole; and of the two questions.
-use mathlib.Core.Path.{_≡_, refl, sym, ap, _∙_, subst}
+-- Laws of filling in place: one step, and the whole; and of the two questions.
+use mathlib.Core.Path.{_≡_, refl, sym, ap, _∙_}
 use mathlib.Core.List.{List}
-use mathlib.Core.Option.{Option, none, some}
-use mathlib.Core.Logic.{_⊎_, inl, inr, ⊎-elim}
+use mathlib.Core.Option.{none, some}
+use mathlib.Core.Logic.{_⊎_, ⊎-elim}
 use Prim.Native.Nat.{ℕ, _+_, _≤_, _<_}
 use native.Mathlib.Nat.{eq-or-lt-of-le}
 use native.Mathlib.Omega.{arith}
@@ -17,6 +17,8 @@ use Rattle.zone.specs.declared.Zone.{Zone}
 use Rattle.zone.specs.declared.ZoneRead.{ZoneRead}
 use Rattle.zone.specs.declared.ZoneRead.the-variants as R
 use Rattle.bench_zone.specs.Each.{Each, secondIn, offsetIn, secondsOf, offsetsOf}
+use Rattle.laws_zone.specs.Sound.{firstLocal}
+use Rattle.instant.specs.Instant.{yearsEnd}
 
 -- the first i are done, and the others as they were
 pub record Done (g : ℕ → ℕ) (a b : List ℕ) (i : ℕ) : Type 0 where
@@ -49,25 +51,25 @@ unchanged a = record { long = refl; each = λ k l. refl }
 
 -- one question, by the code's tests
 module _ (z : model.Zone) {x : ℕ} where
-  pub second-early : x < 187200 → 0 ≡ secondIn z x
+  pub second-early : x < firstLocal → 0 ≡ secondIn z x
   unfolding secondIn
-  second-early h = rw (lt-leb 187200 x h)
+  second-early h = rw (lt-leb firstLocal x h)
 
-  pub second-late : 187200 ≤ x → 656384601600 ≤ x → 0 ≡ secondIn z x
+  pub second-late : firstLocal ≤ x → yearsEnd ≤ x → 0 ≡ secondIn z x
   unfolding secondIn
-  second-late g h = rw (le-leb 187200 x g, le-ltb x 656384601600 h)
+  second-late g h = rw (le-leb firstLocal x g, le-ltb x yearsEnd h)
 
-  pub second-is : {s : ℕ} → 187200 ≤ x → x < 656384601600 → s ≡ secondOf z x → s ≡ secondIn z x
+  pub second-is : {s : ℕ} → firstLocal ≤ x → x < yearsEnd → s ≡ secondOf z x → s ≡ secondIn z x
   unfolding secondIn
-  second-is g h e = rw (le-leb 187200 x g, lt-ltb x 656384601600 h) e
+  second-is g h e = rw (le-leb firstLocal x g, lt-ltb x yearsEnd h) e
 
-  pub offset-late : 656384601600 ≤ x → 0 ≡ offsetIn z x
+  pub offset-late : yearsEnd ≤ x → 0 ≡ offsetIn z x
   unfolding offsetIn
-  offset-late h = rw (le-ltb x 656384601600 h)
+  offset-late h = rw (le-ltb x yearsEnd h)
 
-  pub offset-is : {o : ℕ} → x < 656384601600 → o ≡ offsetAt z x → o ≡ offsetIn z x
+  pub offset-is : {o : ℕ} → x < yearsEnd → o ≡ offsetAt z x → o ≡ offsetIn z x
   unfolding offsetIn
-  offset-is h e = rw (lt-ltb x 656384601600 h) e
+  offset-is h e = rw (lt-ltb x yearsEnd h) e
 
 -- what opening answered is the definitions' zone
 module _ (f : List ℕ) {r : ZoneRead} (e : zoneRead f r ≡ zoneOf f) where

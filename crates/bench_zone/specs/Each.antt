@@ -5,20 +5,24 @@ use mathlib.Core.Option.{Option, none, some}
 use Prim.Native.Nat.{ℕ, _<_}
 use lib.Dec.{ltb, leb}
 use lib.ListN.{length, getD}
-use Rattle.big_endian.specs.Walk.{both, pickN}
+use Rattle.big_endian.specs.Walk.{pickN}
 use Rattle.model.specs.Tzif.{Zone}
 use Rattle.model.specs.Zone.{secondOf, offsetAt}
+use Rattle.laws_zone.specs.Sound.{firstLocal}
+use Rattle.instant.specs.Instant.{yearsEnd}
 
 -- b has g of each number of a, in its place
 pub record Each (g : ℕ → ℕ) (a b : List ℕ) : Type 0 where
   pub long : length b ≡ length a
   pub each : (k : ℕ) → k < length a → getD b k 0 ≡ g (getD a k 0)
 
+-- the second of a local second, and 0 for one that cannot be asked for
 unfoldable pub secondIn : Zone → ℕ → ℕ
-secondIn z x = pickN (leb 187200 x) (pickN (ltb x 656384601600) (secondOf z x) 0) 0
+secondIn z x = pickN (leb firstLocal x) (pickN (ltb x yearsEnd) (secondOf z x) 0) 0
 
+-- the offset at a second, and 0 at one that cannot be asked for
 unfoldable pub offsetIn : Zone → ℕ → ℕ
-offsetIn z u = pickN (ltb u 656384601600) (offsetAt z u) 0
+offsetIn z u = pickN (ltb u yearsEnd) (offsetAt z u) 0
 
 -- of a file: one that is refused changes nothing
 abbrev pub secondsOf : Option Zone → ℕ → ℕ

@@ -1,5 +1,5 @@
 // The zone's code for a program in C that times it (bench/zone): the seconds of many local seconds, and the offsets at many seconds, in place.
-// The file is opened once in a call. Seconds are counted from -10400-01-01T00:00:00Z; offsets and local seconds have 93,600 added.
+// The file is opened once in a call. Seconds are counted from -10400-01-01T00:00:00Z; offsets and local seconds have zone_offset::BIAS added.
 ghost use mathlib.Core.Path.{_≡_};
 ghost use Rattle.model.specs.Tzif.{zoneOf};
 ghost use Rattle.zone.specs.Zones.{meant, ZoneOk};
@@ -12,10 +12,10 @@ fn second(f: &[u8], z: Zone, x: u64) -> u64
     requires { ⌜ ZoneOk (now f) z ⌝ }
     ensures { λ r. ⌜ r ≡ secondIn (meant (now (f .entry)) z) x ⌝ }
 {
-    if x < 187200 {
+    if x < zone::FIRST_LOCAL {
         return 0;
     }
-    if x >= 656384601600 {
+    if x >= zone::YEARS_END {
         return 0;
     }
     zone::second_of(f, z, x)
@@ -26,13 +26,14 @@ fn offset(f: &[u8], z: Zone, u: u64) -> u64
     requires { ⌜ ZoneOk (now f) z ⌝ }
     ensures { λ r. ⌜ r ≡ offsetIn (meant (now (f .entry)) z) u ⌝ }
 {
-    if u >= 656384601600 {
+    if u >= zone::YEARS_END {
         return 0;
     }
     let r = zone::run_at(f, z, u);
     r.offset as u64
 }
 
+// Puts the second of each local second in its place.
 fn seconds(f: &[u8], z: Zone, xs: &mut [u64])
     requires { ⌜ ZoneOk (now f) z ⌝ }
     ensures { λ _. ⌜ Each (secondIn (meant (now (f .entry)) z)) (now (xs .entry)) (now (xs .exit)) ⌝ }
@@ -44,6 +45,7 @@ fn seconds(f: &[u8], z: Zone, xs: &mut [u64])
     }
 }
 
+// Puts the offset at each second in its place.
 fn offsets(f: &[u8], z: Zone, us: &mut [u64])
     requires { ⌜ ZoneOk (now f) z ⌝ }
     ensures { λ _. ⌜ Each (offsetIn (meant (now (f .entry)) z)) (now (us .entry)) (now (us .exit)) ⌝ }

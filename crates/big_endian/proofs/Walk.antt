@@ -1,13 +1,12 @@
--- Laws of the walks of specs/Walk.antt: one turn of a loop, and what a whole walk says of an index.
-use mathlib.Core.Path.{_≡_, refl, sym, ap, _∙_, subst}
+-- Laws of the definitions of specs/Walk.antt: one step of a loop, and what a test of all indices says of one.
+use mathlib.Core.Path.{_≡_, refl, sym, subst}
 use mathlib.Core.Bool.{Bool, true, false}
-use mathlib.Core.Logic.{_⊎_, inl, inr, ⊎-elim}
-use Prim.Native.Nat.{ℕ, zero, suc, _+_, _-_, _/_, _≤_, _<_}
-use native.Mathlib.Nat.{le-of-suc-le-suc, eq-or-lt-of-le, not-suc-le-zero, add-zero, add-suc, suc-add}
+use mathlib.Core.Logic.{_⊎_, ⊎-elim}
+use Prim.Native.Nat.{ℕ, zero, suc, _+_, _-_, _≤_, _<_}
+use native.Mathlib.Nat.{le-of-suc-le-suc, eq-or-lt-of-le, not-suc-le-zero, add-zero}
 use native.Mathlib.Numerals.{add-one}
 use native.Mathlib.Omega.{arith}
-use lib.Dec.{leb}
-use borrow.Author.Tests.{le-leb, lt-leb, le-ltb, lt-ltb, leb-true, ltb-true}
+use borrow.Author.Tests.{le-leb, lt-leb, le-ltb, lt-ltb, ltb-true}
 use Rattle.big_endian.specs.Walk.{both, pickN, allFrom, countOf, upTo, rising, spanFrom}
 
 all-more : (t : ℕ → Bool) (i n : ℕ) → i < n → allFrom t i (n - i) ≡ both (t i) (allFrom t (i + 1) (n - (i + 1)))
@@ -37,7 +36,7 @@ both-split false b e = (e, sym (never b e))
     never true q = refl
     never false q = sym q
 
--- what a whole walk says of one of its indices
+-- what a test of all indices says of one
 all-at-from : (t : ℕ → Bool) (k i j : ℕ) → allFrom t i k ≡ true → j < k → t (i + j) ≡ true
 unfolding allFrom
 all-at-from t zero i j e h = absurd (not-suc-le-zero h)
@@ -111,21 +110,11 @@ rises key n e = rises-from key n (λ i h.
     let l : key i < key (i + 1) = ltb-true (key i) (key (i + 1)) (all-at (rising key) (n - 1) i e (omega arith)) in
     omega arith)
 
--- a binary search: the count lies past a key that is at most u, and at or before one that is not
-module _ (key : ℕ → ℕ) (n : ℕ) {u lo hi x : ℕ} (asc : allFrom (rising key) 0 (n - 1) ≡ true) (h : lo < hi) (l : hi ≤ n) (e : x ≡ key (lo + (hi - lo) / 2)) where
-  pub past-key : x ≤ u → lo + (hi - lo) / 2 + 1 ≤ countOf (upTo key u) n
-  past-key q =
-      let r : lo + (hi - lo) / 2 < countOf (upTo key u) n = count-in key u n (lo + (hi - lo) / 2) (rises key n asc) (omega arith) (omega arith) in
-      omega arith
-
-  pub before-key : u < x → countOf (upTo key u) n ≤ lo + (hi - lo) / 2
-  before-key q = count-out key u n (lo + (hi - lo) / 2) (rises key n asc) (omega arith) (omega arith)
-
 pub all-none : (t : ℕ → Bool) {n : ℕ} → n ≡ 0 → true ≡ allFrom t 0 (n - 1)
 unfolding allFrom
 all-none t h = rw h
 
--- one turn of a loop that checks that a table rises
+-- one step of a loop that checks that a table rises
 module _ (key : ℕ → ℕ) {i n x y : ℕ} {d : Bool} (h : i < n) (inv : allFrom (rising key) i (n - i) ≡ d) (ex : x ≡ key i) (ey : y ≡ key (i + 1)) where
   pub rise-no : y ≤ x → false ≡ d
   rise-no l = all-no (rising key) h inv refl (le-ltb (key i) (key (i + 1)) (omega arith))
@@ -139,7 +128,7 @@ span-more t i n h =
     let e : n - i ≡ suc (n - (i + 1)) = omega arith in
     rw e
 
--- one turn of a loop that looks for the end of a span
+-- one step of a loop that looks for the end of a span
 module _ (t : ℕ → Bool) {i n d : ℕ} {r : Bool} (h : i < n) (inv : spanFrom t i (n - i) ≡ d) (e : r ≡ t i) where
   pub span-no : r ≡ false → i ≡ d
   span-no q = cc (span-more t i n h)
@@ -152,19 +141,3 @@ unfolding spanFrom
 span-end t {i} {n} h inv =
     let e : n - i ≡ 0 = omega arith in
     (rw e at inv)
-
-pub span-bounds : (t : ℕ → Bool) (k i : ℕ) → (i ≤ spanFrom t i k) × (spanFrom t i k ≤ i + k)
-unfolding spanFrom
-span-bounds t zero i = omega arith
-span-bounds t (suc k) i = go (t i) (span-bounds t k (i + 1))
-  where
-    go : (b : Bool) → (i + 1 ≤ spanFrom t (i + 1) k) × (spanFrom t (i + 1) k ≤ i + 1 + k) → (i ≤ pickN b (spanFrom t (i + 1) k) i) × (pickN b (spanFrom t (i + 1) k) i ≤ i + suc k)
-    go true h = omega arith
-    go false h = omega arith
-
--- the halves of a test that holds
-pub both-left : (a b : Bool) → both a b ≡ true → a ≡ true
-both-left a b e = both-split a b e .0
-
-pub both-right : (a b : Bool) → both a b ≡ true → b ≡ true
-both-right a b e = both-split a b e .1

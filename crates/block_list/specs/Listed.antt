@@ -6,6 +6,10 @@ use Rattle.model.specs.Blocks.{Block as Block′, block}
 use Rattle.block_list.specs.declared.Block.{Block}
 use Rattle.block_list.specs.declared.Blocks.{Blocks}
 
+-- how many blocks a list holds at most
+abbrev pub capacity : ℕ
+capacity = 672
+
 abbrev pub blockOf : Block → Block′
 blockOf b = block (b .start) (b .end)
 

@@ -1,16 +1,13 @@
 -- One block more for a list that is sorted and apart: what the places found say, and that the new list is the union. Assumes nothing.
-use mathlib.Core.Path.{_≡_, refl, sym, _∙_, ap, ap₂}
+use mathlib.Core.Path.{_≡_, sym, _∙_, ap, ap₂}
 use mathlib.Core.List.{List, [], _∷_, _++_, append-assoc, append-nil}
 use mathlib.Core.Logic.{_⊎_, inl, inr, ⊎-elim, _↔_}
-use Prim.Native.Nat.{ℕ, zero, suc, _+_, _*_, _-_, _/_, _≤_, _<_, min, max}
+use Prim.Native.Nat.{ℕ, suc, _+_, _*_, _-_, _/_, _≤_, _<_, min, max}
 use native.Mathlib.Omega.{arith}
 use borrow.Author.Tests.{lt-ltb, le-ltb}
-use lib.Dec.{ltb}
 use lib.ListN.{length, getD}
-use Rattle.model.specs.Basic.{if_then_else_}
 use Rattle.model.specs.Blocks.{Block, block, put, union}
-use Rattle.laws_base.specs.Test.{by-test}
-use Rattle.laws_blocks.specs.Members.{InBlocks, NonEmpty, Chain, Normal, Ends, From, halves, append-in, append-nonempty, chain-weaken, chain-sorted, chain-nonempty, from-in, from-weaken, union-in, union-normal, normal-unique, union-again, union-same}
+use Rattle.laws_blocks.specs.Members.{InBlocks, NonEmpty, Chain, Normal, From, halves, append-in, append-nonempty, chain-weaken, chain-sorted, chain-nonempty, from-in, from-weaken, union-in, union-normal, normal-unique, union-again}
 use Rattle.block_pairs.specs.Pairs.{part, pairs, Reach, StartsTo, EndsFrom, Raised, Lowered, hull}
 use Rattle.block_pairs.proofs.Parts.{blockAt, blockTo, block-same, part-same, pairs-cut, from-cut, from-first, from-back, to-last, pairs-last, from-none, stored, stored-at, stored-front, stored-rest}
 

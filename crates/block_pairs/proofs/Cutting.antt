@@ -1,14 +1,13 @@
 -- Blocks taken away by one walk, and the sum: what a turn of each loop keeps. Assumes nothing.
 use mathlib.Core.Path.{_≡_, refl, sym, _∙_, ap, ap₂}
-use mathlib.Core.Bool.{true, false}
+use mathlib.Core.Bool.{false}
 use mathlib.Core.List.{List, [], _∷_, _++_, append-assoc, append-nil}
-use Prim.Native.Nat.{ℕ, zero, suc, _+_, _*_, _-_, _≤_, _<_}
+use Prim.Native.Nat.{ℕ, suc, _+_, _*_, _-_, _≤_, _<_}
 use native.Mathlib.Omega.{arith}
-use borrow.Author.Tests.{ltb-true, ltb-false, leb-true, leb-false, lt-ltb, le-ltb, le-leb, lt-leb}
+use borrow.Author.Tests.{leb-false, lt-ltb, le-ltb, le-leb, lt-leb}
 use lib.Dec.{ltb, leb}
 use lib.ListN.{length, getD}
-use Rattle.model.specs.Basic.{if_then_else_}
-use Rattle.model.specs.Blocks.{Block, block, put, cut, subtract, total}
+use Rattle.model.specs.Blocks.{Block, put, cut, subtract, total}
 use Rattle.laws_base.specs.Test.{by-test}
 use Rattle.laws_blocks.specs.Members.{NonEmpty, Chain, Normal, From, from-weaken, chain-weaken, chain-sorted}
 use Rattle.block_pairs.specs.Pairs.{part, pairs, CutTo}

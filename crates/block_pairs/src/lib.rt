@@ -1,18 +1,17 @@
 // Blocks of time as pairs of numbers in lent memory: the start and the end of the first block, then those of the second, and so on. The numbers are
 // distances from one instant. No list is copied: a function reads and writes the memory that its caller lends.
 ghost use mathlib.Core.Path.{_≡_};
-ghost use mathlib.Core.List.{[], _∷_, _++_};
-ghost use Prim.Native.Nat.{_+_, _*_, _-_, _≤_, _<_, min, max};
-ghost use lib.ListN.{length, getD};
-ghost use Rattle.model.specs.Blocks.{block, put, union, cut, subtract, total};
+ghost use Prim.Native.Nat.{_+_, _*_, _-_, _≤_, _<_};
+ghost use lib.ListN.{length};
+ghost use Rattle.model.specs.Blocks.{subtract, total};
 ghost use Rattle.laws_blocks.specs.Members.{Normal, NonEmpty};
-ghost use Rattle.block_pairs.specs.Pairs.{part, pairs, StartsTo, EndsFrom, Raised, Lowered, hull, CutTo};
+ghost use Rattle.block_pairs.specs.Pairs.{pairs, Holds, wordEnd, Becomes, StartsTo, EndsFrom, Raised, Lowered, inserted, absorbed, added, appended, Subtracted, CutTo};
 
 // ---- a block more
 
 // How many of the first n blocks, which are sorted and apart, do not start behind e. Most often that is all of them, so the last one is asked first.
 fn started(l: &[u64], n: usize, e: u64) -> usize
-    requires { ⌜ Normal (pairs n (now l)) × (2 * n ≤ length (now l)) ⌝ }
+    requires { ⌜ Normal (pairs n (now l)) × Holds n (now l) ⌝ }
     ensures { λ r. ⌜ StartsTo (now (l .entry)) n e r ⌝ }
 {
     if 0 < n {
@@ -35,7 +34,7 @@ fn started(l: &[u64], n: usize, e: u64) -> usize
 
 // How many of the first n blocks end before s, counted from the end.
 fn ended(l: &[u64], n: usize, s: u64) -> usize
-    requires { ⌜ 2 * n ≤ length (now l) ⌝ }
+    requires { ⌜ Holds n (now l) ⌝ }
     ensures { λ r. ⌜ EndsFrom (now (l .entry)) n s r ⌝ }
 {
     let mut i = n;
@@ -80,7 +79,7 @@ fn lower(l: &mut [u64], t: usize, a: usize, b: usize)
 // [s, e) between the first i blocks and the others.
 fn insert(l: &mut [u64], n: usize, i: usize, s: u64, e: u64) -> usize
     requires { ⌜ (i ≤ n) × (2 * n + 2 ≤ length (now l)) ⌝ }
-    ensures { λ r. ⌜ (pairs r (now (l .exit)) ≡ part 0 i (now (l .entry)) ++ block s e ∷ part i (n - i) (now (l .entry))) × (r ≤ n + 1) × (length (now (l .exit)) ≡ length (now (l .entry))) ⌝ }
+    ensures { λ r. ⌜ Becomes (now (l .entry)) (now (l .exit)) r (n + 1) (inserted n i s e (now (l .entry))) ⌝ }
 {
     raise(l, 2 * i, 2 * n);
     l[2 * i] = s;
@@ -90,8 +89,8 @@ fn insert(l: &mut [u64], n: usize, i: usize, s: u64, e: u64) -> usize
 
 // [s, e) and the blocks from j to i made one. There are such blocks.
 fn absorb(l: &mut [u64], n: usize, j: usize, i: usize, s: u64, e: u64) -> usize
-    requires { ⌜ (j < i) × (i ≤ n) × (2 * n ≤ length (now l)) ⌝ }
-    ensures { λ r. ⌜ (pairs r (now (l .exit)) ≡ part 0 j (now (l .entry)) ++ hull s e j i (now (l .entry)) ∷ part i (n - i) (now (l .entry))) × (r ≤ n + 1) × (length (now (l .exit)) ≡ length (now (l .entry))) ⌝ }
+    requires { ⌜ (j < i) × (i ≤ n) × Holds n (now l) ⌝ }
+    ensures { λ r. ⌜ Becomes (now (l .entry)) (now (l .exit)) r (n + 1) (absorbed n j i s e (now (l .entry))) ⌝ }
 {
     let from = number::minimum(s, l[2 * j]);
     let to = number::maximum(e, l[2 * i - 1]);
@@ -104,7 +103,7 @@ fn absorb(l: &mut [u64], n: usize, j: usize, i: usize, s: u64, e: u64) -> usize
 // Adds [s, e) to the first n blocks, which are sorted and apart: those that overlap or touch become one. The memory has room for a block more.
 pub fn add(l: &mut [u64], n: usize, s: u64, e: u64) -> usize
     requires { ⌜ Normal (pairs n (now l)) × (2 * n + 2 ≤ length (now l)) ⌝ }
-    ensures { λ r. ⌜ (pairs r (now (l .exit)) ≡ union (pairs n (now (l .entry)) ++ put s e [])) × (r ≤ n + 1) × (length (now (l .exit)) ≡ length (now (l .entry))) ⌝ }
+    ensures { λ r. ⌜ Becomes (now (l .entry)) (now (l .exit)) r (n + 1) (added n s e (now (l .entry))) ⌝ }
 {
     if e <= s {
         return n;
@@ -122,7 +121,7 @@ pub fn add(l: &mut [u64], n: usize, s: u64, e: u64) -> usize
 // [s, e) stored behind the first w blocks, and counted if it holds anything.
 fn emit(out: &mut [u64], w: usize, s: u64, e: u64) -> usize
     requires { ⌜ 2 * w + 2 ≤ length (now out) ⌝ }
-    ensures { λ r. ⌜ (pairs r (now (out .exit)) ≡ pairs w (now (out .entry)) ++ put s e []) × (r ≤ w + 1) × (length (now (out .exit)) ≡ length (now (out .entry))) ⌝ }
+    ensures { λ r. ⌜ Becomes (now (out .entry)) (now (out .exit)) r (w + 1) (appended w s e (now (out .entry))) ⌝ }
 {
     out[2 * w] = s;
     out[2 * w + 1] = e;
@@ -140,7 +139,7 @@ pub struct Cut {
 
 // [s, e) without the gaps from j to m, stored behind the first w blocks. The gaps passed reach no block that starts at e or later.
 fn cut_into(off: &[u64], j: usize, m: usize, s: u64, e: u64, out: &mut [u64], w: usize) -> Cut
-    requires { ⌜ (s ≤ e) × (j ≤ m) × (2 * m ≤ length (now off)) × (2 * (w + (m - j) + 1) ≤ length (now out)) ⌝ }
+    requires { ⌜ (s ≤ e) × (j ≤ m) × Holds m (now off) × Holds (w + (m - j) + 1) (now out) ⌝ }
     ensures { λ r. ⌜ CutTo (now (off .entry)) j m s e (now (out .entry)) w (now (out .exit)) (r .w) (r .j) ⌝ }
 {
     let mut from = s;
@@ -174,8 +173,8 @@ fn cut_into(off: &[u64], j: usize, m: usize, s: u64, e: u64, out: &mut [u64], w:
 
 // The first n blocks of `on` without the first m of `off`, by one walk over both. The blocks of `on` are sorted and apart. There is room for n + m.
 pub fn subtract(on: &[u64], n: usize, off: &[u64], m: usize, out: &mut [u64]) -> usize
-    requires { ⌜ Normal (pairs n (now on)) × (2 * n ≤ length (now on)) × (2 * m ≤ length (now off)) × (2 * (n + m) ≤ length (now out)) ⌝ }
-    ensures { λ r. ⌜ (pairs r (now (out .exit)) ≡ subtract (pairs n (now (on .entry))) (pairs m (now (off .entry)))) × (r ≤ n + m) × (length (now (out .exit)) ≡ length (now (out .entry))) ⌝ }
+    requires { ⌜ Normal (pairs n (now on)) × Holds n (now on) × Holds m (now off) × Holds (n + m) (now out) ⌝ }
+    ensures { λ r. ⌜ Subtracted (now (on .entry)) n (now (off .entry)) m (now (out .entry)) (now (out .exit)) r ⌝ }
 {
     let mut w: usize = 0;
     let mut j: usize = 0;
@@ -193,7 +192,7 @@ pub fn subtract(on: &[u64], n: usize, off: &[u64], m: usize, out: &mut [u64]) ->
 
 // The sum of the lengths of the first n blocks.
 pub fn total(l: &[u64], n: usize) -> u64
-    requires { ⌜ (2 * n ≤ length (now l)) × NonEmpty (pairs n (now l)) × (total (pairs n (now l)) < 18446744073709551616) ⌝ }
+    requires { ⌜ Holds n (now l) × NonEmpty (pairs n (now l)) × (total (pairs n (now l)) < wordEnd) ⌝ }
     ensures { λ r. ⌜ r ≡ total (pairs n (now (l .entry))) ⌝ }
 {
     let mut sum: u64 = 0;

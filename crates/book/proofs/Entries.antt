@@ -2,16 +2,16 @@
 use mathlib.Core.Path.{_≡_, refl, sym, ap, _∙_}
 use mathlib.Core.Bool.{Bool, true, false, _&&_}
 use mathlib.Core.Option.{Option, none, some}
-use mathlib.Core.List.{List, [], _∷_, map}
+use mathlib.Core.List.{List, _∷_, map}
 use Prim.Native.Nat.{ℕ, zero, suc, _+_, _*_, _-_, _≤_, _<_}
-use native.Mathlib.Nat.{le-of-suc-le-suc, not-suc-le-zero, sub-zero}
+use native.Mathlib.Nat.{not-suc-le-zero}
 use native.Mathlib.Numerals.{add-one}
 use native.Mathlib.Omega.{arith}
 use lib.Dec.{leb, ltb, eqb}
 use lib.ListN.{length, getD, take, drop, length-take, length-map}
-use lib.Seq.{drop-drop, take-take, take-nil, getD-take, getD-drop}
+use lib.Seq.{drop-drop, take-take, getD-take, getD-drop}
 use borrow.Author.Tests.{leb-true, ltb-true, eqb-true, eqb-false, eq-eqb, ne-eqb}
-use Rattle.big_endian.specs.Be.{be16, be32}
+use Rattle.big_endian.specs.Be.{twoBytes, be16, be32}
 use Rattle.big_endian.specs.Maybe.{isSome, orEmpty}
 use Rattle.big_endian.specs.Walk.{both, allFrom}
 use Rattle.big_endian.proofs.Walk.{all-at}
@@ -20,11 +20,14 @@ use Rattle.model.specs.Basic.{_>>=_, given, each, run}
 use Rattle.model.specs.Directory.{partsOf}
 use Rattle.model.specs.Book as model
 use Rattle.model.specs.Book.{holidays, dates, entryOf, entriesOf}
-use Rattle.zone_pack.specs.Directory.{countAt, startAt, lenAt, partAt, recordOk, entriesOk, dirOk}
-use Rattle.zone_pack.proofs.Parts.{parts-index, as-dir}
+use Rattle.directory.specs.Directory.{countAt, startAt, lenAt, partAt, dirOk}
+use Rattle.directory.proofs.Parts.{parts-index, some-given, as-dir, drop-take, run-at, inside-from, entries-hold}
 use Rattle.civil.specs.declared.Time.{Time}
+use Rattle.book_dates.specs.Days.{isDay, HasDates}
+use Rattle.book_dates.proofs.Dates.{length-dates}
+use Rattle.book_dates.proofs.Reading.{dateTest, day-says, datesTest, days-says}
 use Rattle.book.specs.declared.Entry.{Entry}
-use Rattle.book.specs.Meaning.{recordsOf, yearAt, dayAt, datesAt, bodyIn, meaning, kindOf, timeFrom, entryFrom, bytesAt, noEntry, IsTimed, IsEntry, kindAt, datesIn}
+use Rattle.book.specs.Meaning.{recordsOf, writtenYear, dayAt, datesAt, bodyIn, meaning, kindOf, timeFrom, entryFrom, bytesAt, noEntry, IsTimed, IsEntry, kindAt, datesIn}
 use Rattle.book.specs.Accepts.{isTime, isHours, areDays, isDates, isBody, isRecord, isRecordAt, isBook}
 use Rattle.book.proofs.Bytes.{timeTest, timeValue, hoursTest, hoursValue, time-says, hours-says, holidaysTest, pickBody, bodyTest, bodyValue, recordTest, recordValue, dates-says, body-says, record-says, entry-is}
 
@@ -60,11 +63,7 @@ book-is b = by-test (dirOk b) (λ e. rw (parts-index b, e) (each-entry b (countA
 -- r is what the code's test gives
 pub book-says : (b : List ℕ) {r : Bool} → r ≡ bookTest b → r ≡ isBook b
 unfolding isBook
-book-says b e = e ∙ given-some (bookTest b) (map (valueAt b) (run 0 (countAt b))) ∙ ap isSome (sym (book-is b))
-  where
-    given-some : {A : Type 0} (t : Bool) (a : A) → t ≡ isSome (given t a)
-    given-some true a = refl
-    given-some false a = refl
+book-says b e = e ∙ some-given (bookTest b) (map (valueAt b) (run 0 (countAt b))) ∙ ap isSome (sym (book-is b))
 
 module _ (b : List ℕ) {r : Bool} (d : r ≡ isSome (partsOf b)) where
   pub book-no : r ≡ false → false ≡ isBook b
@@ -77,34 +76,10 @@ module _ (b : List ℕ) {r : Bool} (d : r ≡ isSome (partsOf b)) where
 
 -- ---- a book that keeps its layout
 
--- the i-th of a run of values
 length-run : (i k : ℕ) → length (run i k) ≡ k
 unfolding run
 length-run i zero = refl
 length-run i (suc k) = ap suc (length-run (suc i) k)
-
-getD-run : {A : Type 0} (f : ℕ → A) (d : A) (k i j : ℕ) → j < k → getD (map f (run i k)) j d ≡ f (i + j)
-unfolding run
-getD-run f d zero i j h = absurd (not-suc-le-zero h)
-getD-run f d (suc k) i zero h = let e : i + 0 ≡ i = omega arith in rw e
-getD-run f d (suc k) i (suc j) h = let e : suc i + j ≡ i + suc j = omega arith in rw (getD-run f d k (suc i) j (le-of-suc-le-suc h), e)
-
--- the entries of the directory end inside
-entries-in : (b : List ℕ) (k lo i j : ℕ) → entriesOk b lo i k ≡ true → j < k → startAt b (i + j) + lenAt b (i + j) ≤ length b
-unfolding entriesOk recordOk
-entries-in b zero lo i j h l = absurd (not-suc-le-zero l)
-entries-in b (suc k) lo i zero h l =
-    let o = startAt b i in
-    let n = lenAt b i in
-    let a = and-both (leb lo o && leb (o + n) (length b)) (entriesOk b (o + n) (i + 1) k) h in
-    let e : i + 0 ≡ i = omega arith in
-    rw e (leb-true (o + n) (length b) (and-both (leb lo o) (leb (o + n) (length b)) (a .0) .1))
-entries-in b (suc k) lo i (suc j) h l =
-    let o = startAt b i in
-    let n = lenAt b i in
-    let a = and-both (leb lo o && leb (o + n) (length b)) (entriesOk b (o + n) (i + 1) k) h in
-    let e : i + 1 + j ≡ i + suc j = omega arith in
-    rw (← e) (entries-in b k (o + n) (i + 1) j (a .1) (le-of-suc-le-suc l))
 
 module _ (b : List ℕ) (h : isBook b ≡ true) where
   tested : (dirOk b ≡ true) × (allFrom (isRecordAt b) 0 (countAt b) ≡ true)
@@ -120,29 +95,15 @@ module _ (b : List ℕ) (h : isBook b ≡ true) where
 
   module _ (i : ℕ) (l : i < countAt b) where
     pub value-is : getD (recordsOf b) i noEntry ≡ valueAt b i
-    value-is = let e : 0 + i ≡ i = omega arith in ap (λ (r : List model.Entry). getD r i noEntry) records-are ∙ getD-run (valueAt b) noEntry (countAt b) 0 i l ∙ rw e
+    value-is = let e : 0 + i ≡ i = omega arith in ap (λ (r : List model.Entry). getD r i noEntry) records-are ∙ run-at (valueAt b) noEntry (countAt b) 0 i l ∙ rw e
 
     pub record-is : isRecord (bytesAt b i) ≡ true
     record-is = all-at (isRecordAt b) (countAt b) i (tested .1) l
 
     pub ends-in : startAt b i + lenAt b i ≤ length b
-    unfolding dirOk
-    ends-in =
-        let m = 4 + 8 * countAt b in
-        let a = and-both (leb 4 (length b)) (leb m (length b) && entriesOk b m 0 (countAt b)) (tested .0) in
-        let c = and-both (leb m (length b)) (entriesOk b m 0 (countAt b)) (a .1) in
-        let e : 0 + i ≡ i = omega arith in
-        rw e at (entries-in b (countAt b) m 0 i (c .1) l)
+    ends-in = let e : 0 + i ≡ i = omega arith in rw e at (inside-from b (countAt b) (4 + 8 * countAt b) 0 i (entries-hold b (tested .0) .1) l)
 
 -- ---- from the bytes of a record to those of the book
-
-drop-take : {A : Type 0} (n m : ℕ) (l : List A) → n ≤ m → drop n (take m l) ≡ take (m - n) (drop n l)
-drop-take zero m l h = ap (λ (k : ℕ). take k l) (sym (sub-zero m))
-drop-take (suc n) zero l h = absurd (omega arith)
-drop-take (suc n) (suc m) [] h = sym (take-nil (suc m - suc n))
-drop-take (suc n) (suc m) (x ∷ l) h =
-    let e : suc m - suc n ≡ m - n = omega arith in
-    rw e (drop-take n m l (le-of-suc-le-suc h))
 
 -- the record of at most k bytes that stands at o
 module _ (b : List ℕ) (o k : ℕ) where
@@ -153,7 +114,7 @@ module _ (b : List ℕ) (o k : ℕ) where
   byte-moved j m h e = rw (e, getD-take k (drop o b) j 0 (omega (arith, short)), getD-drop o b j 0)
 
   day-moved : (q m : ℕ) → q + 4 ≤ length (take k (drop o b)) → m ≡ o + q → dayAt b m ≡ dayAt (take k (drop o b)) q
-  unfolding dayAt yearAt be16
+  unfolding dayAt writtenYear be16
   day-moved q m h e =
       rw (
         byte-moved q m (omega arith) e,
@@ -167,6 +128,24 @@ module _ (b : List ℕ) (o k : ℕ) where
   dates-moved zero q m h e = refl
   dates-moved (suc n) q m h e = rw (day-moved q m (omega arith) e, dates-moved n (q + 4) (m + 4) (omega arith) (omega arith))
 
+  -- the tests of a date and of n dates
+  test-moved : o + k ≤ length b → (q m : ℕ) → q + 4 ≤ length (take k (drop o b)) → m ≡ o + q → isDay b m ≡ isDay (take k (drop o b)) q
+  unfolding dateTest writtenYear be16
+  test-moved i q m h e =
+      sym (day-says b m (omega (arith, short)) refl)
+      ∙ rw (
+        byte-moved q m (omega arith) e,
+        byte-moved (q + 1) (m + 1) (omega arith) (omega arith),
+        byte-moved (q + 2) (m + 2) (omega arith) (omega arith),
+        byte-moved (q + 3) (m + 3) (omega arith) (omega arith),
+      )
+      (day-says (take k (drop o b)) q h refl)
+
+  tests-moved : o + k ≤ length b → (n q m : ℕ) → q + 4 * n ≤ length (take k (drop o b)) → m ≡ o + q → datesTest b m n ≡ datesTest (take k (drop o b)) q n
+  unfolding datesTest
+  tests-moved i zero q m h e = refl
+  tests-moved i (suc n) q m h e = rw (test-moved i q m (omega arith) e, tests-moved i n (q + 4) (m + 4) (omega arith) (omega arith))
+
   name-moved : (n q m : ℕ) → q + n ≤ length (take k (drop o b)) → m ≡ o + q → take n (drop m b) ≡ take n (drop q (take k (drop o b)))
   name-moved n q m h e = rw (e, drop-take q k (drop o b) (omega (arith, short)), take-take n (k - q) (drop q (drop o b)) (omega (arith, short)), drop-drop q o b)
 
@@ -174,7 +153,7 @@ module _ (b : List ℕ) (o k : ℕ) where
 
 -- a body of a kind that is not 0, 1 or 2 is of kind 3 and has whole dates
 dates-whole : (kind : ℕ) (l : List ℕ) (p : ℕ) → p ≤ length l → isBody kind l p ≡ true → eqb kind 0 ≡ false → eqb kind 1 ≡ false → eqb kind 2 ≡ false →
-    (kind ≡ 3) × (p + 2 + 4 * be16 l p ≡ length l)
+    (kind ≡ 3) × (p + 2 + 4 * be16 l p ≡ length l) × (areDays l (p + 2) (be16 l p) ≡ true)
 unfolding bodyTest holidaysTest
 dates-whole kind l p h t e₀ e₁ e₂ =
     by-test (eqb kind 3)
@@ -182,7 +161,7 @@ dates-whole kind l p h t e₀ e₁ e₂ =
     let d : isDates l p ≡ true = rw (e₀, e₁, e₂, e) at (body-says kind l p h refl ∙ t) in
     let q = and-both (leb (p + 2) (length l)) (eqb (length l) (p + 2 + 4 * be16 l p) && areDays l (p + 2) (be16 l p)) (dates-says l p h refl ∙ d) in
     let f = and-both (eqb (length l) (p + 2 + 4 * be16 l p)) (areDays l (p + 2) (be16 l p)) (q .1) in
-    (eqb-true kind 3 e, sym (eqb-true (length l) (p + 2 + 4 * be16 l p) (f .0))))
+    (eqb-true kind 3 e, sym (eqb-true (length l) (p + 2 + 4 * be16 l p) (f .0)), f .1))
     (λ e. let d : false ≡ true = rw (e₀, e₁, e₂, e) at (body-says kind l p h refl ∙ t) in clash false d refl)
 
 kind-few : (kind : ℕ) (l : List ℕ) (p : ℕ) → p ≤ length l → isBody kind l p ≡ true → kind ≤ 3
@@ -235,17 +214,20 @@ has-book b i h = go (entriesOf b) h
     go none l = absurd (not-suc-le-zero l)
     go (some r) l = refl
 
--- where the dates of a record of kind 3 end
-dates-end : (b : List ℕ) (o k : ℕ) → o + k ≤ length b → isRecord (take k (drop o b)) ≡ true → entryFrom o (take k (drop o b)) .kind ≡ 3 →
-    entryFrom o (take k (drop o b)) .dates + 4 * entryFrom o (take k (drop o b)) .count ≤ length b
+-- a record of kind 3 has dates, in the book
+dates-in : (b : List ℕ) (o k : ℕ) → o + k ≤ length b → isRecord (take k (drop o b)) ≡ true → entryFrom o (take k (drop o b)) .kind ≡ 3 →
+    HasDates b (entryFrom o (take k (drop o b)) .dates) (entryFrom o (take k (drop o b)) .count)
 unfolding entryFrom
-dates-end b o k h t e =
+dates-in b o k h t e =
     let l = take k (drop o b) in
     let kind = getD l 0 0 in
     let p = 2 + getD l 1 0 in
     let f = record-facts l t in
     let w = dates-whole kind l p (f .1) (f .2) (rw e) (rw e) (rw e) in
-    omega (arith, w .1, short b o k)
+    let n = be16 l p in
+    let i : o + (p + 2) + 4 * n ≤ length b = omega (arith, w .1, short b o k) in
+    let m : datesTest b (o + (p + 2)) n ≡ datesTest l (p + 2) n = tests-moved b o k h n (p + 2) (o + (p + 2)) (omega (arith, w .1)) refl in
+    (i, sym (days-says b (o + (p + 2)) n i refl) ∙ m ∙ days-says l (p + 2) n (omega (arith, w .1)) refl ∙ w .2)
 
 name-end : (b : List ℕ) (o k : ℕ) → o + k ≤ length b → isRecord (take k (drop o b)) ≡ true →
     entryFrom o (take k (drop o b)) .name + entryFrom o (take k (drop o b)) .letters ≤ length b
@@ -306,7 +288,7 @@ entry-read o l en ek ed es ef ec = rw (ek, ed, es, ef, ec, en)
 
 -- the entry that the code reads
 pub is-entry : (b : List ℕ) (i : ℕ) {o : ℕ} {l : List ℕ} {e : Entry} → i < length (recordsOf b) → o ≡ startAt b i → l ≡ bytesAt b i → e ≡ entryFrom o l →
-    e .count < 65536 → IsEntry b i e
+    e .count < twoBytes → IsEntry b i e
 unfolding bytesAt valueAt
 is-entry b i {o} {l} {e} h eo el ee few =
     let t : isBook b ≡ true = has-book b i h in
@@ -321,7 +303,7 @@ is-entry b i {o} {l} {e} h eo el ee few =
       means = means-record b a n q r ∙ sym (value-is b t i c);
       kind = kind-in b a n r;
       name = name-end b a n q r;
-      dates = dates-end b a n q r;
+      dates = dates-in b a n q r;
       few = rw x at few;
       timed = timed-in b a n r;
     })
@@ -341,11 +323,6 @@ kind-picked l p kind h =
     let n₁ = eqb-false kind 1 q₁ in
     let n₂ = eqb-false kind 2 q₂ in
     rw (q₀, q₁, q₂) (omega arith))))
-
-length-dates : (l : List ℕ) (p n : ℕ) → length (datesAt l p n) ≡ n
-unfolding datesAt
-length-dates l p zero = refl
-length-dates l p (suc n) = ap suc (length-dates l (p + 4) n)
 
 module _ (b : List ℕ) (i : ℕ) (h : i < length (recordsOf b)) where
   abbrev at : ℕ

@@ -1,4 +1,4 @@
 pub mod Bytes
-pub mod Walks
+pub mod Times
 pub mod Entries
 pub mod Tally

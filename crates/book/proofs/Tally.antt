@@ -1,4 +1,4 @@
--- Sums over the book's records and the default zone that wins: one turn of each loop, and its end.
+-- Sums over the book's records and the default zone that wins: one step of each loop, and its end.
 use mathlib.Core.Path.{_≡_, refl, sym, _∙_}
 use mathlib.Core.Bool.{Bool, false, _&&_}
 use mathlib.Core.Option.{Option, none, some}
@@ -11,15 +11,17 @@ use lib.Dec.{leb, eqb}
 use lib.ListN.{length, getD, drop, getElem?, drop-of-length-le}
 use lib.Seq.{drop-cons}
 use borrow.Author.Tests.{le-leb, lt-leb, eq-eqb, ne-eqb}
+use Rattle.big_endian.specs.Be.{twoBytes}
 use Rattle.model.specs.Basic.{if_then_else_, sum}
 use Rattle.model.specs.Book as model
 use Rattle.model.specs.Book.{Body, default, work, pause, holidays, works, pauses, holidayRecords, dates, tally, withinLimits, isDefault, lastDefault}
 use Rattle.book.specs.declared.Tallies.{Tallies}
-use Rattle.book.specs.Meaning.{recordsOf, kindOf, ofKind, noEntry, kindAt, datesIn, talliesOf}
+use Rattle.book.specs.Limits.{mostRecords, mostWork, mostBreaks, mostHolidays, mostDates}
+use Rattle.book.specs.Meaning.{recordsOf, workKind, breakKind, holidaysKind, kindOf, ofKind, noEntry, kindAt, datesIn, talliesOf}
 
 -- ---- sums over the records
 
-tally-more : (f : Body → ℕ) (l : List model.Entry) (i : ℕ) → i < length l → tally f (drop i l) ≡ f (getD l i noEntry .body) + tally f (drop (i + 1) l)
+pub tally-more : (f : Body → ℕ) (l : List model.Entry) (i : ℕ) → i < length l → tally f (drop i l) ≡ f (getD l i noEntry .body) + tally f (drop (i + 1) l)
 unfolding sum
 tally-more f l i h = rw (add-one i, drop-cons l i noEntry h)
 
@@ -36,7 +38,7 @@ pub record Summing (l : List model.Entry) (i w p c d : ℕ) : Type 0 where
   pub work-few : w ≤ i
   pub breaks-few : p ≤ i
   pub holidays-few : c ≤ i
-  pub dates-few : d ≤ 65536 * i
+  pub dates-few : d ≤ twoBytes * i
 
 pub summing-start : (l : List model.Entry) → Summing l 0 0 0 0 0
 summing-start l = record {
@@ -98,7 +100,7 @@ module _ (b : List ℕ) (i : ℕ) {w p c d j : ℕ} (s : Summing (recordsOf b) i
     dates-few = omega (arith, s .dates-few);
   }
 
-  pub summing-holidays : {n : ℕ} → j ≡ 3 → n ≡ datesIn b i → n < 65536 → Summing (recordsOf b) (i + 1) w p (c + 1) (d + n)
+  pub summing-holidays : {n : ℕ} → j ≡ 3 → n ≡ datesIn b i → n < twoBytes → Summing (recordsOf b) (i + 1) w p (c + 1) (d + n)
   summing-holidays q e k = record {
     work = omega (arith, s .work, rw q at (kinds-more 1));
     breaks = omega (arith, s .breaks, rw q at (kinds-more 2));
@@ -161,35 +163,35 @@ is-holidays (holidays l) = refl
 
 unfoldable pub limitsTest : List model.Entry → Bool
 limitsTest l =
-    leb (length l) 64
-    && (leb (tally (ofKind 1) l) 16 && (leb (tally (ofKind 2) l) 16 && (leb (tally (ofKind 3) l) 8 && leb (tally dates l) 512)))
+    leb (length l) mostRecords
+    && (leb (tally (ofKind workKind) l) mostWork && (leb (tally (ofKind breakKind) l) mostBreaks && (leb (tally (ofKind holidaysKind) l) mostHolidays && leb (tally dates l) mostDates)))
 
 pub limits-say : (l : List model.Entry) {t : Bool} → t ≡ limitsTest l → t ≡ withinLimits l
 unfolding limitsTest withinLimits
-limits-say l e = rw (tally-same works (ofKind 1) is-work l, tally-same pauses (ofKind 2) is-pause l, tally-same holidayRecords (ofKind 3) is-holidays l) e
+limits-say l e = rw (tally-same works (ofKind workKind) is-work l, tally-same pauses (ofKind breakKind) is-pause l, tally-same holidayRecords (ofKind holidaysKind) is-holidays l) e
 
 -- the answers of `limits_ok`, from the bounds that its tests show
 module _ (l : List model.Entry) {n : ℕ} (en : n ≡ length l) where
-  pub many-records : 64 < n → false ≡ withinLimits l
+  pub many-records : mostRecords < n → false ≡ withinLimits l
   unfolding limitsTest
-  many-records h = limits-say l (rw (← en, lt-leb n 64 h))
+  many-records h = limits-say l (rw (← en, lt-leb n mostRecords h))
 
-  module _ {t : Tallies} (hn : n ≤ 64) (et : t ≡ talliesOf l) where
-    limits-left : limitsTest l ≡ (leb (t .work) 16 && (leb (t .breaks) 16 && (leb (t .holidays) 8 && leb (t .dates) 512)))
+  module _ {t : Tallies} (hn : n ≤ mostRecords) (et : t ≡ talliesOf l) where
+    limits-left : limitsTest l ≡ (leb (t .work) mostWork && (leb (t .breaks) mostBreaks && (leb (t .holidays) mostHolidays && leb (t .dates) mostDates)))
     unfolding limitsTest talliesOf
-    limits-left = rw (← en, le-leb n 64 hn, et)
+    limits-left = rw (← en, le-leb n mostRecords hn, et)
 
-    pub many-work : 16 < t .work → false ≡ withinLimits l
-    many-work h = limits-say l (rw (limits-left, lt-leb (t .work) 16 h))
+    pub many-work : mostWork < t .work → false ≡ withinLimits l
+    many-work h = limits-say l (rw (limits-left, lt-leb (t .work) mostWork h))
 
-    pub many-breaks : t .work ≤ 16 → 16 < t .breaks → false ≡ withinLimits l
-    many-breaks hw h = limits-say l (rw (limits-left, le-leb (t .work) 16 hw, lt-leb (t .breaks) 16 h))
+    pub many-breaks : t .work ≤ mostWork → mostBreaks < t .breaks → false ≡ withinLimits l
+    many-breaks hw h = limits-say l (rw (limits-left, le-leb (t .work) mostWork hw, lt-leb (t .breaks) mostBreaks h))
 
-    pub many-holidays : t .work ≤ 16 → t .breaks ≤ 16 → 8 < t .holidays → false ≡ withinLimits l
-    many-holidays hw hp h = limits-say l (rw (limits-left, le-leb (t .work) 16 hw, le-leb (t .breaks) 16 hp, lt-leb (t .holidays) 8 h))
+    pub many-holidays : t .work ≤ mostWork → t .breaks ≤ mostBreaks → mostHolidays < t .holidays → false ≡ withinLimits l
+    many-holidays hw hp h = limits-say l (rw (limits-left, le-leb (t .work) mostWork hw, le-leb (t .breaks) mostBreaks hp, lt-leb (t .holidays) mostHolidays h))
 
-    pub dates-within : t .work ≤ 16 → t .breaks ≤ 16 → t .holidays ≤ 8 → leb (t .dates) 512 ≡ withinLimits l
-    dates-within hw hp hc = limits-say l (rw (limits-left, le-leb (t .work) 16 hw, le-leb (t .breaks) 16 hp, le-leb (t .holidays) 8 hc))
+    pub dates-within : t .work ≤ mostWork → t .breaks ≤ mostBreaks → t .holidays ≤ mostHolidays → leb (t .dates) mostDates ≡ withinLimits l
+    dates-within hw hp hc = limits-say l (rw (limits-left, le-leb (t .work) mostWork hw, le-leb (t .breaks) mostBreaks hp, le-leb (t .holidays) mostHolidays hc))
 
 -- ---- the default zone
 
@@ -204,12 +206,13 @@ last-more : (d : Option model.Entry) (l : List model.Entry) (i : ℕ) → i < le
 unfolding lastDefault
 last-more d l i h = rw (add-one i, drop-cons l i noEntry h)
 
-elem-at : (l : List model.Entry) (i : ℕ) → i < length l → getElem? l i ≡ some (getD l i noEntry)
+-- a record by its number
+pub elem-at : (l : List model.Entry) (i : ℕ) → i < length l → getElem? l i ≡ some (getD l i noEntry)
 elem-at [] i h = absurd (not-suc-le-zero h)
 elem-at (x ∷ l) zero h = refl
 elem-at (x ∷ l) (suc i) h = elem-at l i (le-of-suc-le-suc h)
 
-elem-past : (l : List model.Entry) (i : ℕ) → length l ≤ i → getElem? l i ≡ none
+pub elem-past : (l : List model.Entry) (i : ℕ) → length l ≤ i → getElem? l i ≡ none
 elem-past [] i h = refl
 elem-past (x ∷ l) zero h = absurd (not-suc-le-zero h)
 elem-past (x ∷ l) (suc i) h = elem-past l i (le-of-suc-le-suc h)

@@ -2,20 +2,29 @@
 use Rattle.model.specs.Basic.{if_then_else_}
 use mathlib.Core.Path.{_≡_}
 use mathlib.Core.List.{List, []}
-use Prim.Native.Nat.{ℕ, _+_, _*_, _≤_, _<_}
+use mathlib.Core.Option.{none}
+use Prim.Native.Nat.{ℕ, _+_, _≤_, _<_}
 use lib.Dec.{eqb}
-use lib.ListN.{length, getD, take, drop}
-use Rattle.big_endian.specs.Be.{be16, be32}
+use lib.ListN.{length, getD, getElem?, take, drop}
+use Rattle.big_endian.specs.Be.{twoBytes, fourBytes, be16, be32}
 use Rattle.big_endian.specs.Maybe.{orEmpty}
-use Rattle.zone_pack.specs.Directory.{startAt, lenAt}
+use Rattle.directory.specs.Directory.{startAt, lenAt}
 use Rattle.model.specs.Instant.{second}
-unfoldable pub use Rattle.book_dates.specs.Days.{yearAt, dayAt, datesAt}
+unfoldable pub use Rattle.book_dates.specs.Days.{writtenYear, dayAt, datesAt}
+use Rattle.book_dates.specs.Days.{HasDates}
 use Rattle.model.specs.Book as model
-use Rattle.model.specs.Book.{Hours, Body, default, work, pause, holidays, entriesOf, dates, tally}
+use Rattle.model.specs.Book.{Hours, Body, default, work, pause, holidays, entriesOf, lastDefault, dates, tally}
 use Rattle.civil.specs.Dates.{timeIn}
 use Rattle.civil.specs.declared.Time.{Time}
 use Rattle.book.specs.declared.Entry.{Entry}
 use Rattle.book.specs.declared.Tallies.{Tallies}
+
+-- how many sets of weekdays there are, and the seconds of a day
+abbrev pub weekdaySets : ℕ
+weekdaySets = 128
+
+abbrev pub daySeconds : ℕ
+daySeconds = 86400
 
 -- the book's records; none where its layout does not hold
 abbrev pub recordsOf : List ℕ → List model.Entry
@@ -23,25 +32,38 @@ recordsOf b = orEmpty (entriesOf b)
 
 -- ---- records
 
+-- the numbers that the book writes for the four kinds
+abbrev pub defaultKind : ℕ
+defaultKind = 0
+
+abbrev pub workKind : ℕ
+workKind = 1
+
+abbrev pub breakKind : ℕ
+breakKind = 2
+
+abbrev pub holidaysKind : ℕ
+holidaysKind = 3
+
 abbrev pub hoursIn : Entry → Hours
 hoursIn e = record { days = e .days; from = timeIn (e .start); to = timeIn (e .end) }
 
 abbrev pub bodyIn : List ℕ → Entry → Body
 bodyIn b e =
-    if eqb (e .kind) 0 then default else
-    if eqb (e .kind) 1 then work (hoursIn e) else
-    if eqb (e .kind) 2 then pause (hoursIn e) else
+    if eqb (e .kind) defaultKind then default else
+    if eqb (e .kind) workKind then work (hoursIn e) else
+    if eqb (e .kind) breakKind then pause (hoursIn e) else
     holidays (datesAt b (e .dates) (e .count))
 
 unfoldable pub meaning : List ℕ → Entry → model.Entry
 meaning b e = record { place = e .place; name = take (e .letters) (drop (e .name) b); body = bodyIn b e }
 
--- the number that the book writes for the kind of a body, and 1 for a body of kind k
+-- the kind of a body, and 1 for a body of kind k
 abbrev pub kindOf : Body → ℕ
-kindOf default = 0
-kindOf (work h) = 1
-kindOf (pause h) = 2
-kindOf (holidays l) = 3
+kindOf default = defaultKind
+kindOf (work h) = workKind
+kindOf (pause h) = breakKind
+kindOf (holidays l) = holidaysKind
 
 unfoldable pub ofKind : ℕ → Body → ℕ
 ofKind k x = if eqb (kindOf x) k then 1 else 0
@@ -76,22 +98,34 @@ bytesAt b i = take (lenAt b i) (drop (startAt b i) b)
 abbrev pub noEntry : model.Entry
 noEntry = record { place = 0; name = []; body = default }
 
+-- the book has a record i
+abbrev pub HasRecord : List ℕ → ℕ → Type 0
+HasRecord b i = (i < length (recordsOf b)) × (i < fourBytes)
+
+-- record i is that of the default zone that wins; i is the number of records where there is none
+abbrev pub IsLastDefault : List ℕ → ℕ → Type 0
+IsLastDefault b i = (getElem? (recordsOf b) i ≡ lastDefault none (recordsOf b)) × (i ≤ length (recordsOf b))
+
 -- the weekdays and the times of day of a work or break record are such
 pub record IsTimed (e : Entry) : Type 0 where
-  pub days : e .days < 128
-  pub start-seconds : e .start .seconds < 86400
+  pub days : e .days < weekdaySets
+  pub start-seconds : e .start .seconds < daySeconds
   pub start-nanos : e .start .nanos < second
-  pub end-seconds : e .end .seconds < 86400
+  pub end-seconds : e .end .seconds < daySeconds
   pub end-nanos : e .end .nanos < second
+
+-- the record's name lies in the book
+abbrev pub NameIn : List ℕ → Entry → Type 0
+NameIn b e = e .name + e .letters ≤ length b
 
 -- e is record i of the book b, and its name and its dates lie in the book
 pub record IsEntry (b : List ℕ) (i : ℕ) (e : Entry) : Type 0 where
   pub means : meaning b e ≡ getD (recordsOf b) i noEntry
-  pub kind : e .kind ≤ 3
-  pub name : e .name + e .letters ≤ length b
-  pub dates : e .kind ≡ 3 → e .dates + 4 * e .count ≤ length b
-  pub few : e .count < 65536
-  pub timed : 1 ≤ e .kind → e .kind ≤ 2 → IsTimed e
+  pub kind : e .kind ≤ holidaysKind
+  pub name : NameIn b e
+  pub dates : e .kind ≡ holidaysKind → HasDates b (e .dates) (e .count)
+  pub few : e .count < twoBytes
+  pub timed : workKind ≤ e .kind → e .kind ≤ breakKind → IsTimed e
 
 -- ---- what is counted of the records
 
@@ -104,4 +138,4 @@ datesIn b i = dates (getD (recordsOf b) i noEntry .body)
 
 -- how many there are of each kind, and how many dates
 unfoldable pub talliesOf : List model.Entry → Tallies
-talliesOf l = record { work = tally (ofKind 1) l; breaks = tally (ofKind 2) l; holidays = tally (ofKind 3) l; dates = tally dates l }
+talliesOf l = record { work = tally (ofKind workKind) l; breaks = tally (ofKind breakKind) l; holidays = tally (ofKind holidaysKind) l; dates = tally dates l }

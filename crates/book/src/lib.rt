@@ -2,18 +2,48 @@
 ghost use mathlib.Core.Path.{_≡_};
 ghost use Prim.Native.Nat.{_+_, _*_, _≤_, _<_};
 ghost use mathlib.Core.Bool.{true};
-ghost use mathlib.Core.Option.{none};
-ghost use lib.ListN.{length, getElem?};
-ghost use Rattle.model.specs.Basic.{distinct};
-ghost use Rattle.model.specs.Book.{withinLimits, lastDefault};
+ghost use lib.ListN.{length};
+ghost use Rattle.model.specs.Book.{withinLimits};
+ghost use Rattle.big_endian.specs.Be.{twoBytes, fourBytes};
 ghost use Rattle.big_endian.specs.Walk.{allFrom};
-ghost use Rattle.book.specs.Meaning.{recordsOf, dayAt, datesAt, timeFrom, entryFrom, bytesAt, IsEntry, kindAt, datesIn, talliesOf};
+ghost use Rattle.book.specs.Meaning.{recordsOf, holidaysKind, timeFrom, entryFrom, bytesAt, HasRecord, IsLastDefault, IsEntry, kindAt, datesIn, talliesOf};
 ghost use Rattle.book.specs.Accepts.{isTime, isHours, isDates, isBody, isRecord, isRecordAt, isBook};
 use civil::Time;
 
+// The kinds of records: a default zone, work, a break, holidays.
+pub const DEFAULT_ZONE: u8 = 0;
+
+pub const WORK: u8 = 1;
+
+pub const BREAK: u8 = 2;
+
+pub const HOLIDAYS: u8 = 3;
+
+// Document 01's limits of a book: records, records of each kind but the default zone's, and dates as written.
+const MOST_RECORDS: usize = 64;
+
+pub const MOST_WORK: usize = 16;
+
+pub const MOST_BREAKS: usize = 16;
+
+pub const MOST_HOLIDAYS: usize = 8;
+
+const MOST_DATES: usize = 512;
+
+// The seconds of a day and the nanoseconds of a second: a time of day is below both.
+const DAY: u32 = instant::DAY as u32;
+
+const SECOND: u32 = instant::SECOND as u32;
+
+// How many sets of weekdays there are: a bit for each day.
+const WEEKDAY_SETS: u8 = 128;
+
+// A set of weekdays and two times of day: 1 byte and twice 8.
+const HOURS: usize = 17;
+
 // A record of the book. A name and dates are given by where they stand in the book.
 pub struct Entry {
-    // 0 default zone, 1 work, 2 break, 3 holidays
+    // DEFAULT_ZONE, WORK, BREAK or HOLIDAYS
     pub kind: u8,
     // where the record starts
     pub place: usize,
@@ -31,15 +61,15 @@ pub struct Entry {
 
 // ---- the layout of a record: l is its bytes, p a place in them
 
-// A time of day: seconds below 86,400 and nanoseconds.
+// A time of day: seconds and nanoseconds.
 fn time_ok(l: &[u8], p: usize) -> bool
     requires { ⌜ p + 8 ≤ length (now l) ⌝ }
     ensures { λ r. ⌜ r ≡ isTime (now (l .entry)) p ⌝ }
 {
-    if big_endian::be32_at(l, p) >= 86400 {
+    if big_endian::be32_at(l, p) >= DAY {
         return false;
     }
-    big_endian::be32_at(l, p + 4) < 1000000000
+    big_endian::be32_at(l, p + 4) < SECOND
 }
 
 // A set of weekdays and two times of day, and nothing behind them.
@@ -47,10 +77,10 @@ fn hours_ok(l: &[u8], p: usize) -> bool
     requires { ⌜ p ≤ length (now l) ⌝ }
     ensures { λ r. ⌜ r ≡ isHours (now (l .entry)) p ⌝ }
 {
-    if l.len() != p + 17 {
+    if l.len() != p + HOURS {
         return false;
     }
-    if big_endian::byte_at(l, p) >= 128 {
+    if big_endian::byte_at(l, p) >= WEEKDAY_SETS {
         return false;
     }
     if !time_ok(l, p + 1) {
@@ -79,16 +109,16 @@ fn body_ok(kind: u8, l: &[u8], p: usize) -> bool
     requires { ⌜ p ≤ length (now l) ⌝ }
     ensures { λ r. ⌜ r ≡ isBody kind (now (l .entry)) p ⌝ }
 {
-    if kind == 0 {
+    if kind == DEFAULT_ZONE {
         return l.len() == p;
     }
-    if kind == 1 {
+    if kind == WORK {
         return hours_ok(l, p);
     }
-    if kind == 2 {
+    if kind == BREAK {
         return hours_ok(l, p);
     }
-    if kind == 3 {
+    if kind == HOLIDAYS {
         return holidays_ok(l, p);
     }
     false
@@ -99,7 +129,7 @@ fn record_ok(l: &[u8]) -> bool
     ensures { λ r. ⌜ r ≡ isRecord (now (l .entry)) ⌝ }
 {
     let n = big_endian::small_at(l, 1);
-    if n > 64 {
+    if n > directory::LONGEST_NAME {
         return false;
     }
     if l.len() < 2 + n {
@@ -108,41 +138,23 @@ fn record_ok(l: &[u8]) -> bool
     body_ok(big_endian::byte_at(l, 0), l, 2 + n)
 }
 
-// ---- the dates of a record, which stay in the book b (crate `dates_of`)
-
-// The number of the day that is written at p, 0 where that is no date.
-pub fn date_at(b: &[u8], p: usize) -> u32
-    requires { ⌜ p + 4 ≤ length (now b) ⌝ }
-    ensures { λ r. ⌜ r ≡ dayAt (now (b .entry)) p ⌝ }
-{
-    book_dates::date_at(b, p)
-}
-
-// How many different days are written at the n dates from p on.
-pub fn distinct_dates(b: &[u8], p: usize, n: usize) -> usize
-    requires { ⌜ p + 4 * n ≤ length (now b) ⌝ }
-    ensures { λ r. ⌜ (r ≡ length (distinct (datesAt (now (b .entry)) p n))) × (r ≤ n) ⌝ }
-{
-    book_dates::distinct_dates(b, p, n)
-}
-
 // ---- the book's records
 
 // The bytes of record i.
 fn record_at(book: &[u8], i: usize) -> &[u8]
-    requires { ⌜ i < 4294967296 ⌝ }
+    requires { ⌜ i < fourBytes ⌝ }
     ensures { λ r. ⌜ now r ≡ bytesAt (now (book .entry)) i ⌝ }
 {
     big_endian::part(
         book,
-        zone_pack::start_at(book, i),
-        zone_pack::len_at(book, i),
+        directory::start_at(book, i),
+        directory::len_at(book, i),
     )
 }
 
 // Are the n records whole?
 fn records_ok(book: &[u8], n: usize) -> bool
-    requires { ⌜ n < 4294967296 ⌝ }
+    requires { ⌜ n < fourBytes ⌝ }
     ensures { λ r. ⌜ r ≡ allFrom (isRecordAt (now (book .entry))) 0 n ⌝ }
 {
     let mut i: usize = 0;
@@ -159,23 +171,23 @@ fn records_ok(book: &[u8], n: usize) -> bool
 pub fn book_ok(book: &[u8]) -> bool
     ensures { λ r. ⌜ r ≡ isBook (now (book .entry)) ⌝ }
 {
-    if !zone_pack::dir_ok(book) {
+    if !directory::dir_ok(book) {
         return false;
     }
-    records_ok(book, zone_pack::count_of(book))
+    records_ok(book, directory::count_of(book))
 }
 
 // How many records the book has.
 pub fn count(book: &[u8]) -> usize
     requires { ⌜ isBook (now book) ≡ true ⌝ }
-    ensures { λ r. ⌜ (r ≡ length (recordsOf (now (book .entry)))) × (r < 4294967296) ⌝ }
+    ensures { λ r. ⌜ (r ≡ length (recordsOf (now (book .entry)))) × (r < fourBytes) ⌝ }
 {
-    zone_pack::count_of(book)
+    directory::count_of(book)
 }
 
 // The time of day at p.
 fn read_time(l: &[u8], p: usize) -> Time
-    requires { ⌜ p < 4294967296 ⌝ }
+    requires { ⌜ p < fourBytes ⌝ }
     ensures { λ r. ⌜ r ≡ timeFrom (now (l .entry)) p ⌝ }
 {
     Time {
@@ -186,8 +198,8 @@ fn read_time(l: &[u8], p: usize) -> Time
 
 // The record whose bytes are l and which stands at place.
 fn read_entry(l: &[u8], place: usize) -> Entry
-    requires { ⌜ place < 4294967296 ⌝ }
-    ensures { λ r. ⌜ (r ≡ entryFrom place (now (l .entry))) × (r .count < 65536) ⌝ }
+    requires { ⌜ place < fourBytes ⌝ }
+    ensures { λ r. ⌜ (r ≡ entryFrom place (now (l .entry))) × (r .count < twoBytes) ⌝ }
 {
     let n = big_endian::small_at(l, 1);
     let p = 2 + n;
@@ -208,28 +220,28 @@ fn read_entry(l: &[u8], place: usize) -> Entry
 
 // Record i.
 pub fn entry_at(book: &[u8], i: usize) -> Entry
-    requires { ⌜ (i < length (recordsOf (now book))) × (i < 4294967296) ⌝ }
+    requires { ⌜ HasRecord (now book) i ⌝ }
     ensures { λ r. ⌜ IsEntry (now (book .entry)) i r ⌝ }
 {
-    read_entry(record_at(book, i), zone_pack::start_at(book, i))
+    read_entry(record_at(book, i), directory::start_at(book, i))
 }
 
 // ---- the kind of a record, read alone
 
 // The kind of record i: its first byte.
 fn kind_at(book: &[u8], i: usize) -> u8
-    requires { ⌜ (i < length (recordsOf (now book))) × (i < 4294967296) ⌝ }
+    requires { ⌜ HasRecord (now book) i ⌝ }
     ensures { λ r. ⌜ r ≡ kindAt (now (book .entry)) i ⌝ }
 {
-    big_endian::byte_at(book, zone_pack::start_at(book, i))
+    big_endian::byte_at(book, directory::start_at(book, i))
 }
 
-// How many dates record i has, which is of kind 3: the two bytes behind its name.
+// How many dates record i has, which is of holidays: the two bytes behind its name.
 fn dates_in(book: &[u8], i: usize) -> usize
-    requires { ⌜ (i < length (recordsOf (now book))) × (i < 4294967296) × (kindAt (now book) i ≡ 3) ⌝ }
-    ensures { λ r. ⌜ (r ≡ datesIn (now (book .entry)) i) × (r < 65536) ⌝ }
+    requires { ⌜ HasRecord (now book) i × (kindAt (now book) i ≡ holidaysKind) ⌝ }
+    ensures { λ r. ⌜ (r ≡ datesIn (now (book .entry)) i) × (r < twoBytes) ⌝ }
 {
-    let at = zone_pack::start_at(book, i);
+    let at = directory::start_at(book, i);
     big_endian::be16_at(book, at + 2 + big_endian::small_at(book, at + 1)) as usize
 }
 
@@ -245,7 +257,7 @@ pub struct Tallies {
 
 // The tallies of the book's n records.
 fn tallies_of(book: &[u8], n: usize) -> Tallies
-    requires { ⌜ (n ≡ length (recordsOf (now book))) × (n < 4294967296) ⌝ }
+    requires { ⌜ (n ≡ length (recordsOf (now book))) × (n < fourBytes) ⌝ }
     ensures { λ r. ⌜ r ≡ talliesOf (recordsOf (now (book .entry))) ⌝ }
 {
     let mut work: usize = 0;
@@ -257,11 +269,11 @@ fn tallies_of(book: &[u8], n: usize) -> Tallies
         let at = i;
         let kind = kind_at(book, at);
         i += 1;
-        if kind == 1 {
+        if kind == WORK {
             work += 1;
-        } else if kind == 2 {
+        } else if kind == BREAK {
             breaks += 1;
-        } else if kind == 3 {
+        } else if kind == HOLIDAYS {
             holidays += 1;
             dates += dates_in(book, at);
         }
@@ -280,26 +292,26 @@ pub fn limits_ok(book: &[u8]) -> bool
     ensures { λ r. ⌜ r ≡ withinLimits (recordsOf (now (book .entry))) ⌝ }
 {
     let n = count(book);
-    if n > 64 {
+    if n > MOST_RECORDS {
         return false;
     }
     let t = tallies_of(book, n);
-    if t.work > 16 {
+    if t.work > MOST_WORK {
         return false;
     }
-    if t.breaks > 16 {
+    if t.breaks > MOST_BREAKS {
         return false;
     }
-    if t.holidays > 8 {
+    if t.holidays > MOST_HOLIDAYS {
         return false;
     }
-    t.dates <= 512
+    t.dates <= MOST_DATES
 }
 
-// The record whose default zone wins, the last of kind 0; the number of records where there is none.
+// The record whose default zone wins, the last of that kind; the number of records where there is none.
 pub fn last_default(book: &[u8]) -> usize
     requires { ⌜ isBook (now book) ≡ true ⌝ }
-    ensures { λ r. ⌜ (getElem? (recordsOf (now (book .entry))) r ≡ lastDefault none (recordsOf (now (book .entry)))) × (r ≤ length (recordsOf (now (book .entry)))) ⌝ }
+    ensures { λ r. ⌜ IsLastDefault (now (book .entry)) r ⌝ }
 {
     let n = count(book);
     let mut found = n;
@@ -307,7 +319,7 @@ pub fn last_default(book: &[u8]) -> usize
     while i < n {
         let at = i;
         i += 1;
-        if kind_at(book, at) == 0 {
+        if kind_at(book, at) == DEFAULT_ZONE {
             found = at;
         }
     }

@@ -3,7 +3,7 @@ use mathlib.Core.Path.{_≡_, refl, sym, ap, _∙_}
 use mathlib.Core.Bool.{Bool, true, false, _&&_}
 use mathlib.Core.Option.{Option, some}
 use mathlib.Core.List.{List, _∷_}
-use Prim.Native.Nat.{ℕ, zero, suc, _+_, _*_, _-_, _%_, _≤_}
+use Prim.Native.Nat.{ℕ, zero, suc, _+_, _*_, _-_, _≤_}
 use native.Mathlib.Omega.{arith}
 use lib.ListN.{length, getD, take, drop}
 use lib.Seq.{drop-drop, take-take, getD-take, getD-drop}
@@ -14,7 +14,7 @@ use Rattle.model.specs.Basic.{if_then_else_, _>>=_, given, each}
 use Rattle.model.specs.Bytes.{be, pieces}
 use Rattle.model.specs.Book.{dateIn}
 use Rattle.model.specs.Calendar.{isDate, dayNumber}
-use Rattle.book_dates.specs.Days.{yearAt, dayAt, datesAt, isDay, areDays}
+use Rattle.book_dates.specs.Days.{yearOf, writtenYear, dayAt, datesAt, isDay, areDays}
 
 -- the same, with the answer's own test
 pub is-given : {A : Type 0} (m : Option A) (t : Bool) (a : A) → m ≡ given t a → (isSome m ≡ t) × (m ≡ given (isSome m) a)
@@ -24,17 +24,17 @@ is-given m false a e = (ap isSome e, rw e)
 -- ---- one date
 
 unfoldable pub dateTest : List ℕ → ℕ → Bool
-dateTest l p = isDate (yearAt l p) (getD l (p + 2) 0) (getD l (p + 3) 0)
+dateTest l p = isDate (writtenYear l p) (getD l (p + 2) 0) (getD l (p + 3) 0)
 
 given-if : (t : Bool) (a b : ℕ) → given t a ≡ given t (if t then a else b)
 given-if true a b = refl
 given-if false a b = refl
 
 date-given : (l : List ℕ) (p : ℕ) → p + 4 ≤ length l → dateIn (take 4 (drop p l)) ≡ given (dateTest l p) (dayAt l p)
-unfolding dateIn dateTest dayAt yearAt
+unfolding dateIn dateTest dayAt writtenYear
 date-given l p h =
     let a : be16 l p ≡ be 2 (drop p l) = at-2 l p (omega arith) in
-    let y : ℕ = (be16 l p + 32768) % 65536 - 22368 in
+    let y : ℕ = yearOf (be16 l p) in
     rw (take-take 2 4 (drop p l) (omega arith), ← a, getD-take 4 (drop p l) 2 0 (omega arith), getD-take 4 (drop p l) 3 0 (omega arith), getD-drop p l 2 0, getD-drop p l 3 0)
     (given-if (isDate y (getD l (p + 2) 0) (getD l (p + 3) 0)) (dayNumber y (getD l (p + 2) 0) (getD l (p + 3) 0)) 0)
 

@@ -1,19 +1,19 @@
 -- Dates have the same four bytes where they are the same day.
 use mathlib.Core.Path.{_≡_, refl, sym, ap, _∙_}
-use mathlib.Core.Bool.{Bool, true}
+use mathlib.Core.Bool.{true}
 use mathlib.Core.List.{List}
-use Prim.Native.Nat.{ℕ, zero, suc, _+_, _*_, _-_, _%_, _≤_, _<_}
+use Prim.Native.Nat.{ℕ, zero, suc, _+_, _*_, _-_, _≤_, _<_}
 use native.Mathlib.Omega.{arith}
 use lib.Dec.{eqb}
 use lib.ListN.{length, getD}
 use borrow.Author.Tests.{eq-eqb, ne-eqb, eqb-true, eqb-false}
-use Rattle.big_endian.specs.Be.{be16, be32}
+use Rattle.big_endian.specs.Be.{twoBytes, be16, be32}
 use Rattle.laws_base.specs.Test.{by-test, and-both}
 use Rattle.laws_calendar.specs.Dates.{IsDate, date-facts, is-had, date-of-day}
 use Rattle.model.specs.Basic.{any, among, distinct}
 use Rattle.model.specs.Calendar.{Date, date, isDate, dateOf}
-use Rattle.book_words.specs.Words.{wordsAt}
-use Rattle.book_dates.specs.Days.{yearAt, dayAt, datesAt, isDay, areDays}
+use Rattle.book_dates.specs.Words.{wordsAt}
+use Rattle.book_dates.specs.Days.{yearOf, writtenYear, dayAt, datesAt, isDay, HasDates}
 use Rattle.book_dates.proofs.Reading.{dateTest, day-says, datesTest, days-says}
 
 -- four bytes make one number
@@ -22,12 +22,12 @@ one-number : (a b c d x y z w : ℕ) → a < 256 → b < 256 → c < 256 → d <
 one-number a b c d x y z w ha hb hc hd hx hy hz hw e = (omega arith, omega arith, omega arith, omega arith)
 
 -- a year that is counted is of one number
-one-year : (x y : ℕ) → x < 65536 → y < 65536 → 401 ≤ (x + 32768) % 65536 - 22368 → (x + 32768) % 65536 - 22368 ≡ (y + 32768) % 65536 - 22368 → x ≡ y
+one-year : (x y : ℕ) → x < twoBytes → y < twoBytes → 401 ≤ yearOf x → yearOf x ≡ yearOf y → x ≡ y
 one-year x y hx hy h e = omega arith
 
 module _ (b : List ℕ) (bytes : (k : ℕ) → getD b k 0 < 256) where
   same-day : (p q : ℕ) → be32 b p ≡ be32 b q → dayAt b p ≡ dayAt b q
-  unfolding be32 dayAt yearAt be16
+  unfolding be32 dayAt writtenYear be16
   same-day p q e =
       let w = one-number (getD b p 0) (getD b (p + 1) 0) (getD b (p + 2) 0) (getD b (p + 3) 0) (getD b q 0) (getD b (q + 1) 0) (getD b (q + 2) 0) (getD b (q + 3) 0)
       (bytes p) (bytes (p + 1)) (bytes (p + 2)) (bytes (p + 3)) (bytes q) (bytes (q + 1)) (bytes (q + 2)) (bytes (q + 3)) e in
@@ -35,9 +35,9 @@ module _ (b : List ℕ) (bytes : (k : ℕ) → getD b k 0 < 256) where
 
   -- the date written at p
   abbrev dateAt : ℕ → Date
-  dateAt p = date (yearAt b p) (getD b (p + 2) 0) (getD b (p + 3) 0)
+  dateAt p = date (writtenYear b p) (getD b (p + 2) 0) (getD b (p + 3) 0)
 
-  is-date : (p : ℕ) → p + 4 ≤ length b → isDay b p ≡ true → isDate (yearAt b p) (getD b (p + 2) 0) (getD b (p + 3) 0) ≡ true
+  is-date : (p : ℕ) → p + 4 ≤ length b → isDay b p ≡ true → isDate (writtenYear b p) (getD b (p + 2) 0) (getD b (p + 3) 0) ≡ true
   unfolding dateTest
   is-date p h t = day-says b p h refl ∙ t
 
@@ -46,10 +46,10 @@ module _ (b : List ℕ) (bytes : (k : ℕ) → getD b k 0 < 256) where
   date-back p h t = let e = is-date p h t in rw e (date-of-day (is-had (date-facts e)))
 
   same-word : (p q : ℕ) → p + 4 ≤ length b → q + 4 ≤ length b → isDay b p ≡ true → isDay b q ≡ true → dayAt b p ≡ dayAt b q → be32 b p ≡ be32 b q
-  unfolding be32 yearAt be16
+  unfolding be32 writtenYear be16
   same-word p q h k t u e =
       let d : dateAt p ≡ dateAt q = sym (date-back p h t) ∙ ap dateOf e ∙ date-back q k u in
-      let v : IsDate (yearAt b p) (getD b (p + 2) 0) (getD b (p + 3) 0) = date-facts (is-date p h t) in
+      let v : IsDate (writtenYear b p) (getD b (p + 2) 0) (getD b (p + 3) 0) = date-facts (is-date p h t) in
       let x : ℕ = getD b p 0 * 256 + getD b (p + 1) 0 in
       let y : ℕ = getD b q 0 * 256 + getD b (q + 1) 0 in
       let n : x ≡ y = one-year x y (omega (arith, bytes p, bytes (p + 1))) (omega (arith, bytes q, bytes (q + 1))) (v .year-low) (ap (λ (z : Date). z .year) d) in
@@ -81,5 +81,5 @@ module _ (b : List ℕ) (bytes : (k : ℕ) → getD b k 0 < 256) where
       (λ e. rw (a, e) r)
       (λ e. rw (a, e) (ap suc r))
 
-  pub counted : (p n : ℕ) {t : Bool} {k : ℕ} → p + 4 * n ≤ length b → t ≡ areDays b p n → t ≡ true → k ≡ length (distinct (wordsAt b p n)) → k ≡ length (distinct (datesAt b p n))
-  counted p n h e u ek = ek ∙ sym (same-count n p h (days-says b p n h refl ∙ sym e ∙ u))
+  pub counted : (p n : ℕ) {k : ℕ} → HasDates b p n → k ≡ length (distinct (wordsAt b p n)) → k ≡ length (distinct (datesAt b p n))
+  counted p n h ek = ek ∙ sym (same-count n p (h .0) (days-says b p n (h .0) refl ∙ h .1))

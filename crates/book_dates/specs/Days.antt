@@ -1,10 +1,10 @@
 -- Dates as they are written in a list of bytes, one behind the other.
-use mathlib.Core.Bool.{Bool}
+use mathlib.Core.Bool.{Bool, true}
 use mathlib.Core.Path.{_≡_}
 use mathlib.Core.List.{List, [], _∷_}
-use Prim.Native.Nat.{ℕ, zero, suc, _+_, _-_, _%_}
-use lib.ListN.{getD, take, drop}
-use Rattle.big_endian.specs.Be.{be16}
+use Prim.Native.Nat.{ℕ, zero, suc, _+_, _*_, _-_, _%_, _≤_}
+use lib.ListN.{length, getD, take, drop}
+use Rattle.big_endian.specs.Be.{twoBytes, be16}
 use Rattle.big_endian.specs.Maybe.{isSome}
 use Rattle.civil.specs.declared.Date.{Date}
 use Rattle.model.specs.Basic.{if_then_else_, each}
@@ -12,24 +12,31 @@ use Rattle.model.specs.Book.{dateIn}
 use Rattle.model.specs.Bytes.{pieces}
 use Rattle.model.specs.Calendar.{isDate, dayNumber}
 
+-- of the numbers that two bytes can hold, how many are negative where they have a sign; and the year -10400, counted from the least of them
+abbrev pub negatives : ℕ
+negatives = 32768
+
+abbrev pub firstYear : ℕ
+firstYear = 22368
+
 -- the year that two bytes say, counted from -10400; 0 for those before
 abbrev pub yearOf : ℕ → ℕ
-yearOf n = (n + 32768) % 65536 - 22368
+yearOf n = (n + negatives) % twoBytes - firstYear
 
 -- the year written at p
-unfoldable pub yearAt : List ℕ → ℕ → ℕ
-yearAt b p = yearOf (be16 b p)
+unfoldable pub writtenYear : List ℕ → ℕ → ℕ
+writtenYear b p = yearOf (be16 b p)
 
 -- d is the year, month and day written at p
 pub record IsWritten (b : List ℕ) (p : ℕ) (d : Date) : Type 0 where
-  pub year : d .year ≡ yearAt b p
+  pub year : d .year ≡ writtenYear b p
   pub month : d .month ≡ getD b (p + 2) 0
   pub day : d .day ≡ getD b (p + 3) 0
 
 -- the day number of the date written at p, 0 where it is no date
 unfoldable pub dayAt : List ℕ → ℕ → ℕ
 dayAt b p =
-    if isDate (yearAt b p) (getD b (p + 2) 0) (getD b (p + 3) 0) then dayNumber (yearAt b p) (getD b (p + 2) 0) (getD b (p + 3) 0) else 0
+    if isDate (writtenYear b p) (getD b (p + 2) 0) (getD b (p + 3) 0) then dayNumber (writtenYear b p) (getD b (p + 2) 0) (getD b (p + 3) 0) else 0
 
 -- those of the n dates written from p on
 unfoldable pub datesAt : List ℕ → ℕ → ℕ → List ℕ
@@ -44,3 +51,7 @@ isDay l p = isSome (dateIn (take 4 (drop p l)))
 -- n dates
 unfoldable pub areDays : List ℕ → ℕ → ℕ → Bool
 areDays l p n = isSome (each dateIn (pieces 4 n (drop p l)))
+
+-- there are n dates from p on
+abbrev pub HasDates : List ℕ → ℕ → ℕ → Type 0
+HasDates b p n = (p + 4 * n ≤ length b) × (areDays b p n ≡ true)

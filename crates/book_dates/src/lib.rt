@@ -1,21 +1,38 @@
-// Dates as a book writes them, one behind the other: two bytes of a signed year, month and day.
+// Dates as a book writes them, one behind the other: two bytes of a signed year, month and day. Two dates are the same day where their four bytes,
+// read as one number, are equal: so it is these numbers that are compared where different dates are counted.
 ghost use mathlib.Core.Path.{_≡_};
+ghost use mathlib.Core.Bool.{true, not};
 ghost use Prim.Native.Nat.{_+_, _*_, _≤_, _<_};
 ghost use lib.ListN.{length};
 ghost use Rattle.model.specs.Basic.{among, distinct};
-ghost use Rattle.book_dates.specs.Days.{yearOf, IsWritten, dayAt, datesAt, isDay, areDays};
+ghost use Rattle.big_endian.specs.Be.{twoBytes};
+ghost use Rattle.book_dates.specs.Days.{yearOf, IsWritten, dayAt, datesAt, isDay, areDays, HasDates};
+ghost use Rattle.book_dates.specs.Words.{wordsAt, rises, markCount, slotOf};
 use civil::Date;
+
+// Of the numbers that two bytes can hold, how many are negative where they have a sign.
+const NEGATIVES: u32 = 32768;
+
+// The year -10400, from which years are counted, if two bytes are counted from their least number.
+const FIRST_YEAR: u32 = 22368;
+
+// Where dates are counted, how many marks there are, and how many a month and a year have: more than any has days.
+const MARKS: usize = 8192;
+
+const MONTH: u32 = 31;
+
+const YEAR: u32 = 372;
 
 // The year whose two bytes are this number, counted from -10400; 0 for the years before.
 fn year_of(n: u32) -> u32
-    requires { ⌜ n < 65536 ⌝ }
+    requires { ⌜ n < twoBytes ⌝ }
     ensures { λ r. ⌜ r ≡ yearOf n ⌝ }
 {
-    let y = (n + 32768) % 65536;
-    if y < 22368 {
+    let y = (n + NEGATIVES) % big_endian::TWO_BYTES;
+    if y < FIRST_YEAR {
         return 0;
     }
-    y - 22368
+    y - FIRST_YEAR
 }
 
 // The year, month and day that are written at p, whether or not they are a date.
@@ -69,15 +86,37 @@ pub fn dates_ok(l: &[u8], p: usize, n: usize) -> bool
     true
 }
 
-// Is the day among them?
-pub fn has_date(b: &[u8], p: usize, n: usize, day: u32) -> bool
+// ---- how many are different: the four bytes of each date as a number
+
+// Is the first of the n numbers from p on above 0, and each other above the one before it?
+fn ascend(b: &[u8], p: usize, n: usize) -> bool
     requires { ⌜ p + 4 * n ≤ length (now b) ⌝ }
-    ensures { λ r. ⌜ r ≡ among (datesAt (now (b .entry)) p n) day ⌝ }
+    ensures { λ r. ⌜ r ≡ rises 0 (wordsAt (now (b .entry)) p n) ⌝ }
+{
+    let mut last: u32 = 0;
+    let mut at = p;
+    let mut left = n;
+    while 0 < left {
+        let w = big_endian::four_at(b, at);
+        if w <= last {
+            return false;
+        }
+        last = w;
+        at += 4;
+        left -= 1;
+    }
+    true
+}
+
+// Is w among the n numbers from p on?
+fn has_word(b: &[u8], p: usize, n: usize, w: u32) -> bool
+    requires { ⌜ p + 4 * n ≤ length (now b) ⌝ }
+    ensures { λ r. ⌜ r ≡ among (wordsAt (now (b .entry)) p n) w ⌝ }
 {
     let mut at = p;
     let mut left = n;
     while 0 < left {
-        if day == date_at(b, at) {
+        if w == big_endian::four_at(b, at) {
             return true;
         }
         at += 4;
@@ -86,32 +125,57 @@ pub fn has_date(b: &[u8], p: usize, n: usize, day: u32) -> bool
     false
 }
 
-// How many different days they are: one counts if no later one equals it.
-fn plain_count(b: &[u8], p: usize, n: usize) -> usize
-    requires { ⌜ p + 4 * n ≤ length (now b) ⌝ }
-    ensures { λ r. ⌜ (r ≡ length (distinct (datesAt (now (b .entry)) p n))) × (r ≤ n) ⌝ }
+// Is w not among the n numbers from p on? Where one of them is w, the mark is not 0.
+fn is_new(b: &[u8], p: usize, n: usize, w: u32, mark: u8) -> bool
+    requires { ⌜ (p + 4 * n ≤ length (now b)) × (among (wordsAt (now b) p n) w ≡ true → mark ≡ 1) ⌝ }
+    ensures { λ r. ⌜ r ≡ not (among (wordsAt (now (b .entry)) p n) w) ⌝ }
 {
-    let mut at = p;
+    if mark == 0 {
+        return true;
+    }
+    !has_word(b, p, n, w)
+}
+
+// The mark of a number. The dates of 22 years in a row, each written as year, month and day, have marks of their own.
+fn slot(w: u32) -> usize
+    ensures { λ r. ⌜ (r ≡ slotOf w) × (r < markCount) ⌝ }
+{
+    (w / big_endian::TWO_BYTES * YEAR + w / 256 % 256 * MONTH + w % 256) as usize % MARKS
+}
+
+// How many different ones the n numbers from p on are. Goes from the last to the first and marks each; one without a mark is new, and for
+// one that is marked the numbers behind it are asked.
+fn marked_count(b: &[u8], p: usize, n: usize) -> usize
+    requires { ⌜ p + 4 * n ≤ length (now b) ⌝ }
+    ensures { λ r. ⌜ (r ≡ length (distinct (wordsAt (now (b .entry)) p n))) × (r ≤ n) ⌝ }
+{
+    let mut marks: [u8; MARKS] = [0; MARKS];
     let mut left = n;
+    let mut done: usize = 0;
     let mut count: usize = 0;
     while 0 < left {
-        let day = date_at(b, at);
-        at += 4;
         left -= 1;
-        if !has_date(b, at, left, day) {
+        let at = p + 4 * left;
+        let w = big_endian::four_at(b, at);
+        let k = slot(w);
+        let mark = marks[k];
+        marks[k] = 1;
+        let new = is_new(b, at + 4, done, w, mark);
+        done += 1;
+        if new {
             count += 1;
         }
     }
     count
 }
 
-// How many different days they are. Dates are equal where their four bytes are; where one of them is no date, each is decoded.
+// How many different days the n dates from p on are.
 pub fn distinct_dates(b: &[u8], p: usize, n: usize) -> usize
-    requires { ⌜ p + 4 * n ≤ length (now b) ⌝ }
+    requires { ⌜ HasDates (now b) p n ⌝ }
     ensures { λ r. ⌜ (r ≡ length (distinct (datesAt (now (b .entry)) p n))) × (r ≤ n) ⌝ }
 {
-    if dates_ok(b, p, n) {
-        return book_words::distinct_words(b, p, n);
+    if ascend(b, p, n) {
+        return n;
     }
-    plain_count(b, p, n)
+    marked_count(b, p, n)
 }

@@ -1,5 +1,5 @@
 pub mod Lookups
-pub mod Grow
-pub mod Turn
-pub mod Whole
+pub mod Adding
+pub mod Loop
+pub mod Refusals
 pub mod Work

@@ -2,10 +2,10 @@
 use mathlib.Core.Path.{_≡_, refl, sym, ap, ap₂, _∙_}
 use mathlib.Core.Bool.{Bool, true, false}
 use mathlib.Core.Option.{Option, none, some}
-use mathlib.Core.List.{List, [], _∷_}
+use mathlib.Core.List.{List, _∷_}
 use mathlib.Core.Logic.{⊎-elim}
 use Prim.Native.Nat.{ℕ, zero, suc, _+_, _-_, _≤_, _<_}
-use native.Mathlib.Nat.{le-of-suc-le-suc, not-suc-le-zero, eq-or-lt-of-le}
+use native.Mathlib.Nat.{eq-or-lt-of-le}
 use native.Mathlib.Omega.{arith}
 use lib.Dec.{eqb}
 use lib.ListN.{length, take, drop, getD, getElem?, length-drop}
@@ -21,7 +21,8 @@ use Rattle.model.specs.Build.{lookup, defaultZone, ruleZone, zoneUsed}
 use Rattle.big_endian.specs.Maybe.{isSome, orEmpty}
 use Rattle.zone_pack.specs.Pack.{zoneFile, Finds}
 use Rattle.book.specs.declared.Entry.{Entry}
-use Rattle.book.specs.Meaning.{recordsOf, bodyIn, meaning, noEntry, IsEntry}
+use Rattle.book.specs.Meaning.{recordsOf, bodyIn, meaning, NameIn, IsEntry}
+use Rattle.book.proofs.Tally.{elem-at, elem-past}
 use Rattle.zone.specs.declared.Zone.{Zone}
 use Rattle.zone.specs.declared.ZoneRead.{ZoneRead}
 use Rattle.zone.specs.declared.ZoneRead.the-variants as R
@@ -30,7 +31,7 @@ use Rattle.build.specs.declared.Opened.{Opened}
 use Rattle.build.specs.declared.ZoneLookup.the-variants.{Found, Refused}
 use Rattle.build.specs.declared.LastLookup.{LastLookup}
 use Rattle.build.specs.declared.LastLookup.the-variants.{Last}
-use Rattle.build.specs.Read.{SameBytes, SameName, Names, LooksUp, last, lookupAfter, filesOf, zoneMeant, OpenedWell, IsUtc, ZoneLookupFits, found, refused}
+use Rattle.build.specs.Read.{SameBytes, SameName, Names, LooksUp, last, lookupAfter, filesOf, zoneMeant, OpenedWell, IsUtc, found, refused, AnswersNamed, AnswersDefault}
 
 pub is-none : {A : Type 0} (o : Option A) → isSome o ≡ false → o ≡ none
 is-none none e = refl
@@ -47,7 +48,7 @@ module _ (b p : List ℕ) (e : Entry) (ok : isSome (packOf p) ≡ true) {nm : Li
   unfolding zoneFile
   find-is = rw (← en) (sym (rw (is-some (packOf p) ok)))
 
-  pub no-zone : yes ≡ false → (refuses 4 (e .place) ≡ lookup (filesOf p) (meaning b e)) × ZoneLookupFits p (Refused 4 (e .place))
+  pub no-zone : yes ≡ false → AnswersNamed b p e (Refused 4 (e .place))
   unfolding lookup meaning
   no-zone q = (rw (find-is, is-none (zoneFile p nm) (sym (is .found) ∙ q)), refused {n = 4} (omega arith))
 
@@ -55,12 +56,12 @@ module _ (b p : List ℕ) (e : Entry) (ok : isSome (packOf p) ≡ true) {nm : Li
     file-is : find (take (e .letters) (drop (e .name) b)) (filesOf p) ≡ some x
     file-is = find-is ∙ is-some (zoneFile p nm) (sym (is .found) ∙ q) ∙ ap some (sym (is .file))
 
-    pub no-use : zr ≡ R.Unusable → (refuses 5 (e .place) ≡ lookup (filesOf p) (meaning b e)) × ZoneLookupFits p (Refused 5 (e .place))
+    pub no-use : zr ≡ R.Unusable → AnswersNamed b p e (Refused 5 (e .place))
     unfolding lookup meaning
     no-use u = (rw (file-is, ← ez, u), refused {n = 5} (omega arith))
 
     pub is-found : {z : Zone} {n : ℕ} → zr ≡ R.Opened z → n ≡ length x → ReadOk x zr →
-        (gives (zoneMeant p (record { at = at; len = n; zone = z })) ≡ lookup (filesOf p) (meaning b e)) × ZoneLookupFits p (Found (record { at = at; len = n; zone = z }))
+        AnswersNamed b p e (Found (record { at = at; len = n; zone = z }))
     unfolding lookup meaning
     is-found {z} {n} u l f =
         let part : take n (drop at p) ≡ x = rw l (sym (is .part)) in
@@ -68,23 +69,13 @@ module _ (b p : List ℕ) (e : Entry) (ok : isSome (packOf p) ≡ true) {nm : Li
 
 -- ---- the default zone
 
-at-some : {A : Type 0} (l : List A) (i : ℕ) (d : A) → i < length l → getElem? l i ≡ some (getD l i d)
-at-some [] i d h = absurd (not-suc-le-zero h)
-at-some (a ∷ l) zero d h = refl
-at-some (a ∷ l) (suc i) d h = at-some l i d (le-of-suc-le-suc h)
-
-at-none : {A : Type 0} (l : List A) (i : ℕ) → length l ≤ i → getElem? l i ≡ none
-at-none [] i h = refl
-at-none (a ∷ l) zero h = absurd (not-suc-le-zero h)
-at-none (a ∷ l) (suc i) h = at-none l i (le-of-suc-le-suc h)
-
 module _ (b p : List ℕ) (i : ℕ) {n : ℕ} (ei : getElem? (recordsOf b) i ≡ lastDefault none (recordsOf b)) (en : n ≡ length (recordsOf b)) where
   pub default-named : i < n → {e : Entry} → IsEntry b i e → {a : Answer model.Zone} → a ≡ lookup (filesOf p) (meaning b e) →
       a ≡ defaultZone (filesOf p) (lastDefault none (recordsOf b))
-  default-named h is q = let k : i < length (recordsOf b) = omega arith in rw (← ei, at-some (recordsOf b) i noEntry k, ← is .means) q
+  default-named h is q = let k : i < length (recordsOf b) = omega arith in rw (← ei, elem-at (recordsOf b) i k, ← is .means) q
 
-  pub default-utc : n ≤ i → {o : Opened} → IsUtc p o → (gives (zoneMeant p o) ≡ defaultZone (filesOf p) (lastDefault none (recordsOf b))) × ZoneLookupFits p (Found o)
-  default-utc h u = let k : length (recordsOf b) ≤ i = omega arith in (rw (← ei, at-none (recordsOf b) i k) (ap gives (u .means)), found (u .opened))
+  pub default-utc : n ≤ i → {o : Opened} → IsUtc p o → AnswersDefault b p (Found o)
+  default-utc h u = let k : length (recordsOf b) ≤ i = omega arith in (rw (← ei, elem-past (recordsOf b) i k) (ap gives (u .means)), found (u .opened))
 
 -- ---- the zone that a record uses
 
@@ -100,7 +91,7 @@ module _ (b p : List ℕ) (e : Entry) (z : model.Zone) where
       (λ q₂. rw (ne-eqb (e .kind) 0 n, q₁, q₂))
       (λ q₂. rw (ne-eqb (e .kind) 0 n, q₁, q₂)))
 
-  module _ (h : e .name + e .letters ≤ length b) (n : e .kind ≡ 0 → ⊥) where
+  module _ (h : NameIn b e) (n : e .kind ≡ 0 → ⊥) where
     name-length : length (meaning b e .name) ≡ e .letters
     unfolding meaning
     name-length = length-take-le (e .letters) (drop (e .name) b) (omega (arith, length-drop (e .name) b))
@@ -166,7 +157,7 @@ module _ (b p : List ℕ) (e : Entry) (k : LastLookup) (w : LooksUp b p k) where
         go : LooksUp b p (Last name letters o) → Names b p name letters o
         go (last n) = n
 
-    pub known-named : e .name + e .letters ≤ length b → SameName b e name letters → (gives (zoneMeant p o) ≡ lookup (filesOf p) (meaning b e)) × ZoneLookupFits p (Found o)
+    pub known-named : NameIn b e → SameName b e name letters → AnswersNamed b p e (Found o)
     unfolding meaning
     known-named h s =
         let q = s .letters in (
@@ -175,7 +166,7 @@ module _ (b p : List ℕ) (e : Entry) (k : LastLookup) (w : LooksUp b p k) where
           found (last-is .opened),
         )
 
-  pub knows-after : (z : model.Zone) (o : Opened) → e .name + e .letters ≤ length b → gives (zoneMeant p o) ≡ zoneUsed (filesOf p) z (meaning b e) (bodyIn b e) → OpenedWell p o → LooksUp b p (lookupAfter e o k)
+  pub knows-after : (z : model.Zone) (o : Opened) → NameIn b e → gives (zoneMeant p o) ≡ zoneUsed (filesOf p) z (meaning b e) (bodyIn b e) → OpenedWell p o → LooksUp b p (lookupAfter e o k)
   knows-after z o h q f =
       by-test (eqb (e .kind) 0)
       (λ t. rw t w)

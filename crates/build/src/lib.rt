@@ -1,18 +1,13 @@
 // From the bytes of a rule book and a zone pack to a schedule, or to a refusal: its number and a place in the book.
 ghost use mathlib.Core.Path.{_≡_};
 ghost use mathlib.Core.Bool.{true};
-ghost use mathlib.Core.Option.{none};
 ghost use mathlib.Core.List.{List};
-ghost use Prim.Native.Nat.{ℕ, _+_, _*_, _-_, _≤_, _<_};
+ghost use Prim.Native.Nat.{ℕ, _+_, _≤_};
 ghost use lib.ListN.{length};
-ghost use Rattle.model.specs.Pack.{packOf};
-ghost use Rattle.model.specs.Book as model;
-ghost use Rattle.model.specs.Build as definition;
-ghost use Rattle.model.specs.Build.{lookup, defaultZone, zoneUsed, rulesOf};
-ghost use Rattle.big_endian.specs.Maybe.{isSome};
-ghost use Rattle.book.specs.Meaning.{recordsOf, bodyIn, meaning};
-ghost use Rattle.book.specs.Accepts.{isBook};
-ghost use Rattle.build.specs.Read.{filesOf, zoneMeant, zoneLookupIs, ZoneLookupFits, OpenedWell, IsUtc, SameBytes, SameName, LooksUp, lookupAfter, ruleFrom, holidaysFrom, Sized, Long, Refuses, Reads, Answers, rulesRead};
+ghost use Rattle.zone_pack.specs.Pack.{isPack};
+ghost use Rattle.book.specs.Meaning.{NameIn};
+ghost use Rattle.build.specs.Read.{Checked, OpenedWell, IsUtc, AnswersNamed, AnswersDefault, AnswersUsed, SameBytes, SameName, Searchable};
+ghost use Rattle.build.specs.Read.{lookupAfter, ruleFrom, holidaysFrom, firstLimit, Sized, Long, Refuses, ReadsRules, AnswersRules, Builds};
 use book::Entry;
 use civil::Time;
 use rule::HolidayDates;
@@ -20,6 +15,9 @@ use rule::Rule;
 use rule::Schedule;
 use zone::Zone;
 use zone::ZoneRead;
+
+// The search limit without holidays: 366 days in seconds.
+const FIRST_LIMIT: u64 = 366 * instant::DAY;
 
 // A zone that is open, and where its file stands in the pack: from where on, and how many bytes. UTC has none.
 pub struct Opened {
@@ -51,8 +49,8 @@ pub struct Built {
 
 // The zone of a record's name: 4 where the pack has not got it, 5 where its file is not usable.
 fn look_up(book: &[u8], pack: &[u8], e: Entry) -> ZoneLookup
-    requires { ⌜ isSome (packOf (now pack)) ≡ true ⌝ }
-    ensures { λ r. ⌜ (zoneLookupIs (now (pack .entry)) r ≡ lookup (filesOf (now (pack .entry))) (meaning (now (book .entry)) e)) × ZoneLookupFits (now (pack .entry)) r ⌝ }
+    requires { ⌜ isPack (now pack) ≡ true ⌝ }
+    ensures { λ r. ⌜ AnswersNamed (now (book .entry)) (now (pack .entry)) e r ⌝ }
 {
     let mut found = false;
     let mut at: usize = 0;
@@ -86,8 +84,8 @@ fn utc() -> Opened
 
 // The zone of the last default record, or UTC.
 fn default_zone(book: &[u8], pack: &[u8]) -> ZoneLookup
-    requires { ⌜ (isBook (now book) ≡ true) × (isSome (packOf (now pack)) ≡ true) ⌝ }
-    ensures { λ r. ⌜ (zoneLookupIs (now (pack .entry)) r ≡ defaultZone (filesOf (now (pack .entry))) (model.lastDefault none (recordsOf (now (book .entry))))) × ZoneLookupFits (now (pack .entry)) r ⌝ }
+    requires { ⌜ Checked (now book) (now pack) ⌝ }
+    ensures { λ r. ⌜ AnswersDefault (now (book .entry)) (now (pack .entry)) r ⌝ }
 {
     let i = book::last_default(book);
     if i < book::count(book) {
@@ -113,7 +111,7 @@ fn same_bytes(b: &[u8], p: usize, q: usize, n: usize) -> bool
 
 // Is the record's name that of `letters` letters which stands at `name`?
 fn is_named(book: &[u8], e: Entry, name: usize, letters: usize) -> bool
-    requires { ⌜ (e .name + e .letters ≤ length (now book)) × (name + letters ≤ length (now book)) ⌝ }
+    requires { ⌜ NameIn (now book) e × (name + letters ≤ length (now book)) ⌝ }
     ensures { λ r. ⌜ (r ≡ true → SameName (now (book .entry)) e name letters) ⌝ }
 {
     if e.letters != letters {
@@ -124,8 +122,8 @@ fn is_named(book: &[u8], e: Entry, name: usize, letters: usize) -> bool
 
 // The zone of a record's name where k is known. A name's zone is opened once, where records that name it follow one another.
 fn zone_named(book: &[u8], pack: &[u8], e: Entry, k: LastLookup) -> ZoneLookup
-    requires { ⌜ (isSome (packOf (now pack)) ≡ true) × (e .name + e .letters ≤ length (now book)) × LooksUp (now book) (now pack) k ⌝ }
-    ensures { λ r. ⌜ (zoneLookupIs (now (pack .entry)) r ≡ lookup (filesOf (now (pack .entry))) (meaning (now (book .entry)) e)) × ZoneLookupFits (now (pack .entry)) r ⌝ }
+    requires { ⌜ Searchable (now book) (now pack) e k ⌝ }
+    ensures { λ r. ⌜ AnswersNamed (now (book .entry)) (now (pack .entry)) e r ⌝ }
 {
     let LastLookup::Last(name, letters, zone) = k else {
         return look_up(book, pack, e);
@@ -138,10 +136,10 @@ fn zone_named(book: &[u8], pack: &[u8], e: Entry, k: LastLookup) -> ZoneLookup
 
 // The zone that a record uses where d is the default zone and k is known.
 fn zone_used(book: &[u8], pack: &[u8], e: Entry, d: Opened, k: LastLookup) -> ZoneLookup
-    requires { ⌜ (isSome (packOf (now pack)) ≡ true) × (e .name + e .letters ≤ length (now book)) × OpenedWell (now pack) d × LooksUp (now book) (now pack) k ⌝ }
-    ensures { λ r. ⌜ (zoneLookupIs (now (pack .entry)) r ≡ zoneUsed (filesOf (now (pack .entry))) (zoneMeant (now (pack .entry)) d) (meaning (now (book .entry)) e) (bodyIn (now (book .entry)) e)) × ZoneLookupFits (now (pack .entry)) r ⌝ }
+    requires { ⌜ OpenedWell (now pack) d × Searchable (now book) (now pack) e k ⌝ }
+    ensures { λ r. ⌜ AnswersUsed (now (book .entry)) (now (pack .entry)) e d r ⌝ }
 {
-    if e.kind == 0 {
+    if e.kind == book::DEFAULT_ZONE {
         return ZoneLookup::Found(d);
     }
     if e.letters == 0 {
@@ -154,7 +152,7 @@ fn zone_used(book: &[u8], pack: &[u8], e: Entry, d: Opened, k: LastLookup) -> Zo
 fn lookup_after(e: Entry, o: Opened, k: LastLookup) -> LastLookup
     ensures { λ r. ⌜ r ≡ lookupAfter e o k ⌝ }
 {
-    if e.kind == 0 {
+    if e.kind == book::DEFAULT_ZONE {
         return k;
     }
     if e.letters < 1 {
@@ -196,9 +194,9 @@ fn holidays_of(e: Entry, o: Opened) -> HolidayDates
     }
 }
 
-// No rules: a search covers 366 days.
+// No rules.
 fn no_rules() -> Schedule
-    ensures { λ r. ⌜ Sized r 0 0 0 31622400 × Long r ⌝ }
+    ensures { λ r. ⌜ Sized r 0 0 0 firstLimit × Long r ⌝ }
 {
     let zone = zone::utc();
     let from = Time {
@@ -221,17 +219,17 @@ fn no_rules() -> Schedule
         count: 0,
     };
     Schedule {
-        work: [r; 16],
+        work: [r; book::MOST_WORK],
         works: 0,
-        breaks: [r; 16],
+        breaks: [r; book::MOST_BREAKS],
         pauses: 0,
-        closed: [c; 8],
+        closed: [c; book::MOST_HOLIDAYS],
         closings: 0,
-        limit: 31622400,
+        limit: FIRST_LIMIT,
     }
 }
 
-// ---- the whole
+// ---- from book and pack to an answer
 
 // A refusal: no rules come with it.
 fn refused(number: u32, place: usize) -> Built
@@ -247,8 +245,8 @@ fn refused(number: u32, place: usize) -> Built
 
 // The rules of the book's records, where d is the default zone. They are put in their places one by one: a call with a schedule would copy it.
 fn read_rules(book: &[u8], pack: &[u8], d: Opened) -> Built
-    requires { ⌜ (isBook (now book) ≡ true) × (model.withinLimits (recordsOf (now book)) ≡ true) × (isSome (packOf (now pack)) ≡ true) × OpenedWell (now pack) d ⌝ }
-    ensures { λ r. ⌜ Reads (now (book .entry)) (now (pack .entry)) r (rulesOf (filesOf (now (pack .entry))) (zoneMeant (now (pack .entry)) d) (recordsOf (now (book .entry)))) ⌝ }
+    requires { ⌜ Checked (now book) (now pack) × OpenedWell (now pack) d ⌝ }
+    ensures { λ r. ⌜ ReadsRules (now (book .entry)) (now (pack .entry)) d r ⌝ }
 {
     let n = book::count(book);
     let mut s = no_rules();
@@ -260,25 +258,23 @@ fn read_rules(book: &[u8], pack: &[u8], d: Opened) -> Built
         match zone_used(book, pack, e, d, k) {
             ZoneLookup::Found(o) => {
                 k = lookup_after(e, o, k);
-                if e.kind == 1 {
+                if e.kind == book::WORK {
                     let at = s.works;
                     s.work[at] = rule_of(e, o);
                     s.works = at + 1;
-                } else if e.kind == 2 {
+                } else if e.kind == book::BREAK {
                     let at = s.pauses;
                     s.breaks[at] = rule_of(e, o);
                     s.pauses = at + 1;
-                } else if e.kind == 3 {
+                } else if e.kind == book::HOLIDAYS {
                     let at = s.closings;
-                    let days = book::distinct_dates(book, e.dates, e.count);
+                    let days = book_dates::distinct_dates(book, e.dates, e.count);
                     s.closed[at] = holidays_of(e, o);
                     s.closings = at + 1;
-                    s.limit += 604800 * (days as u64);
+                    s.limit += instant::WEEK * (days as u64);
                 }
             }
-            ZoneLookup::Refused(number, place) => {
-                return refused(number, place);
-            }
+            ZoneLookup::Refused(number, place) => return refused(number, place),
         }
     }
     Built {
@@ -290,7 +286,7 @@ fn read_rules(book: &[u8], pack: &[u8], d: Opened) -> Built
 
 // The schedule of a book and a pack, whether or not there is work in it: refusals 1 to 5, in this order.
 fn rules_of(book: &[u8], pack: &[u8]) -> Built
-    ensures { λ r. ⌜ Answers (now (book .entry)) (now (pack .entry)) r (rulesRead (now (book .entry)) (now (pack .entry))) ⌝ }
+    ensures { λ r. ⌜ AnswersRules (now (book .entry)) (now (pack .entry)) r ⌝ }
 {
     if !book::book_ok(book) {
         return refused(1, 0);
@@ -302,18 +298,14 @@ fn rules_of(book: &[u8], pack: &[u8]) -> Built
         return refused(3, 0);
     }
     match default_zone(book, pack) {
-        ZoneLookup::Found(d) => {
-            return read_rules(book, pack, d);
-        }
-        ZoneLookup::Refused(number, place) => {
-            return refused(number, place);
-        }
+        ZoneLookup::Found(d) => return read_rules(book, pack, d),
+        ZoneLookup::Refused(number, place) => return refused(number, place),
     }
 }
 
 // The schedule of a book and a pack, or its first refusal.
 pub fn build(book: &[u8], pack: &[u8]) -> Built
-    ensures { λ r. ⌜ Answers (now (book .entry)) (now (pack .entry)) r (definition.build (now (book .entry)) (now (pack .entry))) ⌝ }
+    ensures { λ r. ⌜ Builds (now (book .entry)) (now (pack .entry)) r ⌝ }
 {
     let r = rules_of(book, pack);
     if r.number != 0 {

@@ -14,15 +14,15 @@ use Rattle.laws_base.specs.Test.{by-test}
 use Rattle.instant.specs.Instant.{nanos}
 use Rattle.instant.specs.declared.Instant.{Instant}
 use Rattle.block_list.specs.declared.Block.{Block}
-use Rattle.block_list.specs.Listed.{blockOf, front}
-use Rattle.block.proofs.Front.{front-push, front-set}
+use Rattle.block_list.specs.Listed.{capacity, blockOf, front}
+use Rattle.laws_base.specs.Front.{front-push, front-set}
 use Rattle.zone_local.specs.Dates.{pieceOf}
-use Rattle.window_dates.specs.Windows.{DaysOf}
-use Rattle.window_dates.specs.declared.Days.{Days}
+use Rattle.window_dates.specs.Windows.{IsLocalDates, mostDates}
+use Rattle.window_dates.specs.declared.LocalDates.{LocalDates}
 use Rattle.window_dates.proofs.Fill.{shown, date-on, date-off, dates-done, restOf, rest-more, rest-end}
-use Rattle.window_rule.proofs.Frames.{rule-shows}
-use Rattle.window_rule.proofs.Laws.{onward-append}
-use Rattle.build_blocks.specs.Shown.{held}
+use Rattle.window_piece.proofs.Frames.{rule-shows}
+use Rattle.window_piece.proofs.Laws.{onward-append}
+use Rattle.build_blocks.specs.Shown.{held, mostShown}
 
 -- ---- one block
 
@@ -60,18 +60,18 @@ datesFrom r lo hi last out w d = front w out ++ shown (r .on) (showing r lo hi) 
 pub record Dating (r : Rule) (lo hi last : ℕ) (whole : List Block′) (top : ℕ) (out : List Block) (w d : ℕ) : Type 0 where
   pub same : datesFrom r lo hi last out w d ≡ whole
   pub count : w + (last + 1 - d) ≤ top
-  pub long : length out ≡ 672
+  pub long : length out ≡ capacity
 
-pub dating-starts : (r : Rule) (lo hi last : ℕ) (out : List Block) (w d : ℕ) → length out ≡ 672
+pub dating-starts : (r : Rule) (lo hi last : ℕ) (out : List Block) (w d : ℕ) → length out ≡ capacity
     → Dating r lo hi last (datesFrom r lo hi last out w d) (w + (last + 1 - d)) out w d × (d ≤ d)
 dating-starts r lo hi last out w d l = (record { same = refl; count = omega arith; long = l }, omega arith)
 
 module _ (r : Rule) (lo hi last : ℕ) (whole : List Block′) (top : ℕ) (out : List Block) (w d : ℕ) (m : Dating r lo hi last whole top out w d) where
-  pub dating-room : d ≤ last → top ≤ 672 → w < 672
+  pub dating-room : d ≤ last → top ≤ capacity → w < capacity
   dating-room h k = let a = m .count in omega arith
 
   -- a date that is on: what it shows is stored at w and counted by `past`
-  pub dating-on : top ≤ 672 → d ≤ last → r .on d ≡ true → (x : Block) → held x ≡ showing r lo hi d
+  pub dating-on : top ≤ capacity → d ≤ last → r .on d ≡ true → (x : Block) → held x ≡ showing r lo hi d
       → (k : ℕ) → k ≡ (if ltb (x .start) (x .end) then w + 1 else w) → Dating r lo hi last whole top (set out w x) k (d + 1)
   dating-on u h t x e k c =
       let a = m .count in let b = m .long in
@@ -87,9 +87,9 @@ module _ (r : Rule) (lo hi last : ℕ) (whole : List Block′) (top : ℕ) (out 
   dating-off h t = let a = m .count in record { same = date-off (r .on) (showing r lo hi) d last (front w out) whole (m .same) h t; count = omega arith; long = m .long }
 
 -- the dates of a window are done: what the rule has in it is behind the blocks that were there
-pub dating-done : (r : Rule) (lo hi : Instant) (days : Days) → DaysOf (r .zone) lo hi days → (out₀ : List Block) (w₀ : ℕ) (out : List Block) (w d : ℕ)
+pub dating-done : (r : Rule) (lo hi : Instant) (days : LocalDates) → IsLocalDates (r .zone) lo hi days → (out₀ : List Block) (w₀ : ℕ) (out : List Block) (w d : ℕ)
     → Dating r (nanos lo) (nanos hi) (days .last) (datesFrom r (nanos lo) (nanos hi) (days .last) out₀ w₀ (days .first)) (w₀ + (days .last + 1 - days .first)) out w d
-    → days .last < d → (front w out ≡ front w₀ out₀ ++ onward (nanos lo) (blocksOf (nanos lo) (nanos hi) r)) × (w ≤ w₀ + 21)
+    → days .last < d → (front w out ≡ front w₀ out₀ ++ onward (nanos lo) (blocksOf (nanos lo) (nanos hi) r)) × (w ≤ w₀ + mostDates)
 dating-done r lo hi days q out₀ w₀ out w d m h =
     let a = m .count in let f = q .few in (
       dates-done (r .on) (showing r (nanos lo) (nanos hi)) d (days .last) (front w out) (datesFrom r (nanos lo) (nanos hi) (days .last) out₀ w₀ (days .first)) (m .same) h
@@ -115,20 +115,20 @@ module _ {A : Type 0} (lo hi : ℕ) (h : A → Rule) (n : ℕ) (rules : List A) 
   -- the rules from i on are to come; each shows at most 21 dates
   pub record Ruling (out : List Block) (w i : ℕ) : Type 0 where
     pub same : front w out ++ restOf rule n rules i ≡ restOf rule n rules 0
-    pub count : w ≤ i * 21
+    pub count : w ≤ i * mostDates
     pub upto : i ≤ n
     pub fits : n ≤ length rules
-    pub long : length out ≡ 672
+    pub long : length out ≡ capacity
 
-  pub ruling-starts : (out : List Block) → n ≤ length rules → length out ≡ 672 → Ruling out 0 0
+  pub ruling-starts : (out : List Block) → n ≤ length rules → length out ≡ capacity → Ruling out 0 0
   ruling-starts out f l = record { same = refl; count = omega arith; upto = omega arith; fits = f; long = l }
 
   module _ (out : List Block) (w i : ℕ) (m : Ruling out w i) where
     -- there is room for the dates of one more rule
-    pub ruling-room : (first last : ℕ) → last + 1 ≤ first + 21 → n ≤ 16 → i < n → w + (last + 1 - first) ≤ 672
+    pub ruling-room : (first last : ℕ) → last + 1 ≤ first + mostDates → n ≤ 16 → i < n → w + (last + 1 - first) ≤ capacity
     ruling-room first last f r t = let c = m .count in omega arith
 
-    pub ruling-turn : i < n → (x : A) (out′ : List Block) (w′ : ℕ) → length out′ ≡ 672 → front w′ out′ ≡ front w out ++ rule (getD rules i x) → w′ ≤ w + 21 → Ruling out′ w′ (i + 1)
+    pub ruling-turn : i < n → (x : A) (out′ : List Block) (w′ : ℕ) → length out′ ≡ capacity → front w′ out′ ≡ front w out ++ rule (getD rules i x) → w′ ≤ w + mostDates → Ruling out′ w′ (i + 1)
     ruling-turn t x out′ w′ l e c =
         let a = m .count in let k = m .fits in
         record {
@@ -142,7 +142,7 @@ module _ {A : Type 0} (lo hi : ℕ) (h : A → Rule) (n : ℕ) (rules : List A) 
         }
 
     -- the rules are done
-    pub ruling-done : n ≤ 16 → n ≤ i → (front w out ≡ onward lo (blocksOfAll lo hi (map h (take n rules)))) × (w ≤ 336)
+    pub ruling-done : n ≤ 16 → n ≤ i → (front w out ≡ onward lo (blocksOfAll lo hi (map h (take n rules)))) × (w ≤ mostShown)
     ruling-done s t =
         let a = m .upto in let c = m .count in let e : i ≡ n = omega arith in (
           sym (append-nil (front w out)) ∙ ap (λ (y : List Block′). front w out ++ y) (sym (ap (restOf rule n rules) e ∙ rest-end rule n rules (m .fits))) ∙ m .same ∙ onward-rules lo hi h (take n rules),

@@ -14,9 +14,9 @@ use Rattle.rule.specs.Rules.{ruleIs, RuleFits}
 use Rattle.rule.specs.declared.Rule.{Rule}
 use Rattle.zone_local.specs.Dates as date
 use Rattle.window_dates.specs.Windows.{Window}
-use Rattle.window_rule.specs.Filled.{midnight}
-use Rattle.window_rule.proofs.Fills.{put-onward}
-use Rattle.window_rule.proofs.Frames.{date-plain}
+use Rattle.window_piece.specs.Filled.{midnight}
+use Rattle.window_piece.proofs.Fills.{put-onward}
+use Rattle.window_piece.proofs.Frames.{date-plain}
 use Rattle.build_blocks.specs.Shown.{held, IsShifts}
 use Rattle.build_blocks.specs.declared.Shifts.{Shifts}
 

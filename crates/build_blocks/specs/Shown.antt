@@ -4,6 +4,7 @@ use mathlib.Core.List.{List, [], map}
 use Prim.Native.Nat.{ℕ, _≤_, _<_}
 use lib.ListN.{take}
 use Rattle.model.specs.Blocks.{Block as Block′, put}
+use Rattle.model.specs.Instant.{day}
 use Rattle.model.specs.Walk.{onward}
 use Rattle.model.specs.Working.{blocksOfAll}
 use Rattle.instant.specs.Instant.{nanos}
@@ -12,11 +13,11 @@ use Rattle.block_list.specs.Listed.{listOf}
 use Rattle.block_list.specs.declared.Block.{Block}
 use Rattle.block_list.specs.declared.Blocks.{Blocks}
 use Rattle.civil.specs.Dates.{timeIn}
-use Rattle.rule.specs.Rules.{ruleIs}
+use Rattle.rule.specs.Rules.{ruleIs, RuleFits, All}
 use Rattle.rule.specs.declared.Rule.{Rule}
 use Rattle.zone_local.specs.Dates.{tillTime}
-use Rattle.window_dates.specs.Windows.{DaysOf}
-use Rattle.window_rule.specs.Filled.{IsFrame}
+use Rattle.window_dates.specs.Windows.{Window, IsLocalDates}
+use Rattle.window_piece.specs.Filled.{twoDays, IsFrame}
 use Rattle.build_blocks.specs.declared.Shifts.{Shifts}
 
 -- a block of a list, if it holds anything
@@ -25,14 +26,26 @@ held b = put (b .start) (b .end) []
 
 -- the dates of a rule in the window [lo, hi), their frame, and the times of day of the shift's start and end
 pub record IsShifts (pack : List ℕ) (r : Rule) (lo hi : Instant) (x : Shifts) : Type 0 where
-  pub dates : DaysOf (ruleIs pack r .zone) lo hi (x .days)
+  pub dates : IsLocalDates (ruleIs pack r .zone) lo hi (x .days)
   pub framed : IsFrame (x .days) lo hi (x .frame)
   pub from-is : x .from ≡ timeIn (r .from)
   pub to-is : x .to ≡ tillTime (timeIn (r .from)) (timeIn (r .to))
-  pub early : x .from < 86400000000000
-  pub soon : x .to ≤ 172800000000000
+  pub early : x .from < day
+  pub soon : x .to ≤ twoDays
+
+-- a rule, and a date that a window of at most 14 days has in its zone
+abbrev pub ShiftsDate : List ℕ → Rule → Shifts → ℕ → Instant → Instant → Type 0
+ShiftsDate pack r x d lo hi = RuleFits pack r × Window 14 lo hi × IsShifts pack r lo hi x × (x .days .first ≤ d) × (d ≤ x .days .last)
+
+-- the first n of at most 16 rules, and a window of at most 14 days
+abbrev pub RulesIn : List ℕ → List Rule → ℕ → Instant → Instant → Type 0
+RulesIn pack rules n lo hi = (n ≤ 16) × All (RuleFits pack) (take n rules) × Window 14 lo hi
+
+-- how many blocks 16 rules have at most, each of them one for each of 21 dates
+abbrev pub mostShown : ℕ
+mostShown = 336
 
 -- the blocks of the first n rules in the window [lo, hi), from lo; a rule shows at most 21 dates
 pub record Listed (pack : List ℕ) (rules : List Rule) (n : ℕ) (lo hi : Instant) (b : Blocks) : Type 0 where
   pub same : listOf b ≡ onward (nanos lo) (blocksOfAll (nanos lo) (nanos hi) (map (ruleIs pack) (take n rules)))
-  pub few : b .len ≤ 336
+  pub few : b .len ≤ mostShown

@@ -1,24 +1,24 @@
 // The blocks of work or break rules in a window of at most 14 days, in a block list that is filled from the front, rule by rule and date by date. A block's
 // borders are nanoseconds from the window's start.
 ghost use mathlib.Core.Path.{_≡_};
-ghost use Prim.Native.Nat.{_+_, _≤_, _<_};
+ghost use Prim.Native.Nat.{_+_, _<_};
 ghost use lib.Dec.{ltb};
-ghost use lib.ListN.{take};
 ghost use Rattle.model.specs.Basic.{if_then_else_};
 ghost use Rattle.model.specs.Blocks.{clipped};
 ghost use Rattle.model.specs.Walk.{onward};
 ghost use Rattle.instant.specs.Instant.{nanos};
-ghost use Rattle.rule.specs.Rules.{ruleIs, RuleFits, All};
+ghost use Rattle.block_list.specs.Listed.{capacity};
+ghost use Rattle.rule.specs.Rules.{RuleFits};
 ghost use Rattle.zone_local.specs.Dates as date;
-ghost use Rattle.window_dates.specs.Windows.{Window};
-ghost use Rattle.window_rule.specs.Filled.{Inside};
-ghost use Rattle.build_blocks.specs.Shown.{held, IsShifts, Listed};
+ghost use Rattle.window_dates.specs.Windows.{Window, rulePiece};
+ghost use Rattle.window_piece.specs.Filled.{Inside};
+ghost use Rattle.build_blocks.specs.Shown.{held, IsShifts, ShiftsDate, RulesIn, Listed};
 use block_list::Block;
 use block_list::Blocks;
 use instant::Instant;
 use rule::Rule;
-use window_dates::Days;
-use window_rule::Frame;
+use window_dates::LocalDates;
+use window_piece::Frame;
 
 // ---- one date
 
@@ -53,8 +53,8 @@ fn away(x: block::Block, lo: Instant) -> Block
     let e = x.end;
     if instant::precedes(s, e) {
         return Block {
-            start: window_rule::since(lo, s),
-            end: window_rule::since(lo, e),
+            start: window_piece::since(lo, s),
+            end: window_piece::since(lo, e),
         };
     }
     nothing()
@@ -62,7 +62,7 @@ fn away(x: block::Block, lo: Instant) -> Block
 
 // A rule in a window: its dates, their frame, and the times of day of start and end, from a date's midnight.
 pub struct Shifts {
-    pub days: Days,
+    pub days: LocalDates,
     pub frame: Frame,
     pub from: u64,
     pub to: u64,
@@ -74,12 +74,12 @@ fn shifts_of(pack: &[u8], r: Rule, lo: Instant, hi: Instant) -> Shifts
     ensures { λ x. ⌜ IsShifts (now (pack .entry)) r lo hi x ⌝ }
 {
     let z = r.zone;
-    let days = window_dates::days_in(pack, r.at, r.len, z, lo, hi);
-    let frame = window_rule::frame_of(days, lo, hi);
+    let days = window_dates::local_dates(pack, r.at, r.len, z, lo, hi);
+    let frame = window_piece::frame_of(days, lo, hi);
     let a = r.from;
     let b = r.to;
-    let from = window_rule::time_in(a);
-    let to = window_rule::till(from, window_rule::time_in(b));
+    let from = window_piece::time_in(a);
+    let to = window_piece::till(from, window_piece::time_in(b));
     Shifts {
         days,
         frame,
@@ -90,15 +90,15 @@ fn shifts_of(pack: &[u8], r: Rule, lo: Instant, hi: Instant) -> Shifts
 
 // What the rule shows of a date in the window: by the frame, where one offset holds around the window; else each end is looked up.
 fn piece_at(pack: &[u8], r: Rule, x: Shifts, day: u32, lo: Instant, hi: Instant) -> Block
-    requires { ⌜ RuleFits (now pack) r × Window 14 lo hi × IsShifts (now pack) r lo hi x × (x .days .first ≤ day) × (day ≤ x .days .last) ⌝ }
-    ensures { λ b. ⌜ held b ≡ onward (nanos lo) (date.pieceOf (ruleIs (now (pack .entry)) r) (nanos lo) (nanos hi) day) ⌝ }
+    requires { ⌜ ShiftsDate (now pack) r x day lo hi ⌝ }
+    ensures { λ b. ⌜ held b ≡ onward (nanos lo) (rulePiece (now (pack .entry)) r lo hi day) ⌝ }
 {
     let f = x.frame;
     let days = x.days;
     if f.first == 0 {
         return away(window_dates::piece_of(pack, r, days, day, lo, hi), lo);
     }
-    let k = f.first + (day - days.first) as u64 * 86400000000000;
+    let k = f.first + (day - days.first) as u64 * window_piece::DAY_NANOS;
     clipped(k + x.from, k + x.to, f.lo, f.hi)
 }
 
@@ -106,7 +106,7 @@ fn piece_at(pack: &[u8], r: Rule, x: Shifts, day: u32, lo: Instant, hi: Instant)
 
 // The place behind a block x that is stored at w: one further if it holds anything.
 fn past(w: usize, x: Block) -> usize
-    requires { ⌜ w < 672 ⌝ }
+    requires { ⌜ w < capacity ⌝ }
     ensures { λ r. ⌜ r ≡ (if ltb (x .start) (x .end) then w + 1 else w) ⌝ }
 {
     if x.start < x.end {
@@ -115,9 +115,9 @@ fn past(w: usize, x: Block) -> usize
     w
 }
 
-// The blocks of the first n rules, in a list that starts as one block value repeated. A rule shows at most 21 dates of 14 days, so they are at most 336.
+// The blocks of the first n rules, in a list that starts as one block value repeated. A rule shows at most 21 dates of 14 days, so 16 rules have at most 336.
 pub fn shift_blocks(rules: [Rule; 16], n: usize, pack: &[u8], lo: Instant, hi: Instant) -> Blocks
-    requires { ⌜ (n ≤ 16) × All (RuleFits (now pack)) (take n rules) × Window 14 lo hi ⌝ }
+    requires { ⌜ RulesIn (now pack) rules n lo hi ⌝ }
     ensures { λ r. ⌜ Listed (now (pack .entry)) rules n lo hi r ⌝ }
 {
     let mut out = block_list::empty();
@@ -130,7 +130,7 @@ pub fn shift_blocks(rules: [Rule; 16], n: usize, pack: &[u8], lo: Instant, hi: I
         let last = days.last;
         let mut d = days.first;
         while d <= last {
-            if window_dates::shows(r, d) {
+            if rule::applies(r.days, d) {
                 let y = piece_at(pack, r, x, d, lo, hi);
                 out.items[w] = y;
                 w = past(w, y);

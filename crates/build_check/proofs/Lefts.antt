@@ -19,11 +19,11 @@ use Rattle.instant.specs.declared.Instant.{Instant}
 use Rattle.block_list.specs.declared.Block.{Block}
 use Rattle.block_list.specs.declared.Blocks.{Blocks}
 use Rattle.block_list.specs.Listed.{blockOf, front, listOf, nil}
-use Rattle.block.proofs.Front.{rest-cons, rest-none}
+use Rattle.laws_base.specs.Front.{rest-cons, rest-none}
 use Rattle.rule.specs.Rules.{ruleIs}
 use Rattle.rule.specs.declared.Rule.{Rule as Rule′}
 use Rattle.build_blocks.specs.Shown.{Listed}
-use Rattle.window_rule.proofs.Laws.{Apart, apart-onward, union-onward, subtract-onward}
+use Rattle.window_piece.proofs.Laws.{Apart, apart-onward, union-onward, subtract-onward}
 use Rattle.window_week.proofs.Whole.{rules-apart, union-apart}
 use Rattle.build_check.specs.Left.{some, leaves, UnionOf}
 

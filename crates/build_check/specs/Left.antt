@@ -14,7 +14,7 @@ use Rattle.instant.specs.declared.Instant.{Instant}
 use Rattle.rule.specs.Rules.{ruleIs}
 use Rattle.rule.specs.declared.Rule.{Rule}
 use Rattle.block_list.specs.declared.Blocks.{Blocks}
-use Rattle.block_list.specs.Listed.{listOf}
+use Rattle.block_list.specs.Listed.{capacity, listOf}
 
 -- there is a block
 unfoldable pub some : List Block → Bool
@@ -26,7 +26,7 @@ leaves on off = some (subtract on off)
 
 -- a block list that is sorted and merged: its blocks are apart
 pub record Merged (b : Blocks) : Type 0 where
-  pub few : b .len ≤ 672
+  pub few : b .len ≤ capacity
   pub normal : Normal (listOf b)
 
 -- the union of what the first n rules have in the window [lo, hi), from lo

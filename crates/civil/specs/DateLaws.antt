@@ -13,7 +13,7 @@ use Rattle.model.specs.Instant.{second}
 use Rattle.laws_base.specs.Test.{by-test}
 use Rattle.laws_base.specs.Claim.{Claim, le, eq, if, all, at-each, all₂, at-each₂}
 use Rattle.laws_calendar.specs.Dates.{Has, is-had, date-facts, date-test, day-from, day-to}
-use Rattle.civil.specs.Dates.{dayRead, timeRead}
+use Rattle.civil.specs.Dates.{calendarYears, dayRead, timeRead}
 use Rattle.civil.specs.declared.Date.{Date}
 use Rattle.civil.specs.declared.DayRead.the-variants.{Day, NoDate}
 use Rattle.civil.specs.declared.TimeRead.the-variants.{Nanoseconds, NoTime}
@@ -39,7 +39,7 @@ in-28 y m d a b c e f g =
     let h : 28 ≤ daysInMonth (isLeap y) m = at-least-28 (isLeap y) m c (omega arith) in
     sym (date-test (record { year-low = a; year-high = b; month-low = c; month-high = e; day-low = f; day-high = omega arith }))
 
-pub has-date : (y m d : ℕ) → isDate y m d ≡ true → (y ≤ 20799) × Has y m d
+pub has-date : (y m d : ℕ) → isDate y m d ≡ true → (y < calendarYears) × Has y m d
 has-date y m d e = let v = date-facts {y = y} {m = m} {d = d} e in (omega arith, is-had v)
 
 pub day-yes : (d : Date) (n : ℕ) → isDate (d .year) (d .month) (d .day) ≡ true → n ≡ dayNumber (d .year) (d .month) (d .day) → Day n ≡ dayRead d

@@ -13,6 +13,14 @@ use Rattle.civil.specs.declared.DayRead.the-variants.{Day, NoDate}
 use Rattle.civil.specs.declared.TimeRead.{TimeRead}
 use Rattle.civil.specs.declared.TimeRead.the-variants.{Nanoseconds, NoTime}
 
+-- the calendar's years are those below this one: fifty-two times 400 years, from -10400 on
+abbrev pub calendarYears : ℕ
+calendarYears = 20800
+
+-- their days
+abbrev pub calendarDays : ℕ
+calendarDays = 7597044
+
 -- a date of the definitions as one of the code
 abbrev pub dated : M.Date → Date
 dated d = record { year = d .year; month = d .month; day = d .day }

@@ -10,6 +10,7 @@ use borrow.Author.Tests.{lt-ltb, le-ltb, eq-eqb, ne-eqb}
 use Rattle.model.specs.Calendar.{isLeap, daysBeforeYear, daysInMonth, daysBeforeMonth, dayNumber, yearOf, monthsBegun, monthOf}
 use Rattle.laws_base.specs.Claim.{Claim, le, lt, eq, both, if, all, at-each}
 use Rattle.laws_calendar.specs.Dates.{Has, has-within, year-mono, end-is}
+use Rattle.civil.specs.Dates.{calendarYears, calendarDays}
 
 -- ---- leap years
 
@@ -79,5 +80,5 @@ pub year-late : (n : ℕ) → daysBeforeYear (400 * (n + 1) / 146097) ≤ n → 
 unfolding yearOf
 year-late n h = simp (le-ltb _ _ h)
 
-pub day-below : {y m d : ℕ} → y ≤ 20799 → Has y m d → dayNumber y m d < 7597044
-day-below {y} {m} {d} h v = omega (arith, has-within v, year-mono {a = y + 1} {b = 20800} (omega arith), end-is)
+pub day-below : {y m d : ℕ} → y < calendarYears → Has y m d → dayNumber y m d < calendarDays
+day-below {y} {m} {d} h v = omega (arith, has-within v, year-mono {a = y + 1} {b = calendarYears} (omega arith), end-is)

@@ -3,13 +3,33 @@ ghost use mathlib.Core.Path.{_≡_};
 ghost use Prim.Native.Nat.{_+_, _-_, _≤_, _<_, _^_};
 ghost use Rattle.model.specs.Calendar.{isLeap, daysBeforeYear, daysInMonth, daysBeforeMonth, isDate, dayNumber, weekday, monthOf, yearOf, dateIn, dateOf, contains};
 ghost use Rattle.laws_calendar.specs.Dates.{leapDay, Has};
-ghost use Rattle.civil.specs.Dates.{dated, dayRead, timeRead};
+ghost use Rattle.civil.specs.Dates.{dated, dayRead, timeRead, calendarYears, calendarDays};
+use instant::DAY;
+use instant::SECOND;
 
+// A date, its year counted from -10400.
 pub struct Date {
     pub year: u32,
     pub month: u32,
     pub day: u32,
 }
+
+// The days of the calendar's years, which are 0 to 20799.
+pub const CALENDAR_DAYS: u32 = 7597044;
+
+// The years of the first and of the last date, -9999 and 9999.
+const FIRST_YEAR: u32 = 401;
+
+const LAST_YEAR: u32 = 20399;
+
+// Books write a year in two bytes as a signed number. This is added to a year, as it is counted here, to give that number with 2^15 added.
+pub const YEAR_BIAS: u32 = 22368;
+
+// The days of 400 years.
+const DAYS_OF_400_YEARS: u32 = 146097;
+
+// The days that every month has.
+const SHORTEST_MONTH: u32 = 28;
 
 // A time of day.
 pub struct Time {
@@ -17,10 +37,12 @@ pub struct Time {
     pub nanos: u32,
 }
 
+// The days of each month of a common year, and the days before it.
 const LENGTHS: [u32; 13] = [0, 31, 28, 31, 30, 31, 30, 31, 31, 30, 31, 30, 31];
 
 const STARTS: [u32; 13] = [0, 0, 31, 59, 90, 120, 151, 181, 212, 243, 273, 304, 334];
 
+// The year is a leap year.
 pub fn is_leap(year: u32) -> bool
     ensures { λ r. ⌜ r ≡ isLeap year ⌝ }
 {
@@ -35,12 +57,13 @@ pub fn is_leap(year: u32) -> bool
 
 // The number of the year's first day.
 pub fn days_before_year(year: u32) -> u32
-    requires { ⌜ year ≤ 20801 ⌝ }
+    requires { ⌜ year ≤ calendarYears + 1 ⌝ }
     ensures { λ r. ⌜ r ≡ daysBeforeYear year ⌝ }
 {
     365 * year + ((year + 3) / 4 + (year + 399) / 400 - (year + 99) / 100)
 }
 
+// The days of a month, 1 to 12, in a leap year or a common one.
 pub fn days_in_month(leap: bool, month: u32) -> u32
     requires { ⌜ month ≤ 12 ⌝ }
     ensures { λ r. ⌜ r ≡ daysInMonth leap month ⌝ }
@@ -55,6 +78,7 @@ pub fn days_in_month(leap: bool, month: u32) -> u32
     LENGTHS[m]
 }
 
+// The days of the year before a month.
 pub fn days_before_month(leap: bool, month: u32) -> u32
     requires { ⌜ (1 ≤ month) × (month ≤ 12) ⌝ }
     ensures { λ r. ⌜ r ≡ daysBeforeMonth leap month ⌝ }
@@ -70,7 +94,7 @@ pub fn days_before_month(leap: bool, month: u32) -> u32
     n
 }
 
-// Monday is 0.
+// The weekday of a day: Monday is 0.
 pub fn weekday_of(day: u32) -> u32
     ensures { λ r. ⌜ r ≡ weekday day ⌝ }
 {
@@ -79,18 +103,18 @@ pub fn weekday_of(day: u32) -> u32
 
 // The number of a day that the year has.
 pub fn day_number(year: u32, month: u32, day: u32) -> u32
-    requires { ⌜ (year ≤ 20799) × Has year month day ⌝ }
+    requires { ⌜ (year < calendarYears) × Has year month day ⌝ }
     ensures { λ r. ⌜ r ≡ dayNumber year month day ⌝ }
 {
     days_before_year(year) + days_before_month(is_leap(year), month) + (day - 1)
 }
 
-// The year of a day of the years 0 to 20799.
+// The year of a day of the calendar's years.
 pub fn year_of(day: u32) -> u32
-    requires { ⌜ day < 7597044 ⌝ }
+    requires { ⌜ day < calendarDays ⌝ }
     ensures { λ r. ⌜ r ≡ yearOf day ⌝ }
 {
-    let e = 400 * (day + 1) / 146097;
+    let e = 400 * (day + 1) / DAYS_OF_400_YEARS;
     if day < days_before_year(e) {
         return e - 1;
     }
@@ -114,6 +138,7 @@ fn month_of(leap: bool, r: u32) -> u32
     ((r - 59) * 5 + 2) / 153 + 3
 }
 
+// The date of day r, from 0, of a year.
 fn date_in(year: u32, r: u32) -> Date
     requires { ⌜ r < 365 + leapDay (isLeap year) ⌝ }
     ensures { λ d. ⌜ d ≡ dated (dateIn year r) ⌝ }
@@ -127,9 +152,9 @@ fn date_in(year: u32, r: u32) -> Date
     }
 }
 
-// The date of a day of the years 0 to 20799.
+// The date of a day of the calendar's years.
 pub fn date_of(day: u32) -> Date
-    requires { ⌜ day < 7597044 ⌝ }
+    requires { ⌜ day < calendarDays ⌝ }
     ensures { λ r. ⌜ r ≡ dated (dateOf day) ⌝ }
 {
     let year = year_of(day);
@@ -140,10 +165,10 @@ pub fn date_of(day: u32) -> Date
 pub fn is_date(year: u32, month: u32, day: u32) -> bool
     ensures { λ r. ⌜ r ≡ isDate year month day ⌝ }
 {
-    if year < 401 {
+    if year < FIRST_YEAR {
         return false;
     }
-    if 20399 < year {
+    if LAST_YEAR < year {
         return false;
     }
     if month < 1 {
@@ -155,7 +180,7 @@ pub fn is_date(year: u32, month: u32, day: u32) -> bool
     if day < 1 {
         return false;
     }
-    if day < 29 {
+    if day <= SHORTEST_MONTH {
         return true;
     }
     if days_in_month(is_leap(year), month) < day {
@@ -164,11 +189,13 @@ pub fn is_date(year: u32, month: u32, day: u32) -> bool
     true
 }
 
+// The number of a day, or none: the numbers are no date.
 pub enum DayRead {
     Day(u32),
     NoDate,
 }
 
+// The number of a date's day.
 pub fn day_of(date: Date) -> DayRead
     ensures { λ r. ⌜ r ≡ dayRead date ⌝ }
 {
@@ -178,6 +205,7 @@ pub fn day_of(date: Date) -> DayRead
     DayRead::NoDate
 }
 
+// A time of day as nanoseconds from midnight, or none: the numbers are no time of day.
 pub enum TimeRead {
     Nanoseconds(u64),
     NoTime,
@@ -187,15 +215,16 @@ pub enum TimeRead {
 pub fn time_of(sec: u32, ns: u32) -> TimeRead
     ensures { λ r. ⌜ r ≡ timeRead sec ns ⌝ }
 {
-    if 86400 <= sec {
+    if DAY <= sec as u64 {
         return TimeRead::NoTime;
     }
-    if 1000000000 <= ns {
+    if SECOND <= ns as u64 {
         return TimeRead::NoTime;
     }
-    TimeRead::Nanoseconds(sec as u64 * 1000000000 + ns as u64)
+    TimeRead::Nanoseconds(sec as u64 * SECOND + ns as u64)
 }
 
+// The number of the weekday Monday.
 const MONDAY: u32 = 0;
 
 // The bit of a day in a set: Monday's is bit 0.
@@ -206,6 +235,7 @@ fn bit(day: u32) -> u8
     1 << (day - MONDAY)
 }
 
+// A set has the day.
 pub fn contains(set: u8, day: u32) -> bool
     ensures { λ r. ⌜ r ≡ contains set day ⌝ }
 {

@@ -5,12 +5,21 @@
 // behind a write that failed, a line that was read in part is not answered, and a line on standard error says what failed.
 ghost use Prim.Native.Nat.{_≤_};
 ghost use lib.ListN.{length};
+ghost use Rattle.answer_line.specs.Placed.{longest};
 ghost use Rattle.query_answer.specs.Answering.{Stands};
 ghost use Rattle.io.specs.Counts.{Counts};
 use build::Built;
 use libc::STDIN_FILENO;
 use libc::STDOUT_FILENO;
 use query_stream::Progress;
+
+// The most bytes of a book or a pack, and the room for them and for one byte more.
+const MOST_BYTES: usize = 65536;
+
+const FILE_ROOM: usize = 65537;
+
+// The bytes of a piece of the input, and of a piece of the output.
+const PIECE: usize = 65536;
 
 // ---- reading and writing
 
@@ -112,7 +121,7 @@ fn load(path: &[u8], buf: &mut [u8]) -> usize
     }
     let n = read_file(file, path, buf);
     libc::close(file);
-    if n > 65536 {
+    if n > MOST_BYTES {
         return 0;
     }
     n
@@ -128,7 +137,7 @@ struct Passed {
 
 // Reads a piece to its end, and writes the answers, as often as `out` is full.
 fn pass(book: &[u8], pack: &[u8], b: Built, p: Progress, input: &[u8], out: &mut [u8]) -> Passed
-    requires { ⌜ Stands (now book) (now pack) b × (128 ≤ length (now out)) ⌝ }
+    requires { ⌜ Stands (now book) (now pack) b × (longest ≤ length (now out)) ⌝ }
 {
     let mut r = p;
     let mut i: usize = 0;
@@ -153,7 +162,7 @@ fn pass(book: &[u8], pack: &[u8], b: Built, p: Progress, input: &[u8], out: &mut
 
 // Reads one piece and writes the answers; at the end of the input the answer of a last line without a newline.
 fn step(book: &[u8], pack: &[u8], b: Built, p: Progress, input: &mut [u8], out: &mut [u8]) -> Passed
-    requires { ⌜ Stands (now book) (now pack) b × (128 ≤ length (now out)) ⌝ }
+    requires { ⌜ Stands (now book) (now pack) b × (longest ≤ length (now out)) ⌝ }
 {
     let got = read_some(STDIN_FILENO, input);
     if got < 0 {
@@ -177,7 +186,7 @@ fn step(book: &[u8], pack: &[u8], b: Built, p: Progress, input: &mut [u8], out: 
 
 // Reads to the end of the input, or until reading or writing fails.
 fn answer_all(book: &[u8], pack: &[u8], input: &mut [u8], out: &mut [u8])
-    requires { ⌜ 128 ≤ length (now out) ⌝ }
+    requires { ⌜ longest ≤ length (now out) ⌝ }
 {
     let b = build::build(book, pack);
     let mut p = query_stream::begin();
@@ -194,11 +203,11 @@ fn answer_all(book: &[u8], pack: &[u8], input: &mut [u8], out: &mut [u8])
 
 // The whole program.
 pub fn run() {
-    let mut book = [0u8; 65537];
-    let mut pack = [0u8; 65537];
+    let mut book = [0u8; FILE_ROOM];
+    let mut pack = [0u8; FILE_ROOM];
     let b = load(b"book.bin", &mut book);
     let p = load(b"zones.bin", &mut pack);
-    let mut input = [0u8; 65536];
-    let mut out = [0u8; 65536];
+    let mut input = [0u8; PIECE];
+    let mut out = [0u8; PIECE];
     answer_all(&book[..b], &pack[..p], &mut input, &mut out);
 }

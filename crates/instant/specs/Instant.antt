@@ -29,3 +29,7 @@ pub record InRange (t : Instant) : Type 0 where
   pub low : firstSecond ≤ t .sec
   pub high : t .sec ≤ lastSecond
   pub ns : Exact t
+
+-- the seconds of a day
+abbrev pub secondsOfDay : ℕ
+secondsOfDay = 86400

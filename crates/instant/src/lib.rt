@@ -1,7 +1,7 @@
 // Instants and lengths of time, both as seconds and nanoseconds; an instant's are counted from -10400-01-01T00:00:00Z. The nanoseconds may reach 10^9 and
 // more: they carry. What a sum or a difference gives has them below 10^9.
 ghost use mathlib.Core.Path.{_≡_};
-ghost use Prim.Native.Nat.{_+_, _*_, _-_, _<_, min, max};
+ghost use Prim.Native.Nat.{_+_, _*_, _-_, _<_, _^_, min, max};
 ghost use lib.Dec.{ltb};
 ghost use Rattle.instant.specs.Instant.{nanos, most, Exact};
 
@@ -104,4 +104,22 @@ pub fn difference(a: Length, b: Length) -> Length
     }
     let sec = c - 5 - (b.sec - a.sec);
     Length { sec, ns }
+}
+
+// A number of nanoseconds as a length of time.
+pub fn from_nanoseconds(n: u64) -> Length
+    ensures { λ r. ⌜ (nanos r ≡ n) × Exact r ⌝ }
+{
+    Length {
+        sec: n / SECOND,
+        ns: (n % SECOND) as u32,
+    }
+}
+
+// A length of time in nanoseconds.
+pub fn nanoseconds(x: Length) -> u64
+    requires { ⌜ nanos x < 2 ^ 64 ⌝ }
+    ensures { λ r. ⌜ r ≡ nanos x ⌝ }
+{
+    x.sec * SECOND + x.ns as u64
 }

@@ -1,19 +1,17 @@
 -- Each answer of the functions on durations, from what the code has tested, and what is written of an instant or a duration.
 use mathlib.Core.Path.{_≡_, refl, sym, ap, _∙_}
 use mathlib.Core.Bool.{Bool, true, false, not, _&&_, _||_}
-use mathlib.Core.List.{[], _∷_}
-use Prim.Native.Nat.{ℕ, zero, suc, _+_, _-_, _*_, _/_, _%_, _^_, _≤_, _<_}
+use Prim.Native.Nat.{ℕ, suc, _+_, _-_, _*_, _/_, _%_, _^_, _≤_, _<_}
 use native.Mathlib.Omega.{arith}
 use lib.Dec.{leb, ltb, eqb}
-use lib.IntN.{ℤ, pos, negsuc, negℤ, natAbs}
+use lib.IntN.{ℤ, pos, negsuc, natAbs}
 use mir.Syntax.{w64}
 use mir.Val.{SFits}
 use borrow.Author.Tests.{leb-true, leb-false, ltb-true, ltb-false, le-leb, lt-leb, lt-ltb, le-ltb, eq-eqb, ne-eqb}
-use Rattle.model.specs.Basic.{isIn}
 use Rattle.model.specs.Instant as M
-use Rattle.model.specs.Instant.{epoch, second, firstInstant, lastInstant, isBelow0, signed, areOpposite, durationOf, duration, negated}
-use Rattle.laws_base.specs.Test.{by-test, and-both, clash, not-true}
-use Rattle.instant_signed.specs.Signed.{biased, unbiased, biased-plus, biased-minus, unbiased-low, unbiased-high}
+use Rattle.model.specs.Instant.{epoch, second, isBelow0, areOpposite, durationOf, negated}
+use Rattle.laws_base.specs.Test.{by-test, and-both, clash}
+use Rattle.instant_signed.specs.Signed.{biased, unbiased, biased-plus, biased-minus, unbiased-high, unbiased-less}
 use Rattle.instant_signed.specs.Reads.{secondsFrom}
 use Rattle.instant_signed.specs.Durations.{signedPair, durationRead, fittingPair, negatedRead, negation}
 use Rattle.instant_signed.specs.declared.Duration.{Duration}
@@ -131,16 +129,7 @@ module _ (s n : ℤ) (f : SFits w64 s) (g : SFits w64 n) where
       let q = nat-parts n g k in
       is-span s n false a b (omega arith) (agree s n (p .0 ∙ sym (q .0))) (simp (p .0, q .0)) (omega arith) (omega arith)
 
--- ---- the pair itself
-
 -- ---- from a sign and a size
-
-pub unbiased-less : (k : ℕ) → k ≤ 2 ^ 63 → unbiased (2 ^ 63 - k) ≡ negℤ (pos k)
-unbiased-less zero h = unbiased-high (2 ^ 63) (omega arith)
-unbiased-less (suc k) h = unbiased-low (2 ^ 63 - suc k) (omega arith) ∙ ap negsuc (omega arith)
-
-pub unbiased-more : (k : ℕ) → unbiased (2 ^ 63 + k) ≡ pos k
-unbiased-more k = unbiased-high (2 ^ 63 + k) (omega arith) ∙ ap pos (omega arith)
 
 pub same-pair : {a b c d : ℤ} → a ≡ b → c ≡ d → _≡_ {A = Duration} (record { secs = a; nanos = c }) (record { secs = b; nanos = d })
 same-pair p q = λ i. record { secs = p i; nanos = q i }
@@ -225,32 +214,3 @@ seconds-is k h =
     let l : k < epoch = leb-false _ _ t in
     let e : k + (2 ^ 63 - epoch) ≡ 2 ^ 63 - (epoch - k) = omega arith in
     simp t (ap unbiased e ∙ unbiased-less (epoch - k) (omega arith)))
-
-abbrev isInstant : ℕ → Bool
-isInstant n = isIn firstInstant lastInstant n
-
--- a duration's pair is the one that it was made from
-back-s : (s n : ℤ) → areOpposite s n ≡ false → signed (isBelow0 s || isBelow0 n) (natAbs s) ≡ s
-back-s (pos s) (pos n) o = refl
-back-s (pos zero) (negsuc n) o = refl
-back-s (pos (suc s)) (negsuc n) o =
-    clash (areOpposite (pos (suc s)) (negsuc n)) (simp (ne-eqb (suc s) 0 (λ z. omega arith), ne-eqb (suc n) 0 (λ z. omega arith))) o
-back-s (negsuc s) n o = refl
-
-back-n : (s n : ℤ) → areOpposite s n ≡ false → signed (isBelow0 s || isBelow0 n) (natAbs n) ≡ n
-back-n (pos s) (pos n) o = refl
-back-n (pos s) (negsuc n) o = refl
-back-n (negsuc s) (pos zero) o = refl
-back-n (negsuc s) (pos (suc n)) o =
-    clash (areOpposite (negsuc s) (pos (suc n))) (simp (ne-eqb (suc s) 0 (λ z. omega arith), ne-eqb (suc n) 0 (λ z. omega arith))) o
-back-n (negsuc s) (negsuc n) o = refl
-
-made : (s n : ℤ) → isDuration s n ≡ true → duration (dur (isBelow0 s || isBelow0 n) (natAbs s * second + natAbs n)) ≡ s ∷ n ∷ []
-unfolding duration
-made s n t =
-    let p = and-both (ltb (natAbs n) second) (not (areOpposite s n)) t in
-    let k : natAbs n < second = ltb-true _ _ (p .0) in
-    let o : areOpposite s n ≡ false = not-true _ (p .1) in
-    let x : (natAbs s * second + natAbs n) / second ≡ natAbs s = omega arith in
-    let y : (natAbs s * second + natAbs n) % second ≡ natAbs n = omega arith in
-    rw (x, y) (λ i. back-s s n o i ∷ back-n s n o i ∷ [])

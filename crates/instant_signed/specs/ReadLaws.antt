@@ -11,31 +11,30 @@ use borrow.Author.Tests.{leb-true, ltb-true, le-leb, lt-ltb}
 use Rattle.model.specs.Basic.{isIn}
 use Rattle.model.specs.Instant.{epoch, second, firstInstant, lastInstant, isBelow0, secondFrom, instantOf}
 use Rattle.laws_base.specs.Test.{by-test, and-both, both-and, not-true, true-not, clash}
+use Rattle.instant.specs.Instant.{firstSecond, lastSecond}
 use Rattle.instant.specs.declared.Instant.{Instant}
 use Rattle.instant_signed.specs.Signed.{biased, biased-plus, biased-minus}
 use Rattle.instant_signed.specs.Reads.{ofNanos, instantRead}
 use Rattle.instant_signed.specs.declared.InstantRead.the-variants.{At, OutOfRange}
 
 -- an instant is known by its seconds and the rest
-pub parts : (n s t : ℕ) → t < 1000000000 → s * 1000000000 + t ≡ n → _≡_ {A = Instant} (record { sec = s; ns = t }) (ofNanos n)
+pub parts : (n s t : ℕ) → t < second → s * second + t ≡ n → _≡_ {A = Instant} (record { sec = s; ns = t }) (ofNanos n)
 parts n s t h e = λ i. record { sec = p i; ns = q i }
   where
-    p : s ≡ n / 1000000000
+    p : s ≡ n / second
     p = omega arith
 
-    q : t ≡ n % 1000000000
+    q : t ≡ n % second
     q = omega arith
-
--- ---- in the range, or not
 
 -- ---- from signed numbers
 
 -- the offsets of an instant's seconds and nanoseconds
 pub record Offsets (a b : ℕ) : Type 0 where
-  pub from : 2 ^ 63 - 377705023201 ≤ a
-  pub to : a ≤ 2 ^ 63 + 253402207200
+  pub from : 2 ^ 63 + firstSecond ≤ a + epoch
+  pub to : a + epoch ≤ 2 ^ 63 + lastSecond
   pub least : 2 ^ 63 ≤ b
-  pub most : b ≤ 2 ^ 63 + 999999999
+  pub most : b < 2 ^ 63 + second
 
 second-off : (z : ℤ) → SFits w64 z → secondFrom z ≡ biased z + epoch - 2 ^ 63
 second-off (pos n) f = omega (arith, biased-plus n)
@@ -49,19 +48,20 @@ at-least : (z : ℤ) → SFits w64 z → 2 ^ 63 ≤ biased z → isBelow0 z ≡ 
 at-least (pos n) f h = refl
 at-least (negsuc n) f h = absurd (omega (arith, biased-minus n (f .sfits), f .sfits))
 
-abbrev isSecond : ℤ → Bool
+-- the seconds, and the nanoseconds, that an instant may have
+abbrev pub isSecond : ℤ → Bool
 isSecond s = isIn (firstInstant / second) (lastInstant / second) (secondFrom s)
 
-abbrev isRest : ℤ → Bool
+abbrev pub isRest : ℤ → Bool
 isRest n = not (isBelow0 n) && ltb (natAbs n) second
 
 offsets : (s n : ℤ) → SFits w64 s → SFits w64 n → (isSecond s && isRest n) ≡ true → Offsets (biased s) (biased n)
 offsets s n f g e =
     let p = and-both (isSecond s) (isRest n) e in
-    let q = and-both (leb 12654496799 (secondFrom s)) (leb (secondFrom s) 643761727200) (p .0) in
+    let q = and-both (leb firstSecond (secondFrom s)) (leb (secondFrom s) lastSecond) (p .0) in
     let r = and-both (not (isBelow0 n)) (ltb (natAbs n) second) (p .1) in
-    let a : 12654496799 ≤ secondFrom s = leb-true _ _ (q .0) in
-    let b : secondFrom s ≤ 643761727200 = leb-true _ _ (q .1) in
+    let a : firstSecond ≤ secondFrom s = leb-true _ _ (q .0) in
+    let b : secondFrom s ≤ lastSecond = leb-true _ _ (q .1) in
     let c : natAbs n < second = ltb-true _ _ (r .1) in
     let d = nat-off n (not-true _ (r .0)) in
     let k = second-off s f in
@@ -72,11 +72,11 @@ passes s n f g o =
     let z = at-least n g (o .least) in
     let d = nat-off n z in
     let k = second-off s f in
-    let a : 12654496799 ≤ secondFrom s = omega arith in
-    let b : secondFrom s ≤ 643761727200 = omega arith in
+    let a : firstSecond ≤ secondFrom s = omega arith in
+    let b : secondFrom s ≤ lastSecond = omega arith in
     let c : natAbs n < second = omega arith in
     both-and (isSecond s) (isRest n)
-    (both-and (leb 12654496799 (secondFrom s)) (leb (secondFrom s) 643761727200) (le-leb _ _ a) (le-leb _ _ b))
+    (both-and (leb firstSecond (secondFrom s)) (leb (secondFrom s) lastSecond) (le-leb _ _ a) (le-leb _ _ b))
     (both-and (not (isBelow0 n)) (ltb (natAbs n) second) (true-not _ z) (lt-ltb _ _ c))
 
 pub read-out : (s n : ℤ) → SFits w64 s → SFits w64 n → (Offsets (biased s) (biased n) → ⊥) → OutOfRange ≡ instantRead (instantOf s n)

@@ -1,10 +1,10 @@
 -- Signed numbers of 64 bits as natural numbers that are 2^63 more.
 use mathlib.Core.Path.{_≡_, refl, sym, ap, _∙_, subst}
 use mathlib.Core.Bool.{true, false}
-use Prim.Native.Nat.{ℕ, suc, _+_, _-_, _^_, _≤_, _<_}
+use Prim.Native.Nat.{ℕ, zero, suc, _+_, _-_, _^_, _≤_, _<_}
 use native.Mathlib.Omega.{arith}
 use lib.Dec.{T}
-use lib.IntN.{ℤ, pos, negsuc, _+ℤ_, _-ℤ_, natAbs, subℕ}
+use lib.IntN.{ℤ, pos, negsuc, negℤ, _+ℤ_, _-ℤ_, natAbs, subℕ}
 use lib.Signed.{ltZ}
 use mir.Syntax.{w64}
 use mir.Val.{SFits}
@@ -67,3 +67,11 @@ unbiased-low k h = sub-neg k (2 ^ 63) h
 pub unbiased-high : (k : ℕ) → 2 ^ 63 ≤ k → unbiased k ≡ pos (k - 2 ^ 63)
 unfolding unbiased
 unbiased-high k h = sub-nat k (2 ^ 63) h
+
+-- and a number that is so much below or above 2^63
+pub unbiased-less : (k : ℕ) → k ≤ 2 ^ 63 → unbiased (2 ^ 63 - k) ≡ negℤ (pos k)
+unbiased-less zero h = unbiased-high (2 ^ 63) (omega arith)
+unbiased-less (suc k) h = unbiased-low (2 ^ 63 - suc k) (omega arith) ∙ ap negsuc (omega arith)
+
+pub unbiased-more : (k : ℕ) → unbiased (2 ^ 63 + k) ≡ pos k
+unbiased-more k = unbiased-high (2 ^ 63 + k) (omega arith) ∙ ap pos (omega arith)

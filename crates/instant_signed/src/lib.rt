@@ -1,6 +1,10 @@
-// Instants and durations at the edge, where they are pairs of signed numbers. Inside all numbers are unsigned: a signed number is read
+// Instants and durations as the calls take and give them, pairs of signed numbers. Inside all numbers are unsigned: a signed number is read
 // as the unsigned one that is 2^63 more, compared and moved as that, and written back.
+use instant::EPOCH;
+use instant::FIRST;
 use instant::Instant;
+use instant::LAST;
+use instant::SECOND;
 ghost use mathlib.Core.Path.{_≡_};
 ghost use Prim.Native.Nat.{_+_, _-_, _≤_, _<_, _^_};
 ghost use mathlib.Core.Bool.{false};
@@ -10,36 +14,38 @@ ghost use Rattle.instant_signed.specs.Signed.{biased, unbiased};
 ghost use Rattle.instant_signed.specs.Reads.{instantRead, secondsFrom};
 ghost use Rattle.instant_signed.specs.Durations.{signedPair, durationRead, fittingPair, negation};
 
-const HALF: u64 = 9223372036854775808;
+// 2^63: the offset of signed numbers, and the number that stands for 0.
+pub const HALF: u64 = 9223372036854775808;
 
-// The second of 1970-01-01T00:00:00Z.
-const EPOCH: u64 = 390359520000;
+// The least signed number, -2^63.
+const LEAST: i64 = -9223372036854775808;
 
 // The seconds of the first and the last instant, counted from 1970.
-const BEFORE: u64 = 377705023201;
+const BEFORE: u64 = EPOCH - FIRST;
 
-const AFTER: u64 = 253402207200;
+const AFTER: u64 = LAST - EPOCH;
 
 // x + 2^63
 pub fn lift(x: i64) -> u64
     ensures { λ r. ⌜ r ≡ biased x ⌝ }
 {
     if x < 0 {
-        return (x - (-9223372036854775808)) as u64;
+        return (x - LEAST) as u64;
     }
-    x as u64 + 9223372036854775808
+    x as u64 + HALF
 }
 
 // k - 2^63
 pub fn lower(k: u64) -> i64
     ensures { λ r. ⌜ r ≡ unbiased k ⌝ }
 {
-    if k < 9223372036854775808 {
-        return k as i64 + (-9223372036854775808);
+    if k < HALF {
+        return k as i64 + LEAST;
     }
-    (k - 9223372036854775808) as i64
+    (k - HALF) as i64
 }
 
+// An instant, or none: the numbers are outside the range.
 pub enum InstantRead {
     At(Instant),
     OutOfRange,
@@ -60,7 +66,7 @@ pub fn instant_of(sec: i64, ns: i64) -> InstantRead
     if n < HALF {
         return InstantRead::OutOfRange;
     }
-    if HALF + 999999999 < n {
+    if n >= HALF + SECOND {
         return InstantRead::OutOfRange;
     }
     InstantRead::At(Instant {
@@ -95,10 +101,10 @@ pub fn duration_of(secs: i64, nanos: i64) -> DurationRead
 {
     let s = lift(secs);
     let n = lift(nanos);
-    if n <= HALF - 1000000000 {
+    if n <= HALF - SECOND {
         return DurationRead::Malformed;
     }
-    if HALF + 1000000000 <= n {
+    if HALF + SECOND <= n {
         return DurationRead::Malformed;
     }
     if s < HALF {
@@ -144,7 +150,7 @@ pub enum DurationMade {
 pub fn duration_from(minus: bool, sec: u64, ns: u32) -> DurationMade
     ensures { λ r. ⌜ r ≡ fittingPair minus sec ns ⌝ }
 {
-    if 1000000000 <= ns {
+    if SECOND <= ns as u64 {
         return DurationMade::Malformed;
     }
     if HALF < sec {
@@ -159,6 +165,7 @@ pub fn duration_from(minus: bool, sec: u64, ns: u32) -> DurationMade
     DurationMade::Is(pair(false, sec, ns))
 }
 
+// The duration of the same size and the other sign.
 pub fn negate(d: Duration) -> DurationMade
     ensures { λ r. ⌜ r ≡ negation (d .secs) (d .nanos) ⌝ }
 {

@@ -1,15 +1,15 @@
 -- Numbers in a list: what `filter`, `map`, `distinct`, `run`, `maximum` and `leastOr` hold and give.
-use mathlib.Core.Path.{_≡_, refl, sym, _∙_, ap}
+use mathlib.Core.Path.{_≡_, refl, _∙_, ap}
 use mathlib.Core.Bool.{Bool, true, false}
 use mathlib.Core.List.{List, [], _∷_, _++_, map}
 use mathlib.Core.Logic.{_⊎_, inl, inr}
-use Prim.Native.Nat.{ℕ, zero, suc, _+_, min, max, _≤_, _<_}
+use Prim.Native.Nat.{ℕ, zero, suc, _+_, min, _≤_, _<_}
 use native.Mathlib.Omega.{arith}
 use native.Mathlib.Decide.{decLe}
 use native.Mathlib.Nat.{le-antisymm}
 use lib.Dec.{eqb, eqb→eq}
-use Rattle.model.specs.Basic.{if_then_else_, filter, any, among, distinct, run, maximum, leastOf, leastOr}
-use Rattle.laws_base.specs.Test.{by-test, by-either, test-of, clash}
+use Rattle.model.specs.Basic.{filter, any, distinct, run, maximum, leastOf, leastOr}
+use Rattle.laws_base.specs.Test.{by-test, by-either, test-of}
 
 -- u is in the list
 abbrev pub Member : ℕ → List ℕ → Type 0

@@ -1,7 +1,6 @@
 pub mod Count
 pub mod Lists
 pub mod Members
-pub mod Joined
 pub mod Left
 pub mod Turn
 pub mod Totals

@@ -36,10 +36,6 @@ module _ (W : ℕ → Bool) where
   lists-nonempty lo hi (none h e) = tt
   lists-nonempty lo hi (next s e a b c i f r) = (b, lists-nonempty e hi r)
 
-  pub lists-ends : (lo hi : ℕ) {l : List Block} → Lists W lo hi l → Ends hi l
-  lists-ends lo hi (none h e) = tt
-  lists-ends lo hi (next s e a b c i f r) = (c, lists-ends e hi r)
-
   -- the test of a list that `Lists`, in its window
   pub lists-covers : (lo hi : ℕ) {l : List Block} → Lists W lo hi l → (u : ℕ) → lo ≤ u → u < hi → W u ≡ covers l u
   lists-covers lo hi {l} r u a b = in-test W lo hi l u (lists-in W lo hi r u) a b

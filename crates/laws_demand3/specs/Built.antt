@@ -9,8 +9,7 @@ use native.Mathlib.Omega.{arith}
 use lib.Dec.{leb, ltb, eqb}
 use lib.ListN.{length, getD, drop}
 use borrow.Author.Tests.{ltb-true}
-use Rattle.model.specs.Basic as basic
-use Rattle.model.specs.Basic.{given, need, each, joined}
+use Rattle.model.specs.Basic.{given, each, joined}
 use Rattle.model.specs.Bytes.{be}
 use Rattle.model.specs.Calendar.{isSet}
 use Rattle.model.specs.Instant.{second, day}
@@ -22,40 +21,14 @@ use Rattle.model.specs.Book.{Hours, Body, default, work, pause, holidays, Entry
 use Rattle.model.specs.Working.{Rule, Schedule, holidayRule}
 use Rattle.model.specs.Build.{lookup, defaultZone, ruleZone, noRules, withRule, zoneUsed, rulesOf, worksIn2001, build}
 use Rattle.laws_base.specs.Test.{by-test, and-both}
+use Rattle.laws_base.specs.Made.{Made, nothing, value, made, made-is, next, tested, anything}
 use Rattle.laws_zone.specs.Sound.{Sound}
 use Rattle.laws_zone.specs.Zones.{zone-sound, utc-sound}
 use Rattle.laws_demand3.specs.Windows.{RuleOk, OfRules, NearRule}
 use Rattle.laws_demand3.specs.Zones.{Each, ifGiven, usedBy, usedIn, zonesOf, WithinDay}
 
--- ---- what is made, if anything, has P
+-- ---- what is answered, if anything, has P
 
-data Made {A : Type 0} (P : A → Type 0) : Option A → Type 0 where
-  nothing : Made P none
-  value : {a : A} → P a → Made P (some a)
-
-made : {A : Type 0} {P : A → Type 0} (o : Option A) → ((a : A) → o ≡ some a → P a) → Made P o
-made none f = nothing
-made (some a) f = value (f a refl)
-
-made-is : {A : Type 0} {P : A → Type 0} (o : Option A) (a : A) → Made P o → o ≡ some a → P a
-made-is none a h e = absurd (let z : _≡_ {A = ℕ} 0 1 = cc in omega arith)
-made-is {P = P} (some b) a (value h) e = let p : b ≡ a = cc in subst P p h
-
-next : {A B : Type 0} {P : A → Type 0} {Q : B → Type 0} {f : A → Option B} (o : Option A) → Made P o → ((a : A) → P a → Made Q (f a)) → Made Q (basic._>>=_ o f)
-next none h k = nothing
-next (some a) (value h) k = k a h
-
-tested : {B : Type 0} {Q : B → Type 0} {f : Unit {0} → Option B} (c : Bool) → ((u : Unit {0}) → c ≡ true → Made Q (f u)) → Made Q (basic._>>=_ (need c) f)
-tested true k = k tt refl
-tested false k = nothing
-
-abbrev Any : {A : Type 0} → A → Type 0
-Any a = Unit {0}
-
-anything : {A : Type 0} (o : Option A) → Made Any o
-anything o = made o (λ _ _. tt)
-
--- the same of answers
 data Done {A : Type 0} (P : A → Type 0) : Answer A → Type 0 where
   not-done : {n p : ℕ} → Done P (refuses n p)
   done : {a : A} → P a → Done P (gives a)

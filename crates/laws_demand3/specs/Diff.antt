@@ -58,14 +58,6 @@ diff-add a b c d = go (form a b) (form c d)
     go (neg m e) (nat n f) = diff-same n (suc m) (a + c) (b + d) (omega arith)
     go (neg m e) (neg n f) = is-neg (a + c) (b + d) (suc (m + n)) (omega arith)
 
-pub diff-minus : (a b : ℕ) → negℤ (diff a b) ≡ diff b a
-diff-minus a b = go (form a b)
-  where
-    go : {x : ℤ} → Form a b x → negℤ x ≡ diff b a
-    go (nat zero e) = is-nat b a 0 (omega arith)
-    go (nat (suc n) e) = is-neg b a n (omega arith)
-    go (neg n e) = is-nat b a (suc n) (omega arith)
-
 pub neg-pos : (n : ℕ) → negℤ (pos n) ≡ diff 0 n
 neg-pos zero = is-nat 0 0 0 refl
 neg-pos (suc n) = is-neg 0 (suc n) n (omega arith)

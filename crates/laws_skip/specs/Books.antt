@@ -3,7 +3,7 @@ use mathlib.Core.Path.{_≡_, refl, subst}
 use mathlib.Core.Bool.{true, _&&_}
 use mathlib.Core.Option.{none, some}
 use mathlib.Core.List.{List, [], _∷_, map}
-use Prim.Native.Nat.{ℕ, suc, _+_, _*_, _-_, _≤_, _<_}
+use Prim.Native.Nat.{ℕ, suc, _+_, _*_, _-_, _≤_}
 use native.Mathlib.Omega.{arith}
 use lib.Dec.{leb}
 use lib.ListN.{length}
@@ -27,8 +27,7 @@ use Rattle.laws_demand3.specs.Built.{HoursOk, BodyOk, EntryOk, entries-fit, def
 use Rattle.laws_skip.specs.Steady.{WeeklyRules, shift-weekly, repeats-week, each-both}
 use Rattle.laws_skip.specs.Records.{step-gave, or-gave, test-gave}
 use Rattle.laws_skip.specs.Counts.{Few, work-seven, off-seven, working-seven}
-use Rattle.laws_skip.specs.Skips.{fresh, skipTime, skipIn, Answers}
-use Rattle.laws_skip.specs.Loops.{timeRest, time-start, searchRest, search-start}
+use Rattle.laws_skip.specs.Skips.{skipTime, skipIn, Answers}
 use Rattle.laws_skip.specs.Schedules.{between-skipping, between-exact, between-most, search-skipping}
 
 -- ---- the rules that records make
@@ -181,19 +180,6 @@ module _ (book pack : List ℕ) (s : Schedule) (e : build book pack ≡ gives s)
   pub search-same : (w : Way) (t d : ℕ)
       → Answers (ahead w s t) (λ y. repeats s (at w t y)) (reach w t) d (skipIn (ahead w s t) (λ y. repeats s (at w t y)) (s .limit) (reach w t) d) (search w s t d)
   search-same w t d = search-skipping s (well .ok) (well .weekly) w t d (well .limit)
-
-  -- the same of the loops
-  pub between-loop : (a b : ℕ) → a ≤ b
-      → (timeRest (working s) (repeats s) a b none .time ≡ timeBetween s a b)
-      × (neededBetween s a b ≤ timeRest (working s) (repeats s) a b none .count)
-      × (timeRest (working s) (repeats s) a b none .count ≤ begun (b - a))
-  between-loop a b h =
-      let p = between-least a b h in
-      rw (time-start (working s) (repeats s) a b) (between-same a b h, omega arith, between-upto a b h)
-
-  pub search-loop : (w : Way) (t d : ℕ) → 0 < d
-      → Answers (ahead w s t) (λ y. repeats s (at w t y)) (reach w t) d (searchRest (ahead w s t) (λ y. repeats s (at w t y)) (s .limit) (reach w t) 0 0 d fresh) (search w s t d)
-  search-loop w t d h = rw (search-start (ahead w s t) (λ y. repeats s (at w t y)) (s .limit) (reach w t) d h) (search-same w t d)
 
   -- 672 blocks suffice
   pub window-blocks : (lo hi : ℕ) → hi ≤ lo + 7 * day

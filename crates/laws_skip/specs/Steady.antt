@@ -182,14 +182,6 @@ module _ (r : Rule) (ok : RuleOk r) (S E o : ℕ) (low : firstInstant ≤ S) (up
       let p = first-is lo a (omega arith) in let q = last-is hi (omega arith) b in
       const-piece r ok S E o low up same ob oh lo hi d a b (omega arith) (omega arith)
 
-  pub const-blocks : (lo hi : ℕ) → S + 4 * day ≤ lo → lo ≤ hi → hi + 4 * day ≤ E
-      → blocksOf lo hi r ≡ joined (map (λ d. clipped lo hi (less o d (r .from)) (less o d (till r))) (filter (r .on) (localDates (r .zone) lo hi)))
-  unfolding blocksOf localDates
-  const-blocks lo hi a h b =
-      let x = firstDate (r .zone) lo in let y = lastDate (r .zone) hi in
-      shown-same (r .on) (pieceOn r lo hi) (λ d. clipped lo hi (less o d (r .from)) (less o d (till r))) (y + 1 - x) x
-      (λ k i j. const-date lo hi k a h b i (omega arith))
-
   week-date : (lo hi d : ℕ) → S + 4 * day ≤ lo → lo ≤ hi → hi + week + 4 * day ≤ E → firstDate (r .zone) lo ≤ d → d ≤ lastDate (r .zone) hi
       → pieceOn r (lo + week) (hi + week) (d + 7) ≡ moves week (pieceOn r lo hi d)
   week-date lo hi d a h b k l =
@@ -210,28 +202,6 @@ module _ (r : Rule) (ok : RuleOk r) (S E o : ℕ) (low : firstInstant ≤ S) (up
 
       last-week : (t : ℕ) → firstInstant ≤ t → lastDate (r .zone) t ≡ (t + o - bias) / day + 1 → lastDate (r .zone) (t + week) ≡ (t + week + o - bias) / day + 1 → lastDate (r .zone) (t + week) ≡ lastDate (r .zone) t + 7
       last-week t h p q = omega arith
-
--- the same from the test: a window with no change of offset from 4 days before it to 4 days after it
-module _ (r : Rule) (ok : RuleOk r) (lo hi : ℕ) (a : firstInstant + 4 * day ≤ lo) (h : lo ≤ hi) (b : hi + 4 * day ≤ lastInstant)
-    (t : ruleSteady (lo - 4 * day) (hi + 4 * day) r ≡ true) where
-  same-here : (u : ℕ) → lo - 4 * day ≤ u → u ≤ hi + 4 * day → offsetNanos (r .zone) u ≡ offsetNanos (r .zone) lo
-  same-here u p q =
-      same-off (r .zone) (ok .sound) (lo - 4 * day) (hi + 4 * day) (omega arith) t u p q
-      ∙ sym (same-off (r .zone) (ok .sound) (lo - 4 * day) (hi + 4 * day) (omega arith) t lo (omega arith) (omega arith))
-
-  pub steady-first : firstDate (r .zone) lo ≡ (lo + offsetNanos (r .zone) lo - bias) / day - 2
-  steady-first = first-is r ok (lo - 4 * day) (hi + 4 * day) (offsetNanos (r .zone) lo) (omega arith) b same-here (off-low (r .zone) (ok .sound) lo) (off-high (r .zone) (ok .sound) lo) lo (omega arith) (omega arith)
-
-  pub steady-last : lastDate (r .zone) hi ≡ (hi + offsetNanos (r .zone) lo - bias) / day + 1
-  steady-last = last-is r ok (lo - 4 * day) (hi + 4 * day) (offsetNanos (r .zone) lo) (omega arith) b same-here (off-low (r .zone) (ok .sound) lo) (off-high (r .zone) (ok .sound) lo) hi (omega arith) (omega arith)
-
-  pub steady-date : (d : ℕ) → firstDate (r .zone) lo ≤ d → d ≤ lastDate (r .zone) hi
-      → clipped lo hi (startOf r d) (endOf r d) ≡ clipped lo hi (less (offsetNanos (r .zone) lo) d (r .from)) (less (offsetNanos (r .zone) lo) d (till r))
-  steady-date d p q = const-date r ok (lo - 4 * day) (hi + 4 * day) (offsetNanos (r .zone) lo) (omega arith) b same-here (off-low (r .zone) (ok .sound) lo) (off-high (r .zone) (ok .sound) lo) lo hi d (omega arith) h (omega arith) p q
-
-  pub steady-blocks : blocksOf lo hi r
-      ≡ joined (map (λ d. clipped lo hi (less (offsetNanos (r .zone) lo) d (r .from)) (less (offsetNanos (r .zone) lo) d (till r))) (filter (r .on) (localDates (r .zone) lo hi)))
-  steady-blocks = const-blocks r ok (lo - 4 * day) (hi + 4 * day) (offsetNanos (r .zone) lo) (omega arith) b same-here (off-low (r .zone) (ok .sound) lo) (off-high (r .zone) (ok .sound) lo) lo hi (omega arith) h (omega arith)
 
 -- ---- a date outside the span's local dates reaches into no window of it
 
@@ -362,15 +332,6 @@ module _ (s : Schedule) (ok : OfRules RuleOk s) (w : WeeklyRules s) where
       ∙ ap (λ l. blocksOfAll lo hi (s .breaks) ++ l) (holidays-none S E low up lo hi a h (omega arith) (s .holidays) (oks .1) n)
       ∙ append-nil (blocksOfAll lo hi (s .breaks)))))
       ∙ subtract-moved week (union (blocksOfAll lo hi (s .work))) (union (blocksOfAll lo hi (s .breaks ++ map holidayRule (s .holidays))))
-
-  -- the test's span lies in the range
-  pub repeats-inside : (t : ℕ) → repeats s t ≡ true → (firstInstant + 11 * day ≤ t) × (t + 11 * day ≤ lastInstant)
-  unfolding repeats
-  repeats-inside t e =
-      let S = t - 11 * day in let E = t + 11 * day in
-      let k = and-both (leb (firstInstant + 11 * day) t && leb E lastInstant) (all (ruleSteady S E) (s .work ++ s .breaks) && all (noneNear S E) (s .holidays)) e in
-      let r = and-both (leb (firstInstant + 11 * day) t) (leb E lastInstant) (k .0) in
-      (leb-true (firstInstant + 11 * day) t (r .0), leb-true E lastInstant (r .1))
 
   -- where the skip test passes, the window's blocks are those of the window before, a week later
   pub repeats-week : (t : ℕ) → repeats s t ≡ true → (week ≤ t) × (working s t (t + week) ≡ moves week (working s (t - week) t))

@@ -86,14 +86,6 @@ end-upto lo hi (b ∷ l) i x h = end-upto lo hi l (i .3) (b .end) (i .2)
 
 -- what is known where it is found, and where time is left
 module _ (limit lo hi : ℕ) (l : List Block) (i : Inside lo hi l) (last d : ℕ) (h : 0 < d) where
-  pub search-blocks-found : (z : ℕ) → searchBlocks limit hi last d l ≡ found z → (lo < z) × (z ≤ hi)
-  search-blocks-found z e = by (searchBlocks limit hi last d l) (search-blocks-means limit lo hi l i last d h) e
-    where
-      by : (s : Step) → Spent lo hi last d l s → s ≡ found z → (lo < z) × (z ≤ hi)
-      by s (is-found {z = y} a b) e = let q : y ≡ z = cc in (omega arith, omega arith)
-      by s is-gap e = absurd (let q : _≡_ {A = ℕ} 0 1 = cc in omega arith)
-      by s (is-left a b c) e = absurd (let q : _≡_ {A = ℕ} 0 1 = cc in omega arith)
-
   pub search-blocks-left : (e m : ℕ) → searchBlocks limit hi last d l ≡ left e m → (e ≡ d - total l) × (total l < d) × (m ≡ lastEnd l last)
   search-blocks-left e m f = by (searchBlocks limit hi last d l) (search-blocks-means limit lo hi l i last d h) f
     where

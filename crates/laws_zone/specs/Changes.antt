@@ -10,7 +10,7 @@ use lib.Dec.{leb, ltb, eqb}
 use borrow.Author.Tests.{le-leb, lt-ltb, leb-true, leb-false, ltb-true, eq-eqb, eqb-true}
 use Rattle.model.specs.Basic.{run, any}
 use Rattle.model.specs.Footer.{Footer, empty, fixed, rules, ChangeRule, changeIn}
-use Rattle.model.specs.Tzif.{Zone, Change}
+use Rattle.model.specs.Tzif.{Zone, Change, greatestOffset}
 use Rattle.model.specs.Zone.{latest, yearAt, ruledAt, offsetFrom, offsetAt, footerChanges, changesIn, isChange, steady}
 use Rattle.laws_base.specs.Test.{by-test, by-either, and-both, both-and, not-true, true-not, clash}
 use Rattle.laws_base.specs.Members.{Member, filter-passes, filter-keeps, in-map, in-right, in-run}
@@ -27,40 +27,40 @@ in-left (n ∷ a) b u (inr q) = inr (in-left a b u q)
 -- ---- a footer
 
 -- e is the change of some year
-abbrev pub Turns : (ℕ → ℕ) → ℕ → Type 0
-Turns change e = (y : ℕ) × (change y ≡ e)
+abbrev pub ChangesAt : (ℕ → ℕ) → ℕ → Type 0
+ChangesAt change e = (y : ℕ) × (change y ≡ e)
 
 -- the changes of the years that `changesIn` looks at
 abbrev looked : ℕ → ChangeRule → ℕ → ℕ → List ℕ
 looked o r a b = map (changeIn o r) (run (yearAt a - 2) (yearAt b + 5 - yearAt a))
 
-module _ (o : ℕ) (r : ChangeRule) (ho : o ≤ 187199) (f : ChangeRuleFits r) where
+module _ (o : ℕ) (r : ChangeRule) (ho : o ≤ greatestOffset) (f : ChangeRuleFits r) where
   abbrev change : ℕ → ℕ
   change = changeIn o r
 
   not-later : (e : ℕ) → latest change (e - 1) ≤ latest change e
   not-later e =
       by-either (λ (p : latest change (e - 1) ≡ 0). omega arith)
-      (λ (p : Turns change (latest change (e - 1))).
+      (λ (p : ChangesAt change (latest change (e - 1))).
       let k : change (p .0) ≤ e = omega (arith, p .1, latest-le change (e - 1)) in
       omega (arith, p .1, latest-of-all o r ho f e (p .0) k))
       (latest-is change (e - 1))
 
   -- the latest change is another at e than just before only where e is a change
-  latest-steps : (e : ℕ) → (latest change (e - 1) ≡ latest change e) ⊎ Turns change e
+  latest-steps : (e : ℕ) → (latest change (e - 1) ≡ latest change e) ⊎ ChangesAt change e
   latest-steps e =
-      by-either (λ (p : latest change e ≡ 0). inl (omega (arith, not-later e))) (λ (p : Turns change (latest change e)). go p (decLe e (latest change e)))
+      by-either (λ (p : latest change e ≡ 0). inl (omega (arith, not-later e))) (λ (p : ChangesAt change (latest change e)). go p (decLe e (latest change e)))
       (latest-is change e)
     where
-      go : Turns change (latest change e) → Dec (e ≤ latest change e) → (latest change (e - 1) ≡ latest change e) ⊎ Turns change e
+      go : ChangesAt change (latest change e) → Dec (e ≤ latest change e) → (latest change (e - 1) ≡ latest change e) ⊎ ChangesAt change e
       go p (yes h) = inr (p .0, omega (arith, p .1, latest-le change e))
       go p (no h) =
           let k : change (p .0) ≤ e - 1 = omega (arith, p .1) in
           inl (omega (arith, p .1, not-later e, latest-of-all o r ho f (e - 1) (p .0) k))
 
   -- they hold all changes behind a, up to b
-  turn-in : (a b e : ℕ) → a < e → e ≤ b → Turns change e → Member e (looked o r a b)
-  turn-in a b e ha hb (y, p) =
+  change-looked : (a b e : ℕ) → a < e → e ≤ b → ChangesAt change e → Member e (looked o r a b)
+  change-looked a b e ha hb (y, p) =
       let lo : yearAt a - 2 ≤ y = low (decLe (yearAt a - 2) y) in
       let hi : y < yearAt b + 2 = high (decLe (yearAt b + 2) y) in
       rw p at (in-map change (run (yearAt a - 2) (yearAt b + 5 - yearAt a)) y (in-run (yearAt b + 5 - yearAt a) (yearAt a - 2) y lo (omega arith)))
@@ -74,28 +74,28 @@ module _ (o : ℕ) (r : ChangeRule) (ho : o ≤ 187199) (f : ChangeRuleFits r) w
       high (no h) = omega arith
 
 -- e is a change of the footer
-abbrev pub FooterChangeRules : Footer → ℕ → Type 0
-FooterChangeRules empty e = ⊥
-FooterChangeRules (fixed o) e = ⊥
-FooterChangeRules (rules std dst start end) e = Turns (changeIn std start) e ⊎ Turns (changeIn dst end) e
+abbrev pub FooterChangesAt : Footer → ℕ → Type 0
+FooterChangesAt empty e = ⊥
+FooterChangesAt (fixed o) e = ⊥
+FooterChangesAt (rules std dst start end) e = ChangesAt (changeIn std start) e ⊎ ChangesAt (changeIn dst end) e
 
-ruled-steps : (f : Footer) → FooterFits f → (o e : ℕ) → (ruledAt f o (e - 1) ≡ ruledAt f o e) ⊎ FooterChangeRules f e
+ruled-steps : (f : Footer) → FooterFits f → (o e : ℕ) → (ruledAt f o (e - 1) ≡ ruledAt f o e) ⊎ FooterChangesAt f e
 unfolding ruledAt
 ruled-steps empty h o e = inl refl
 ruled-steps (fixed g) h o e = inl refl
 ruled-steps (rules std dst start end) h o e =
     by-either (λ (p : latest (changeIn std start) (e - 1) ≡ latest (changeIn std start) e).
     by-either (λ (q : latest (changeIn dst end) (e - 1) ≡ latest (changeIn dst end) e). inl (rw (p, q) refl))
-    (λ (q : Turns (changeIn dst end) e). inr (inr q)) (latest-steps dst end (h .1 .1) (h .3) e))
-    (λ (p : Turns (changeIn std start) e). inr (inl p)) (latest-steps std start (h .0 .1) (h .2) e)
+    (λ (q : ChangesAt (changeIn dst end) e). inr (inr q)) (latest-steps dst end (h .1 .1) (h .3) e))
+    (λ (p : ChangesAt (changeIn std start) e). inr (inl p)) (latest-steps std start (h .0 .1) (h .2) e)
 
-footer-in : (f : Footer) → FooterFits f → (a b e : ℕ) → a < e → e ≤ b → FooterChangeRules f e → Member e (footerChanges f (yearAt a - 2) (yearAt b + 5 - yearAt a))
+footer-in : (f : Footer) → FooterFits f → (a b e : ℕ) → a < e → e ≤ b → FooterChangesAt f e → Member e (footerChanges f (yearAt a - 2) (yearAt b + 5 - yearAt a))
 footer-in empty h a b e ha hb t = absurd t
 footer-in (fixed g) h a b e ha hb t = absurd t
 footer-in (rules std dst start end) h a b e ha hb (inl t) =
-    in-left (looked std start a b) (looked dst end a b) e (turn-in std start (h .0 .1) (h .2) a b e ha hb t)
+    in-left (looked std start a b) (looked dst end a b) e (change-looked std start (h .0 .1) (h .2) a b e ha hb t)
 footer-in (rules std dst start end) h a b e ha hb (inr t) =
-    in-right (looked std start a b) (looked dst end a b) e (turn-in dst end (h .1 .1) (h .3) a b e ha hb t)
+    in-right (looked std start a b) (looked dst end a b) e (change-looked dst end (h .1 .1) (h .3) a b e ha hb t)
 
 -- ---- the table and the footer
 
@@ -103,7 +103,7 @@ abbrev timeOf : Change → ℕ
 timeOf c = c .time
 
 offset-steps : (o : ℕ) (l : List Change) (f : Footer) → FooterFits f → (e : ℕ)
-    → (offsetFrom o l f (e - 1) ≡ offsetFrom o l f e) ⊎ (Member e (map timeOf l) ⊎ FooterChangeRules f e)
+    → (offsetFrom o l f (e - 1) ≡ offsetFrom o l f e) ⊎ (Member e (map timeOf l) ⊎ FooterChangesAt f e)
 unfolding offsetFrom
 offset-steps o [] f h e = by-either (λ p. inl p) (λ q. inr (inr q)) (ruled-steps f h o e)
 offset-steps o (c ∷ l) f h e =
@@ -138,7 +138,7 @@ module _ (z : Zone) (f : FooterFits (z .footer)) where
       by-either (λ p. inl p) (λ q. inr (
       filter-keeps (λ e. ltb a e && leb e b) _ e
       (by-either (λ (r : Member e (map timeOf (z .changes))). in-left (map timeOf (z .changes)) _ e r)
-      (λ (r : FooterChangeRules (z .footer) e). in-right (map timeOf (z .changes)) _ e (footer-in (z .footer) f a b e ha hb r)) q)
+      (λ (r : FooterChangesAt (z .footer) e). in-right (map timeOf (z .changes)) _ e (footer-in (z .footer) f a b e ha hb r)) q)
       (both-and (ltb a e) (leb e b) (lt-ltb a e ha) (le-leb e b hb))))
       (offset-steps (z .initial) (z .changes) (z .footer) f e)
 

@@ -10,7 +10,7 @@ use Rattle.model.specs.Basic.{_>>=_}
 use Rattle.model.specs.Bytes.{hex, text}
 use Rattle.model.specs.Calendar.{isLeap, dayNumber}
 use Rattle.model.specs.Footer.{ChangeRule, julian, plain, fixed, rules, dayIn, changeIn}
-use Rattle.model.specs.Tzif.{Zone, Change, zoneOf}
+use Rattle.model.specs.Tzif.{Zone, Change, zoneOf, offsetBias}
 use Rattle.model.specs.Zone.{latest, offsetFrom, offsetAt, secondOf}
 use Rattle.model.specs.All.{everything}
 use Rattle.laws_base.specs.Test.{by-test, by-either}
@@ -25,17 +25,17 @@ at y m d hours minutes seconds = dayNumber (10400 + y) m d * 86400 + hours * 360
 
 -- the offsets of so many minutes east and west of Greenwich
 abbrev east : ℕ → ℕ
-east minutes = 93600 + minutes * 60
+east minutes = offsetBias + minutes * 60
 
 abbrev west : ℕ → ℕ
-west minutes = 93600 - minutes * 60
+west minutes = offsetBias - minutes * 60
 
 -- of a file's zone: the offset at a second, and the second of a local time
 abbrev offset : List ℕ → ℕ → Option ℕ
 offset f u = zoneOf f >>= λ z. some (offsetAt z u)
 
 abbrev read : List ℕ → ℕ → Option ℕ
-read f l = zoneOf f >>= λ z. some (secondOf z (l + 93600))
+read f l = zoneOf f >>= λ z. some (secondOf z (l + offsetBias))
 
 -- a file with a footer alone: of the given version, one type of offset 0
 abbrev header : List ℕ → List ℕ
@@ -73,7 +73,7 @@ pub record Honolulu : Type 0 where
   pub zone :
       zoneOf honolulu
       ≡ some (record {
-        initial = 93600 - 37886;
+        initial = offsetBias - 37886;
         changes =
             change (at 1896 1 13 22 31 26) (west 630) ∷ change (at 1933 4 30 12 30 0) (west 570) ∷ change (at 1933 5 21 21 30 0) (west 630)
             ∷ change (at 1942 2 9 12 30 0) (west 570)

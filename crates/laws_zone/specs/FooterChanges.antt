@@ -17,6 +17,7 @@ use Rattle.laws_base.specs.Test.{by-test, by-either, test-of}
 use Rattle.laws_base.specs.Members.{Member, filter-passes, filter-keeps, in-map, in-run, max-above, max-below}
 use Rattle.laws_base.specs.Claim.{le, both, all, at-each}
 use Rattle.laws_calendar.specs.Years.{dby-hi, dby-lo, year-from, year-to}
+use Rattle.model.specs.Tzif.{greatestOffset, offsetBias, latestClock}
 
 -- ---- what the grammar allows
 
@@ -27,9 +28,9 @@ DayFits (plain n) = n ≤ 365
 
 pub record ChangeRuleFits (r : ChangeRule) : Type 0 where
   pub day-fits : DayFits (r .day)
-  pub time-fits : r .time ≤ 89999
+  pub time-fits : r .time ≤ latestClock
 
--- ---- the day of a turn in a year
+-- ---- the day of a change in a year
 
 bit-le : (b : Bool) → (if b then 1 else 0) ≤ 1
 bit-le true = omega arith
@@ -99,12 +100,12 @@ day-rises a b (month m w d) f h = omega (arith, month-hi a m w d (f .1), month-l
 day-rises a b (julian n) f h = omega (arith, bit-le (isLeap a && leb 60 n), dby-hi a, dby-lo b)
 day-rises a b (plain n) f h = omega (arith, dby-hi a, dby-lo b)
 
--- within its year the day drifts by at most two weeks from one year to another
-day-drifts : (y z : ℕ) (d : Day) → DayFits d → dayIn z d + daysBeforeYear y ≤ dayIn y d + daysBeforeYear z + 14
+-- within its year the day varies by at most two weeks from one year to another
+day-varies : (y z : ℕ) (d : Day) → DayFits d → dayIn z d + daysBeforeYear y ≤ dayIn y d + daysBeforeYear z + 14
 unfolding dayIn
-day-drifts y z (month m w d) f = omega (arith, month-hi z m w d (f .1), month-lo y m w d (f .1))
-day-drifts y z (julian n) f = omega (arith, bit-le (isLeap z && leb 60 n))
-day-drifts y z (plain n) f = omega arith
+day-varies y z (month m w d) f = omega (arith, month-hi z m w d (f .1), month-lo y m w d (f .1))
+day-varies y z (julian n) f = omega (arith, bit-le (isLeap z && leb 60 n))
+day-varies y z (plain n) f = omega arith
 
 -- ---- the greatest of a list is one of them, or 0
 
@@ -159,7 +160,7 @@ module _ (change : ℕ → ℕ) (u : ℕ) where
 
 -- ---- the change of a year
 
-module _ (o : ℕ) (r : ChangeRule) (ho : o ≤ 187199) (f : ChangeRuleFits r) where
+module _ (o : ℕ) (r : ChangeRule) (ho : o ≤ greatestOffset) (f : ChangeRuleFits r) where
   change-hi : (y : ℕ) → changeIn o r y ≤ daysBeforeYear y * 86400 + 32238000
   unfolding changeIn
   change-hi y = omega (arith, day-hi y (r .day) (f .day-fits))
@@ -172,13 +173,13 @@ module _ (o : ℕ) (r : ChangeRule) (ho : o ≤ 187199) (f : ChangeRuleFits r) w
   unfolding changeIn
   change-rises a b h = omega (arith, day-rises a b (r .day) (f .day-fits) h)
 
-  -- .. and within its year a change drifts by at most two weeks
-  pub change-drifts : (y z : ℕ) → 1 ≤ z → changeIn o r z + daysBeforeYear y * 86400 ≤ changeIn o r y + daysBeforeYear z * 86400 + 1209600
+  -- .. and within its year a change varies by at most two weeks
+  pub change-varies : (y z : ℕ) → 1 ≤ z → changeIn o r z + daysBeforeYear y * 86400 ≤ changeIn o r y + daysBeforeYear z * 86400 + 1209600
   unfolding changeIn
-  change-drifts y z h = omega (arith, day-drifts y z (r .day) (f .day-fits), day-lo z (r .day) (f .day-fits), dby-lo z)
+  change-varies y z h = omega (arith, day-varies y z (r .day) (f .day-fits), day-lo z (r .day) (f .day-fits), dby-lo z)
 
-  -- when it comes, the clock that it ends shows the turn's time on the turn's day
-  pub change-reads : (y : ℕ) → 1 ≤ y → changeIn o r y + o ≡ dayIn y (r .day) * 86400 + r .time + 93600
+  -- when it comes, the clock that it ends shows its time on its day
+  pub change-reads : (y : ℕ) → 1 ≤ y → changeIn o r y + o ≡ dayIn y (r .day) * 86400 + r .time + offsetBias
   unfolding changeIn
   change-reads y h = omega (arith, day-lo y (r .day) (f .day-fits), dby-lo y)
 

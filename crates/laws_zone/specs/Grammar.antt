@@ -1,4 +1,4 @@
--- What the grammar of footers gives: offsets from -93,599 s to 93,599 s (kept with 93,600 added), and turns that fit.
+-- What the grammar of footers gives: offsets from -93,599 s to 93,599 s (kept with 26 hours added), and changes that fit.
 use mathlib.Core.Path.{_≡_}
 use mathlib.Core.Option.{some}
 use mathlib.Core.List.{List}
@@ -8,6 +8,7 @@ use Rattle.model.specs.Footer.{Day, ChangeRule, Footer, empty, fixed, rules, fo
 use Rattle.laws_bytes.specs.TzGrammar.{Number, number, Sixty, sixty, Clock, hours, minutes, seconds, Offset, unsigned, west, east, Date, dateJ, dateN, dateM, Rule, untimed, timed, Ahead, hour, written, TzString, standard, daylight}
 use Rattle.laws_bytes.specs.TzSound.{tz-sound}
 use Rattle.laws_zone.specs.FooterChanges.{DayFits, ChangeRuleFits}
+use Rattle.model.specs.Tzif.{greatestOffset, latestClock}
 
 abbrev Bounds : ℕ → ℕ → ℕ → Type 0
 Bounds lo hi n = (lo ≤ n) × (n ≤ hi)
@@ -18,7 +19,7 @@ number-in (number d h l u) = (l, u)
 sixty-in : {n : ℕ} {s : List ℕ} → Sixty s n → n ≤ 59
 sixty-in (sixty d h u) = u
 
-clock-in : {t : ℕ} {s : List ℕ} → Clock s t → t ≤ 89999
+clock-in : {t : ℕ} {s : List ℕ} → Clock s t → t ≤ latestClock
 clock-in (hours g) = omega (arith, number-in g)
 clock-in (minutes g h) = omega (arith, number-in g, sixty-in h)
 clock-in (seconds g h k) = omega (arith, number-in g, sixty-in h, sixty-in k)
@@ -43,7 +44,7 @@ rule-fits (timed g h) = record { day-fits = date-fits g; time-fits = clock-in h 
 
 -- an offset that a zone may have
 abbrev pub OffsetFits : ℕ → Type 0
-OffsetFits o = (1 ≤ o) × (o ≤ 187199)
+OffsetFits o = (1 ≤ o) × (o ≤ greatestOffset)
 
 abbrev pub FooterFits : Footer → Type 0
 FooterFits empty = Unit {0}

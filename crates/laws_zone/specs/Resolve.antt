@@ -9,12 +9,13 @@ use native.Mathlib.Decide.{decLe, decLt}
 use lib.Dec.{leb, ltb}
 use borrow.Author.Tests.{le-leb, lt-ltb, leb-true, ltb-true, eq-eqb, eqb-true}
 use Rattle.model.specs.Basic.{filter, leastOr}
-use Rattle.model.specs.Tzif.{Zone}
+use Rattle.model.specs.Tzif.{Zone, greatestOffset}
 use Rattle.model.specs.Zone.{offsetAt, changesIn, reads, jumps, secondOf}
 use Rattle.laws_base.specs.Test.{and-both, both-and}
 use Rattle.laws_base.specs.Members.{Member, filter-passes, filter-keeps, in-map, or-in, or-least}
 use Rattle.laws_zone.specs.Grammar.{FooterFits}
 use Rattle.laws_zone.specs.Changes.{change-listed, has-tried}
+use Rattle.laws_zone.specs.Sound.{firstLocal}
 
 -- ---- the meaning, of any offsets
 
@@ -39,7 +40,7 @@ module _ (off : ℕ → ℕ) where
   by-offset (jump e q n j m) = (e - 1, q)
 
   -- .. that it has shortly before it
-  pub by-near-offset : {l d : ℕ} → ((u : ℕ) → off u ≤ 187199) → Resolves l d → (w : ℕ) × (l ≤ w + 187199) × (d + off w ≡ l)
+  pub by-near-offset : {l d : ℕ} → ((u : ℕ) → off u ≤ greatestOffset) → Resolves l d → (w : ℕ) × (l ≤ w + greatestOffset) × (d + off w ≡ l)
   by-near-offset high (read {u} r n) = (u, omega (arith, r, high u), r)
   by-near-offset high (jump e q n j m) = (e - 1, omega (arith, j .to, high e), q)
 
@@ -82,9 +83,9 @@ module _ (off : ℕ → ℕ) where
 
 -- ---- the definition
 
-module _ (z : Zone) (f : FooterFits (z .footer)) (low : (u : ℕ) → 1 ≤ offsetAt z u) (high : (u : ℕ) → offsetAt z u ≤ 187199) (l : ℕ) (h : 187200 ≤ l) where
+module _ (z : Zone) (f : FooterFits (z .footer)) (low : (u : ℕ) → 1 ≤ offsetAt z u) (high : (u : ℕ) → offsetAt z u ≤ greatestOffset) (l : ℕ) (h : firstLocal ≤ l) where
   abbrev begin : ℕ
-  begin = l - 187200
+  begin = l - firstLocal
 
   abbrev tries : List ℕ
   tries = map (λ e. l - offsetAt z e) (begin ∷ changesIn z begin l)
@@ -113,8 +114,8 @@ module _ (z : Zone) (f : FooterFits (z .footer)) (low : (u : ℕ) → 1 ≤ offs
 
   by-jump : ((v : ℕ) → Reads (offsetAt z) l v → ⊥) → Resolves (offsetAt z) l (l - offsetAt z (leastOr 0 overs - 1))
   by-jump g =
-      let s : begin + 187200 ≡ l = omega arith in
-      let e = jumped (offsetAt z) l begin 187200 g (omega (arith, high begin)) (omega (arith, ap (offsetAt z) s, low l)) in
+      let s : begin + firstLocal ≡ l = omega arith in
+      let e = jumped (offsetAt z) l begin firstLocal g (omega (arith, high begin)) (omega (arith, ap (offsetAt z) s, low l)) in
       let i = jump-listed (e .0) (e .1) in
       let q : l - offsetAt z (leastOr 0 overs - 1) + offsetAt z (leastOr 0 overs - 1) ≡ l = omega (arith, high (leastOr 0 overs - 1)) in
       jump (leastOr 0 overs) q g (listed-jump _ (or-in 0 overs (e .0) i))

@@ -1,12 +1,12 @@
--- Looking for the second of a local time by walking over runs of one offset: where such a walk stands, and what it finds. For any offsets `off`
--- and a local second l, both with 93,600 added.
+-- Searching for the second of a local time over runs of one offset: where such a search is, and what it finds. For any offsets `off`
+-- and a local second l, both with the 26 hours added.
 use mathlib.Core.Path.{_≡_, sym, _∙_, ap}
 use mathlib.Core.Bool.{true, false}
 use mathlib.Core.Logic.{_⊎_, inr, ⊎-elim}
 use Prim.Native.Nat.{ℕ, _+_, _-_, _≤_, _<_}
 use native.Mathlib.Omega.{arith}
 use native.Mathlib.Decide.{decLt}
-use Rattle.model.specs.Tzif.{Zone}
+use Rattle.model.specs.Tzif.{Zone, greatestOffset}
 use Rattle.model.specs.Zone.{offsetAt, steady}
 use Rattle.laws_base.specs.Test.{by-test}
 use Rattle.laws_zone.specs.Sound.{Sound, dawn}
@@ -27,7 +27,7 @@ module _ (off : ℕ → ℕ) (l : ℕ) where
   abbrev pub NoJump : ℕ → Type 0
   NoJump u = (e : ℕ) → e ≤ u → Jumps off l e → ⊥
 
-  -- where a walk stands at u: before any reading and any jump ..
+  -- where a search is at u: before any reading and any jump ..
   pub record Low (u : ℕ) : Type 0 where
     pub none : NoReading u
     pub plain : NoJump u
@@ -104,13 +104,13 @@ module _ {off : ℕ → ℕ} {u e : ℕ} (r : Run off u e) (l : ℕ) where
     pub past-next : (l < u + off u) ⊎ (e + off u ≤ l) → Past off l e d
     past-next w = record { none = clear (s .none) w; e = s .e; gives = s .gives; jumped = s .jumped; least = s .least }
 
-module _ (off : ℕ → ℕ) (low : (u : ℕ) → 1 ≤ off u) (high : (u : ℕ) → off u ≤ 187199) (l : ℕ) where
+module _ (off : ℕ → ℕ) (low : (u : ℕ) → 1 ≤ off u) (high : (u : ℕ) → off u ≤ greatestOffset) (l : ℕ) where
   -- every second that reads l, and every jump over it, lies in the 187,199 s before it
-  pub low-start : 187199 ≤ l → Low off l (l - 187199)
+  pub low-start : greatestOffset ≤ l → Low off l (l - greatestOffset)
   low-start h = record {
     none = λ v k p. omega (arith, p, high v);
     plain = λ e k j. omega (arith, j .to, high e);
-    low = omega (arith, high (l - 187199));
+    low = omega (arith, high (l - greatestOffset));
   }
 
   pub past-done : {u d : ℕ} → Past off l u d → l ≤ u → Resolves off l d

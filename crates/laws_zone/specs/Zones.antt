@@ -1,25 +1,26 @@
 -- Every zone of a usable file, and UTC, is sound.
-use mathlib.Core.Path.{_≡_, refl, subst}
-use mathlib.Core.Bool.{Bool, true, false, _&&_}
-use mathlib.Core.Option.{Option, none, some}
+use mathlib.Core.Path.{_≡_}
+use mathlib.Core.Bool.{true, _&&_}
+use mathlib.Core.Option.{some}
 use mathlib.Core.List.{List, [], _∷_, map}
 use Prim.Native.Nat.{ℕ, zero, suc, _+_, _*_, _≤_, _<_}
 use native.Mathlib.Omega.{arith}
 use lib.Dec.{leb, ltb, eqb}
 use lib.ListN.{getD, take, drop}
 use borrow.Author.Tests.{leb-true, ltb-true}
-use Rattle.model.specs.Basic.{_>>=_, need, isIn, all}
+use Rattle.model.specs.Basic.{isIn, all}
 use Rattle.model.specs.Bytes.{words, pieces, lifted}
 use Rattle.model.specs.Footer.{Footer, empty, fixed, rules, changeIn, footerOf}
-use Rattle.model.specs.Tzif.{Header, headerOf, sizeOf, offsetIn, typeOk, rising, countsOk, zeroOr, Zone, Change, changesOf, lineOf, blockOf, zoneOf}
+use Rattle.model.specs.Tzif.{Header, headerOf, sizeOf, offsetIn, typeOk, rising, countsOk, zeroOr, Table, Zone, Change, changesOf, lineOf, tableIn, tableOf, zoneOf, greatestOffset, mostTypes, mostTransitions, typeSize, headerSize}
 use Rattle.model.specs.Zone.{utc, latest, ruledAt, offsetFrom, offsetAt, secondOf}
 use Rattle.laws_base.specs.Test.{by-test, and-both, in-bounds, all-head}
-use Rattle.laws_zone.specs.Sound.{Sound}
+use Rattle.laws_base.specs.Made.{Made, value, made, made-is, next, tested, anything}
+use Rattle.laws_zone.specs.Sound.{Sound, firstLocal}
 use Rattle.laws_zone.specs.Grammar.{OffsetFits, FooterFits, footer-fits}
 use Rattle.laws_zone.specs.Changes.{steady-same}
 use Rattle.laws_zone.specs.Resolve.{Resolves, by-near-offset, reads-if, second-means}
 
--- ---- a zone whose offsets lie from -93,599 s to 93,599 s and whose turns fit is sound
+-- ---- a zone whose offsets lie from -93,599 s to 93,599 s and whose changes fit is sound
 
 abbrev pub ChangesFit : List Change → Type 0
 ChangesFit [] = Unit {0}
@@ -47,7 +48,7 @@ module _ (z : Zone) (f : ZoneFits z) where
   unfolding offsetAt
   offset-fits u = from-fits (z .initial) (z .changes) (z .footer) u (f .initial-fits) (f .changes-fit) (f .footer-fits)
 
-  pub second-resolves : (l : ℕ) → 187200 ≤ l → Resolves (offsetAt z) l (secondOf z l)
+  pub second-resolves : (l : ℕ) → firstLocal ≤ l → Resolves (offsetAt z) l (secondOf z l)
   second-resolves l h = second-means z (f .footer-fits) (λ u. offset-fits u .0) (λ u. offset-fits u .1) l h
 
   pub fits-sound : Sound z
@@ -64,48 +65,24 @@ utc-sound = fits-sound utc (record { initial-fits = (omega arith, omega arith); 
 
 -- ---- what a usable file makes fits
 
--- what is made, if anything, has P
-data Made {A : Type 0} (P : A → Type 0) : Option A → Type 0 where
-  nothing : Made P none
-  value : {a : A} → P a → Made P (some a)
-
-made : {A : Type 0} {P : A → Type 0} (o : Option A) → ((a : A) → o ≡ some a → P a) → Made P o
-made none f = nothing
-made (some a) f = value (f a refl)
-
-made-is : {A : Type 0} {P : A → Type 0} (o : Option A) (a : A) → Made P o → o ≡ some a → P a
-made-is none a h e = absurd (let z : _≡_ {A = ℕ} 0 1 = cc in omega arith)
-made-is {P = P} (some b) a (value h) e = let p : b ≡ a = cc in subst P p h
-
--- one step behind another
-next : {A B : Type 0} {P : A → Type 0} {Q : B → Type 0} {f : A → Option B} (o : Option A) → Made P o → ((a : A) → P a → Made Q (f a)) → Made Q (o >>= f)
-next none h k = nothing
-next (some a) (value h) k = k a h
-
--- a step that passed a test
-tested : {B : Type 0} {Q : B → Type 0} {f : Unit {0} → Option B} (c : Bool) → ((u : Unit {0}) → c ≡ true → Made Q (f u)) → Made Q (need c >>= f)
-tested true k = k tt refl
-tested false k = nothing
-
-abbrev Any : {A : Type 0} → A → Type 0
-Any a = Unit {0}
-
-anything : {A : Type 0} (o : Option A) → Made Any o
-anything o = made o (λ _ _. tt)
+-- the offsets of a table are in bounds
+record TableFits (t : Table) : Type 0 where
+  initial-fits : OffsetFits (t .initial)
+  changes-fit : ChangesFit (t .changes)
 
 type-fits : (chars : ℕ) (t : List ℕ) → typeOk chars t ≡ true → OffsetFits (offsetIn t)
 unfolding typeOk
 type-fits chars t h =
     let o = offsetIn t in
-    let a = and-both (isIn 1 187199 o) (ltb (getD t 4 0) 2 && ltb (getD t 5 0) chars) h in
-    in-bounds 1 187199 o (a .0)
+    let a = and-both (isIn 1 greatestOffset o) (ltb (getD t 4 0) 2 && ltb (getD t 5 0) chars) h in
+    in-bounds 1 greatestOffset o (a .0)
 
 -- the offset of each type
-types-fit : (chars n k : ℕ) (b : List ℕ) → all (typeOk chars) (pieces 6 n b) ≡ true → k < n → OffsetFits (getD (map offsetIn (pieces 6 n b)) k 0)
+types-fit : (chars n k : ℕ) (b : List ℕ) → all (typeOk chars) (pieces typeSize n b) ≡ true → k < n → OffsetFits (getD (map offsetIn (pieces typeSize n b)) k 0)
 unfolding pieces
 types-fit chars zero k b h i = absurd (omega arith)
-types-fit chars (suc n) zero b h i = type-fits chars (take 6 b) (all-head (typeOk chars) (take 6 b) (pieces 6 n (drop 6 b)) h .0)
-types-fit chars (suc n) (suc k) b h i = types-fit chars n k (drop 6 b) (all-head (typeOk chars) (take 6 b) (pieces 6 n (drop 6 b)) h .1) (omega arith)
+types-fit chars (suc n) zero b h i = type-fits chars (take typeSize b) (all-head (typeOk chars) (take typeSize b) (pieces typeSize n (drop typeSize b)) h .0)
+types-fit chars (suc n) (suc k) b h i = types-fit chars n k (drop typeSize b) (all-head (typeOk chars) (take typeSize b) (pieces typeSize n (drop typeSize b)) h .1) (omega arith)
 
 changes-fit : (n : ℕ) (offs ts ks : List ℕ) → ((k : ℕ) → k < n → OffsetFits (getD offs k 0)) → all (λ k. ltb k n) ks ≡ true → ChangesFit (changesOf offs ts ks)
 unfolding changesOf
@@ -123,37 +100,43 @@ module _ (h : Header) (b : List ℕ) where
   kinds = take (h .times) (drop (h .times * 8) b)
 
   abbrev types : List (List ℕ)
-  types = pieces 6 (h .types) (drop (h .times * 9) b)
+  types = pieces typeSize (h .types) (drop (h .times * 9) b)
 
   abbrev marks : List ℕ
-  marks = take (h .stds + h .uts) (drop (h .times * 9 + h .types * 6 + h .chars) b)
+  marks = take (h .stds + h .uts) (drop (h .times * 9 + h .types * typeSize + h .chars) b)
 
   has-types : countsOk h ≡ true → 1 ≤ h .types
   unfolding countsOk
   has-types e =
-      let a = and-both (isIn 1 256 (h .types)) (leb (h .times) 2048 && (leb 1 (h .chars) && (eqb (h .leaps) 0 && (zeroOr (h .types) (h .stds) && zeroOr (h .types) (h .uts))))) e in
-      leb-true _ _ (and-both (leb 1 (h .types)) (leb (h .types) 256) (a .0) .0)
+      let a = and-both (isIn 1 mostTypes (h .types)) (leb (h .times) mostTransitions && (leb 1 (h .chars) && (eqb (h .leaps) 0 && (zeroOr (h .types) (h .stds) && zeroOr (h .types) (h .uts))))) e in
+      leb-true _ _ (and-both (leb 1 (h .types)) (leb (h .types) mostTypes) (a .0) .0)
 
-  block-fits : Made ZoneFits (blockOf h b)
-  unfolding blockOf
+  block-fits : Made TableFits (tableIn h b)
+  unfolding tableIn
   block-fits =
       tested (countsOk h) (λ _ counts.
       next (lineOf (drop (sizeOf 8 h) b)) (anything (lineOf (drop (sizeOf 8 h) b))) (λ line _.
       tested (rising times && (all (λ k. ltb k (h .types)) kinds && (all (typeOk (h .chars)) types && all (λ m. ltb m 2) marks))) (λ _ e.
-      next (footerOf line) (made (footerOf line) (footer-fits line)) (λ foot f.
       let ks = and-both (rising times) (all (λ k. ltb k (h .types)) kinds && (all (typeOk (h .chars)) types && all (λ m. ltb m 2) marks)) e in
       let ts = and-both (all (λ k. ltb k (h .types)) kinds) (all (typeOk (h .chars)) types && all (λ m. ltb m 2) marks) (ks .1) in
       let ms = and-both (all (typeOk (h .chars)) types) (all (λ m. ltb m 2) marks) (ts .1) in
       let fit : (k : ℕ) → k < h .types → OffsetFits (getD (map offsetIn types) k 0) = λ k i. types-fit (h .chars) (h .types) k (drop (h .times * 9) b) (ms .0) i in
-      value (record { initial-fits = fit 0 (has-types counts); changes-fit = changes-fit (h .types) (map offsetIn types) times kinds fit (ts .0); footer-fits = f })))))
+      value (record { initial-fits = fit 0 (has-types counts); changes-fit = changes-fit (h .types) (map offsetIn types) times kinds fit (ts .0) }))))
+
+table-fits : (f : List ℕ) → Made TableFits (tableOf f)
+unfolding tableOf
+table-fits f =
+    next (headerOf f) (anything (headerOf f)) (λ h _.
+    next (headerOf (drop (headerSize + sizeOf 4 h) f)) (anything (headerOf (drop (headerSize + sizeOf 4 h) f))) (λ k _.
+    tested (eqb (h .version) (k .version)) (λ _ _.
+    block-fits k (drop headerSize (drop (headerSize + sizeOf 4 h) f)))))
 
 file-fits : (f : List ℕ) → Made ZoneFits (zoneOf f)
 unfolding zoneOf
 file-fits f =
-    next (headerOf f) (anything (headerOf f)) (λ h _.
-    next (headerOf (drop (44 + sizeOf 4 h) f)) (anything (headerOf (drop (44 + sizeOf 4 h) f))) (λ k _.
-    tested (eqb (h .version) (k .version)) (λ _ _.
-    block-fits k (drop 44 (drop (44 + sizeOf 4 h) f)))))
+    next (tableOf f) (table-fits f) (λ t h.
+    next (footerOf (t .line)) (made (footerOf (t .line)) (footer-fits (t .line))) (λ foot k.
+    value (record { initial-fits = h .initial-fits; changes-fit = h .changes-fit; footer-fits = k })))
 
 pub zone-fits : (f : List ℕ) (z : Zone) → zoneOf f ≡ some z → ZoneFits z
 zone-fits f z e = made-is (zoneOf f) z (file-fits f) e

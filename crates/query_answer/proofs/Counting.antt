@@ -24,11 +24,11 @@ use Rattle.answer_line.specs.Placed.{Placed, exactly}
 use Rattle.query_line.specs.Reading.{queryIs}
 use Rattle.query_line.specs.declared.Query.{Query}
 use Rattle.query_line.specs.declared.Query.the-variants as Q
-use Rattle.schedule.specs.Answers.{timeIs, timeCount, movedIs, movedCount}
+use Rattle.schedule.specs.Answers.{timeIs, timeCount, moveIs, moveCount}
 use Rattle.schedule.specs.declared.TimeAnswer.{TimeAnswer}
 use Rattle.schedule.specs.declared.TimeAnswer.the-variants as T
-use Rattle.schedule.specs.declared.Moved.{Moved}
-use Rattle.schedule.specs.declared.Moved.the-variants as M
+use Rattle.schedule.specs.declared.MoveAnswer.{MoveAnswer}
+use Rattle.schedule.specs.declared.MoveAnswer.the-variants as M
 use Rattle.query_answer.specs.Answering.{timeText, movedText, isBad, Stands}
 
 -- an answer that is given tells its windows
@@ -71,7 +71,7 @@ time-text (T.Is s n c) _ (refused m p) e k = never (cc)
 time-text (T.Refused m p) _ (counted v w) e k = never (cc)
 time-text (T.Refused m p) _ (refused n q) e k = let f : m ≡ n = cc in let g : p ≡ q = cc in rw (f, g)
 
-moved-text : (r : Moved) (a : Answer Reply) → Counted a → movedIs r ≡ said a → Windows (movedCount r) a → movedText r ≡ printed leastOnly a
+moved-text : (r : MoveAnswer) (a : Answer Reply) → Counted a → moveIs r ≡ said a → Windows (moveCount r) a → movedText r ≡ printed leastOnly a
 unfolding printed
 moved-text (M.At s n c) _ (counted v w) e k = let f : v ≡ s ∷ n ∷ [] = cc in rw (f, ← k .least)
 moved-text (M.At s n c) _ (refused m p) e k = never (cc)
@@ -88,11 +88,11 @@ module _ {old new : List ℕ} {at e : ℕ} where
   pub time-refused : (r : TimeAnswer) (n p : ℕ) → r ≡ T.Refused n p → ((count : Count) → Placed old new at e (printed count (refuses n p))) → Placed old new at e (timeText r)
   time-refused r n p h q = rw h (q leastOnly)
 
-  pub moved-given : (r : Moved) (s n t m : ℤ) (c : ℕ) → r ≡ M.At s n c → t ≡ s → m ≡ n →
+  pub moved-given : (r : MoveAnswer) (s n t m : ℤ) (c : ℕ) → r ≡ M.At s n c → t ≡ s → m ≡ n →
       ((w : ℕ × ℕ) → Placed old new at e (printed (exactly c) (gives (record { values = t ∷ m ∷ []; windows = some w })))) → Placed old new at e (movedText r)
   moved-given r s n t m c h i j p = rw (h, ← i, ← j) (p (c, c))
 
-  pub moved-refused : (r : Moved) (n p : ℕ) → r ≡ M.Refused n p → ((count : Count) → Placed old new at e (printed count (refuses n p))) → Placed old new at e (movedText r)
+  pub moved-refused : (r : MoveAnswer) (n p : ℕ) → r ≡ M.Refused n p → ((count : Count) → Placed old new at e (printed count (refuses n p))) → Placed old new at e (movedText r)
   moved-refused r n p h q = rw h (q leastOnly)
 
   -- an answer of a period call
@@ -113,15 +113,15 @@ module _ {old new : List ℕ} {at e : ℕ} where
     line-between r a b c d a′ b′ c′ d′ h i j k l g p =
         rw (h, ← i, ← j, ← k, ← l, ← time-text r (betweenCall s a′ b′ c′ d′) (between-counted s a′ b′ c′ d′) (g .0) (g .1)) p
 
-    pub line-add : (r : Moved) (a b c d a′ b′ c′ d′ : ℤ) → q ≡ Q.Add a b c d → a′ ≡ a → b′ ≡ b → c′ ≡ c → d′ ≡ d →
-        (movedIs r ≡ said (moveCall on s a′ b′ c′ d′)) × Windows (movedCount r) (moveCall on s a′ b′ c′ d′) →
+    pub line-add : (r : MoveAnswer) (a b c d a′ b′ c′ d′ : ℤ) → q ≡ Q.Add a b c d → a′ ≡ a → b′ ≡ b → c′ ≡ c → d′ ≡ d →
+        (moveIs r ≡ said (moveCall on s a′ b′ c′ d′)) × Windows (moveCount r) (moveCall on s a′ b′ c′ d′) →
         Placed old new at e (movedText r) → Placed old new at e (replyIn leastOnly (gives s) (queryIs q))
     unfolding replyTo
     line-add r a b c d a′ b′ c′ d′ h i j k l g p =
         rw (h, ← i, ← j, ← k, ← l, ← moved-text r (moveCall on s a′ b′ c′ d′) (move-counted on s a′ b′ c′ d′) (g .0) (g .1)) p
 
-    pub line-sub : (r : Moved) (a b c d a′ b′ c′ d′ : ℤ) → q ≡ Q.Sub a b c d → a′ ≡ a → b′ ≡ b → c′ ≡ c → d′ ≡ d →
-        (movedIs r ≡ said (moveCall back s a′ b′ c′ d′)) × Windows (movedCount r) (moveCall back s a′ b′ c′ d′) →
+    pub line-sub : (r : MoveAnswer) (a b c d a′ b′ c′ d′ : ℤ) → q ≡ Q.Sub a b c d → a′ ≡ a → b′ ≡ b → c′ ≡ c → d′ ≡ d →
+        (moveIs r ≡ said (moveCall back s a′ b′ c′ d′)) × Windows (moveCount r) (moveCall back s a′ b′ c′ d′) →
         Placed old new at e (movedText r) → Placed old new at e (replyIn leastOnly (gives s) (queryIs q))
     unfolding replyTo
     line-sub r a b c d a′ b′ c′ d′ h i j k l g p =

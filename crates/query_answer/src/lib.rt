@@ -2,25 +2,22 @@
 ghost use mathlib.Core.Path.{_≡_};
 ghost use Prim.Native.Nat.{_+_, _≤_};
 ghost use lib.ListN.{length};
-ghost use Rattle.model.specs.Answer.{gives};
-ghost use Rattle.model.specs.Build as definition;
-ghost use Rattle.model.specs.Lines.{replyIn, leastOnly};
-ghost use Rattle.rule.specs.Rules.{scheduleIs, ScheduleFits};
-ghost use Rattle.query_line.specs.Reading.{queryIs};
-ghost use Rattle.answer_line.specs.Placed.{Placed};
-ghost use Rattle.query_answer.specs.Answering.{timeText, movedText, periodText, isBad, refusedText, Stands};
+ghost use Rattle.rule.specs.Rules.{ScheduleFits};
+ghost use Rattle.answer_line.specs.Placed.{longest, PlacedLine};
+ghost use Rattle.query_answer.specs.Answering.{timeText, movedText, periodText, isBad, refusedText, Stands, Answered, Replied};
 use build::Built;
 use query_line::Query;
 use rule::Schedule;
-use schedule::Moved;
+use schedule::MoveAnswer;
 use schedule::TimeAnswer;
 use schedule_periods::PeriodAnswer;
 
 // ---- the line of an answer
 
+// Writes the line of a working time.
 fn put_time(out: &mut [u8], at: usize, r: TimeAnswer) -> usize
-    requires { ⌜ at + 128 ≤ length (now out) ⌝ }
-    ensures { λ e. ⌜ Placed (now (out .entry)) (now (out .exit)) at e (timeText r) × (e ≤ at + 128) ⌝ }
+    requires { ⌜ at + longest ≤ length (now out) ⌝ }
+    ensures { λ e. ⌜ PlacedLine (now (out .entry)) (now (out .exit)) at e (timeText r) ⌝ }
 {
     match r {
         TimeAnswer::Is(sec, ns, windows) => answer_line::put_counted(out, at, sec, ns, windows),
@@ -33,13 +30,14 @@ fn put_time(out: &mut [u8], at: usize, r: TimeAnswer) -> usize
     }
 }
 
-fn put_moved(out: &mut [u8], at: usize, r: Moved) -> usize
-    requires { ⌜ at + 128 ≤ length (now out) ⌝ }
-    ensures { λ e. ⌜ Placed (now (out .entry)) (now (out .exit)) at e (movedText r) × (e ≤ at + 128) ⌝ }
+// Writes the line of an instant that was moved to.
+fn put_moved(out: &mut [u8], at: usize, r: MoveAnswer) -> usize
+    requires { ⌜ at + longest ≤ length (now out) ⌝ }
+    ensures { λ e. ⌜ PlacedLine (now (out .entry)) (now (out .exit)) at e (movedText r) ⌝ }
 {
     match r {
-        Moved::At(sec, ns, windows) => answer_line::put_counted(out, at, sec, ns, windows),
-        Moved::Refused(number, place) => answer_line::put_refused(
+        MoveAnswer::At(sec, ns, windows) => answer_line::put_counted(out, at, sec, ns, windows),
+        MoveAnswer::Refused(number, place) => answer_line::put_refused(
             out,
             at,
             number as u64,
@@ -48,9 +46,10 @@ fn put_moved(out: &mut [u8], at: usize, r: Moved) -> usize
     }
 }
 
+// Writes the line of a period.
 fn put_period(out: &mut [u8], at: usize, r: PeriodAnswer) -> usize
-    requires { ⌜ at + 128 ≤ length (now out) ⌝ }
-    ensures { λ e. ⌜ Placed (now (out .entry)) (now (out .exit)) at e (periodText r) × (e ≤ at + 128) ⌝ }
+    requires { ⌜ at + longest ≤ length (now out) ⌝ }
+    ensures { λ e. ⌜ PlacedLine (now (out .entry)) (now (out .exit)) at e (periodText r) ⌝ }
 {
     match r {
         PeriodAnswer::Is(a, b, c, d) => answer_line::put_period(out, at, a, b, c, d),
@@ -67,8 +66,8 @@ fn put_period(out: &mut [u8], at: usize, r: PeriodAnswer) -> usize
 
 // The answer of a schedule that was built.
 fn put_answer(book: &[u8], pack: &[u8], s: Schedule, q: Query, out: &mut [u8], at: usize) -> usize
-    requires { ⌜ ScheduleFits (now book) (now pack) s × (at + 128 ≤ length (now out)) ⌝ }
-    ensures { λ e. ⌜ Placed (now (out .entry)) (now (out .exit)) at e (replyIn leastOnly (gives (scheduleIs (now (book .entry)) (now (pack .entry)) s)) (queryIs q)) × (e ≤ at + 128) ⌝ }
+    requires { ⌜ ScheduleFits (now book) (now pack) s × (at + longest ≤ length (now out)) ⌝ }
+    ensures { λ e. ⌜ Answered (now (book .entry)) (now (pack .entry)) s q (now (out .entry)) (now (out .exit)) at e ⌝ }
 {
     match q {
         Query::Between(a, b, c, d) => {
@@ -95,6 +94,7 @@ fn put_answer(book: &[u8], pack: &[u8], s: Schedule, q: Query, out: &mut [u8], a
     }
 }
 
+// The line was no query.
 fn is_bad(q: Query) -> bool
     ensures { λ r. ⌜ r ≡ isBad q ⌝ }
 {
@@ -110,8 +110,8 @@ fn is_bad(q: Query) -> bool
 
 // The answer of a book that does not build: its refusal to every query.
 fn put_refusal(number: u64, place: u64, q: Query, out: &mut [u8], at: usize) -> usize
-    requires { ⌜ at + 128 ≤ length (now out) ⌝ }
-    ensures { λ e. ⌜ Placed (now (out .entry)) (now (out .exit)) at e (refusedText number place (queryIs q)) × (e ≤ at + 128) ⌝ }
+    requires { ⌜ at + longest ≤ length (now out) ⌝ }
+    ensures { λ e. ⌜ PlacedLine (now (out .entry)) (now (out .exit)) at e (refusedText number place q) ⌝ }
 {
     if is_bad(q) {
         return answer_line::put_bad(out, at);
@@ -121,8 +121,8 @@ fn put_refusal(number: u64, place: u64, q: Query, out: &mut [u8], at: usize) -> 
 
 // Writes the answer line of a query, from what `build` answered.
 pub fn answer(book: &[u8], pack: &[u8], b: Built, q: Query, out: &mut [u8], at: usize) -> usize
-    requires { ⌜ Stands (now book) (now pack) b × (at + 128 ≤ length (now out)) ⌝ }
-    ensures { λ e. ⌜ Placed (now (out .entry)) (now (out .exit)) at e (replyIn leastOnly (definition.build (now (book .entry)) (now (pack .entry))) (queryIs q)) × (e ≤ at + 128) ⌝ }
+    requires { ⌜ Stands (now book) (now pack) b × (at + longest ≤ length (now out)) ⌝ }
+    ensures { λ e. ⌜ Replied (now (book .entry)) (now (pack .entry)) q (now (out .entry)) (now (out .exit)) at e ⌝ }
 {
     if b.number == 0 {
         let s = b.schedule;

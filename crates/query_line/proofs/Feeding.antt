@@ -5,20 +5,17 @@ use mathlib.Core.Option.{Option, none, some}
 use mathlib.Core.List.{List, [], _∷_, _++_, append-assoc}
 use Prim.Native.Nat.{ℕ, zero, suc, _+_, _*_, _-_, _^_, _≤_, _<_}
 use native.Mathlib.Omega.{arith}
-use native.Mathlib.Numerals.{add-one}
 use lib.Dec.{leb, ltb, eqb}
-use lib.ListN.{length, getD, drop}
-use lib.Seq.{drop-cons}
-use lib.IntN.{ℤ, pos, negsuc}
+use lib.ListN.{length}
+use lib.IntN.{ℤ}
 use borrow.Author.Tests.{lt-ltb, le-leb, lt-leb, ne-eqb, leb-true, ltb-true, ltb-false}
 use Rattle.model.specs.Basic.{_>>=_, isIn, all, each}
 use Rattle.model.specs.Bytes.{numberFrom}
-use Rattle.model.specs.Instant.{signed}
 use Rattle.model.specs.Lines as model
 use Rattle.model.specs.Lines.{onFirst, fieldsOf, decimalFrom, magnitude, numberOf}
 use Rattle.laws_base.specs.Test.{by-test}
-use Rattle.instant_signed.specs.Signed.{unbiased, unbiased-low, unbiased-high}
-use Rattle.query_line.specs.Reading.{queryIs, wordOf, asked, limit, sized, fieldFrom, keyOf, doneOf, nameYet, restYet, yet, askFour, askTwo}
+use Rattle.instant_signed.specs.Signed.{unbiased, unbiased-less, unbiased-more}
+use Rattle.query_line.specs.Reading.{betweenNumber, addNumber, subNumber, nextNumber, previousNumber, queryIs, wordOf, asked, limit, sized, fieldFrom, keyOf, doneOf, nameYet, restYet, yet, askFour, askTwo}
 use Rattle.query_line.specs.declared.Query.the-variants as Q
 use Rattle.query_line.specs.declared.Word.{Word}
 use Rattle.query_line.specs.declared.Word.the-variants.{Between, Add, Sub, Next, Previous, Other}
@@ -76,10 +73,10 @@ unfolding wordOf
 word-long n w h =
     rw (ne-eqb n 7 (λ e. omega arith), ne-eqb n 3 (λ e. omega arith), ne-eqb n 4 (λ e. omega arith), ne-eqb n 8 (λ e. omega arith))
 
-word-large : (n w : ℕ) → 18446744073709551616 ≤ w → wordOf n w ≡ Other
+word-large : (n w : ℕ) → 2 ^ 64 ≤ w → wordOf n w ≡ Other
 unfolding wordOf
 word-large n w h =
-    rw (ne-eqb w 27696098611389806 (λ e. omega arith), ne-eqb w 6382692 (λ e. omega arith), ne-eqb w 7566690 (λ e. omega arith), ne-eqb w 1852143732 (λ e. omega arith), ne-eqb w 8102650238842402163 (λ e. omega arith))
+    rw (ne-eqb w betweenNumber (λ e. omega arith), ne-eqb w addNumber (λ e. omega arith), ne-eqb w subNumber (λ e. omega arith), ne-eqb w nextNumber (λ e. omega arith), ne-eqb w previousNumber (λ e. omega arith))
     (by-test (eqb n 7) (λ a. rw a)
     (λ a. rw a (by-test (eqb n 3) (λ b. rw b)
     (λ b. rw b (by-test (eqb n 4) (λ d. rw d) (λ d. rw d (by-test (eqb n 8) (λ e. rw e) (λ e. rw e))))))))
@@ -108,7 +105,7 @@ unfolding nameYet
 name-long n w c h (one f l) =
     sym (other-none (each numberOf l) (λ ns. ns) (wordOf (n + suc (length f)) (numberFrom w (c ∷ f))) (word-long (n + suc (length f)) (numberFrom w (c ∷ f)) (omega arith)))
 
-name-large : (n w c : ℕ) {ls : List (List ℕ)} → 72057594037927936 ≤ w → Some ls → none ≡ nameYet n w (onFirst c ls)
+name-large : (n w c : ℕ) {ls : List (List ℕ)} → 2 ^ 56 ≤ w → Some ls → none ≡ nameYet n w (onFirst c ls)
 unfolding nameYet numberFrom
 name-large n w c h (one f l) =
     let g : w * 256 + c ≤ numberFrom (w * 256 + c) f = number-grows (w * 256 + c) f in
@@ -129,7 +126,7 @@ module _ (n w c x : ℕ) (s : List ℕ) (same : x ≡ c) where
   unfolding yet
   name-too-long h k = rw (← same, at-other x s h) (name-long n w x k (has-field s))
 
-  pub name-too-large : (x ≡ 32 → ⊥) → 72057594037927936 ≤ w → yet Broken s ≡ yet (Name n w) (c ∷ s)
+  pub name-too-large : (x ≡ 32 → ⊥) → 2 ^ 56 ≤ w → yet Broken s ≡ yet (Name n w) (c ∷ s)
   unfolding yet
   name-too-large h k = rw (← same, at-other x s h) (name-large n w x k (has-field s))
 
@@ -145,16 +142,16 @@ and-no true true = refl
 and-no true false = refl
 and-no false b = refl
 
-at-most : (m : Bool) → limit m ≤ 9223372036854775808
+at-most : (m : Bool) → limit m ≤ 2 ^ 63
 at-most true = omega arith
 at-most false = omega arith
 
 -- digits that are too many
-too-large : (m d : Bool) (v : ℕ) (l : List ℕ) → 9223372036854775808 < v → sized m d v l ≡ none
+too-large : (m d : Bool) (v : ℕ) (l : List ℕ) → 2 ^ 63 < v → sized m d v l ≡ none
 unfolding sized
 too-large m d v l h =
     let g : v ≤ decimalFrom v l = decimal-grows v l in
-    let k : limit m ≤ 9223372036854775808 = at-most m in
+    let k : limit m ≤ 2 ^ 63 = at-most m in
     rw (lt-leb (decimalFrom v l) (limit m) (omega arith), and-no (d || ltb 0 (length l)) (all (isIn 48 57) l))
 
 or-more : (d : Bool) (n : ℕ) → (d || ltb 0 (suc n)) ≡ true
@@ -189,7 +186,7 @@ from-other m d v c l h = rw (ne-eqb c 45 h, and-no (not m) (not d))
 field-digit : (m d : Bool) (v c : ℕ) (l : List ℕ) → 48 ≤ c → c ≤ 57 → fieldFrom m d v (c ∷ l) ≡ fieldFrom m true (v * 10 + (c - 48)) l
 field-digit m d v c l h k = from-other m d v c l (λ e. omega arith) ∙ sized-digit m d v c l h k ∙ sym (from-digits m (v * 10 + (c - 48)) l)
 
-field-large : (m d : Bool) (v c : ℕ) (l : List ℕ) → 48 ≤ c → c ≤ 57 → 9223372036854775808 < v * 10 + (c - 48) → fieldFrom m d v (c ∷ l) ≡ none
+field-large : (m d : Bool) (v c : ℕ) (l : List ℕ) → 48 ≤ c → c ≤ 57 → 2 ^ 63 < v * 10 + (c - 48) → fieldFrom m d v (c ∷ l) ≡ none
 field-large m d v c l h k g = field-digit m d v c l h k ∙ from-digits m (v * 10 + (c - 48)) l ∙ too-large m true (v * 10 + (c - 48)) l g
 
 field-other : (m d : Bool) (v c : ℕ) (l : List ℕ) → (c ≡ 45 → ⊥) → isIn 48 57 c ≡ false → fieldFrom m d v (c ∷ l) ≡ none
@@ -212,13 +209,6 @@ minus-late m v l = from-digits m v (45 ∷ l) ∙ no-digit m true v 45 l refl
 abbrev pub keyIs : Key → Option ℤ
 keyIs (Is k) = some (unbiased k)
 keyIs Not = none
-
-unbiased-less : (v : ℕ) → v ≤ 2 ^ 63 → unbiased (2 ^ 63 - v) ≡ signed true v
-unbiased-less zero h = unbiased-high (2 ^ 63) (omega arith)
-unbiased-less (suc v) h = unbiased-low (2 ^ 63 - suc v) (omega arith) ∙ ap negsuc (omega arith)
-
-unbiased-more : (v : ℕ) → unbiased (2 ^ 63 + v) ≡ pos v
-unbiased-more v = unbiased-high (2 ^ 63 + v) (omega arith) ∙ ap pos (omega arith)
 
 pub key-is : (m d : Bool) (v : ℕ) → fieldFrom m d v [] ≡ keyIs (keyOf m d v)
 unfolding fieldFrom sized all decimalFrom keyOf
@@ -344,7 +334,7 @@ module _ (f : Fields) (s : List ℕ) where
       rw (at-other c s h)
       (rest-byte (f .word) (doneOf (f .count) (f .a) (f .b) (f .c)) (f .minus) (f .digits) m d (f .value) v c e (has-field s))
 
-  pub digit-large : (c : ℕ) → 48 ≤ c → c ≤ 57 → 9223372036854775808 < f .value * 10 + (c - 48) → yet Broken s ≡ yet (Rest f) (c ∷ s)
+  pub digit-large : (c : ℕ) → 48 ≤ c → c ≤ 57 → 2 ^ 63 < f .value * 10 + (c - 48) → yet Broken s ≡ yet (Rest f) (c ∷ s)
   digit-large c h k g = wrong c (λ e. omega arith) (λ l. field-large (f .minus) (f .digits) (f .value) c l h k g)
 
   pub digit-goes-on : (c : ℕ) → 48 ≤ c → c ≤ 57 →
@@ -480,11 +470,3 @@ module _ (word : Word) (a b : ℕ) {p q : ℤ} (i : p ≡ unbiased a) (j : q ≡
   pub two-previous : word ≡ Previous → Q.Previous p q ≡ askTwo word a b
   unfolding askTwo
   two-previous e = rw (e, i, j)
-
--- ---- a line in memory
-
-pub line-next : (l m : Line) (line : List ℕ) (i : ℕ) (q : Option model.Query) →
-    i < length line → ((s : List ℕ) → yet m s ≡ yet l (getD line i 0 ∷ s)) → yet l (drop i line) ≡ q → yet m (drop (i + 1) line) ≡ q
-line-next l m line i q h step known =
-    let d : drop i line ≡ getD line i 0 ∷ drop (i + 1) line = drop-cons line i 0 h ∙ rw (add-one i) in
-    step (drop (i + 1) line) ∙ ap (yet l) (sym d) ∙ known

@@ -3,10 +3,10 @@ use mathlib.Core.Path.{_≡_, refl, sym, ap, _∙_}
 use mathlib.Core.Bool.{true, false, _&&_}
 use mathlib.Core.Option.{Option, none, some}
 use mathlib.Core.List.{List, [], _∷_}
-use Prim.Native.Nat.{ℕ, suc, _+_, _*_, _<_}
+use Prim.Native.Nat.{ℕ, _+_, _*_, _<_}
 use native.Mathlib.Omega.{arith}
 use lib.Dec.{ltb, eqb, eqb→eq}
-use lib.ListN.{length, getD}
+use lib.ListN.{length}
 use lib.IntN.{ℤ}
 use borrow.Author.Tests.{eq-eqb, ltb-true}
 use Rattle.model.specs.Basic.{if_then_else_, _>>=_, all, each, sameList}
@@ -15,14 +15,10 @@ use Rattle.model.specs.Walk.{on, back}
 use Rattle.model.specs.Lines as model
 use Rattle.model.specs.Lines.{onFirst, fieldsOf, numberOf, fourOf, twoOf, queryIn, queryOf, askBetween, askMove, askPeriod}
 use Rattle.laws_base.specs.Test.{by-test, clash, test-of, and-both}
-use Rattle.query_line.specs.Reading.{Bytes, wordOf, asked, nameYet, yet}
+use Rattle.query_line.specs.Reading.{betweenNumber, addNumber, subNumber, nextNumber, previousNumber, Bytes, wordOf, asked, nameYet, yet}
 use Rattle.query_line.specs.declared.Line.the-variants.{Name}
 
 -- ---- bytes
-
-pub bytes-at : (s : List ℕ) → ((k : ℕ) → getD s k 0 < 256) → Bytes s
-bytes-at [] h = tt
-bytes-at (c ∷ s) h = (h 0, bytes-at s (λ k. h (suc k)))
 
 all-bytes : (s : List ℕ) → all (λ c. ltb c 256) s ≡ true → Bytes s
 unfolding all
@@ -89,29 +85,29 @@ same-is a b p q =
 -- the query of a word by its length and its number
 byNumber : ℕ → ℕ → List ℤ → Option model.Query
 byNumber n w ns =
-    if (eqb n 7 && eqb w 27696098611389806) then fourOf askBetween ns else
-    if (eqb n 3 && eqb w 6382692) then fourOf (askMove on) ns else
-    if (eqb n 3 && eqb w 7566690) then fourOf (askMove back) ns else
-    if (eqb n 4 && eqb w 1852143732) then twoOf (askPeriod on) ns else
-    if (eqb n 8 && eqb w 8102650238842402163) then twoOf (askPeriod back) ns else none
+    if (eqb n 7 && eqb w betweenNumber) then fourOf askBetween ns else
+    if (eqb n 3 && eqb w addNumber) then fourOf (askMove on) ns else
+    if (eqb n 3 && eqb w subNumber) then fourOf (askMove back) ns else
+    if (eqb n 4 && eqb w nextNumber) then twoOf (askPeriod on) ns else
+    if (eqb n 8 && eqb w previousNumber) then twoOf (askPeriod back) ns else none
 
 number-asked : (n w : ℕ) (ns : List ℤ) → asked (wordOf n w) ns ≡ byNumber n w ns
 unfolding asked wordOf byNumber
 number-asked n w ns =
     by-test (eqb n 7)
-    (λ e. let h : n ≡ 7 = eqb→eq n 7 (test-of (eqb n 7) e) in rw h (by-test (eqb w 27696098611389806) (λ t. rw t) (λ t. rw t)))
+    (λ e. let h : n ≡ 7 = eqb→eq n 7 (test-of (eqb n 7) e) in rw h (by-test (eqb w betweenNumber) (λ t. rw t) (λ t. rw t)))
     (λ e.
     rw e
     (by-test (eqb n 3)
-    (λ e. let h : n ≡ 3 = eqb→eq n 3 (test-of (eqb n 3) e) in rw h (by-test (eqb w 6382692) (λ t. rw t) (λ t. rw t (by-test (eqb w 7566690) (λ u. rw u) (λ u. rw u)))))
+    (λ e. let h : n ≡ 3 = eqb→eq n 3 (test-of (eqb n 3) e) in rw h (by-test (eqb w addNumber) (λ t. rw t) (λ t. rw t (by-test (eqb w subNumber) (λ u. rw u) (λ u. rw u)))))
     (λ e.
     rw e
     (by-test (eqb n 4)
-    (λ e. let h : n ≡ 4 = eqb→eq n 4 (test-of (eqb n 4) e) in rw h (by-test (eqb w 1852143732) (λ t. rw t) (λ t. rw t)))
+    (λ e. let h : n ≡ 4 = eqb→eq n 4 (test-of (eqb n 4) e) in rw h (by-test (eqb w nextNumber) (λ t. rw t) (λ t. rw t)))
     (λ e.
     rw e
     (by-test (eqb n 8)
-    (λ e. rw e (by-test (eqb w 8102650238842402163) (λ t. rw t) (λ t. rw t)))
+    (λ e. rw e (by-test (eqb w previousNumber) (λ t. rw t) (λ t. rw t)))
     (λ e. rw e)))))))
 
 -- and by its bytes
@@ -124,23 +120,23 @@ byBytes w ns =
     if sameList w (text "previous") then twoOf (askPeriod back) ns else none
 
 module _ (f : List ℕ) (p : Bytes f) where
-  is-between : sameList f (text "between") ≡ (eqb (length f) 7 && eqb (numberFrom 0 f) 27696098611389806)
+  is-between : sameList f (text "between") ≡ (eqb (length f) 7 && eqb (numberFrom 0 f) betweenNumber)
   unfolding text numberFrom all
   is-between = same-is f (text "between") p (all-bytes (text "between") refl)
 
-  is-add : sameList f (text "add") ≡ (eqb (length f) 3 && eqb (numberFrom 0 f) 6382692)
+  is-add : sameList f (text "add") ≡ (eqb (length f) 3 && eqb (numberFrom 0 f) addNumber)
   unfolding text numberFrom all
   is-add = same-is f (text "add") p (all-bytes (text "add") refl)
 
-  is-sub : sameList f (text "sub") ≡ (eqb (length f) 3 && eqb (numberFrom 0 f) 7566690)
+  is-sub : sameList f (text "sub") ≡ (eqb (length f) 3 && eqb (numberFrom 0 f) subNumber)
   unfolding text numberFrom all
   is-sub = same-is f (text "sub") p (all-bytes (text "sub") refl)
 
-  is-next : sameList f (text "next") ≡ (eqb (length f) 4 && eqb (numberFrom 0 f) 1852143732)
+  is-next : sameList f (text "next") ≡ (eqb (length f) 4 && eqb (numberFrom 0 f) nextNumber)
   unfolding text numberFrom all
   is-next = same-is f (text "next") p (all-bytes (text "next") refl)
 
-  is-previous : sameList f (text "previous") ≡ (eqb (length f) 8 && eqb (numberFrom 0 f) 8102650238842402163)
+  is-previous : sameList f (text "previous") ≡ (eqb (length f) 8 && eqb (numberFrom 0 f) previousNumber)
   unfolding text numberFrom all
   is-previous = same-is f (text "previous") p (all-bytes (text "previous") refl)
 

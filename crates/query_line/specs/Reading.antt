@@ -2,7 +2,7 @@
 use mathlib.Core.Bool.{Bool, true, false, not, _&&_, _||_}
 use mathlib.Core.Option.{Option, none, some}
 use mathlib.Core.List.{List, [], _∷_, _++_}
-use Prim.Native.Nat.{ℕ, zero, suc, _+_, _-_, _^_, _<_}
+use Prim.Native.Nat.{ℕ, zero, suc, _+_, _-_, _^_, _≤_, _<_}
 use lib.Dec.{leb, ltb, eqb}
 use lib.ListN.{length}
 use lib.IntN.{ℤ}
@@ -22,6 +22,39 @@ use Rattle.query_line.specs.declared.Line.the-variants.{Name, Rest, Brok
 use Rattle.query_line.specs.declared.Key.{Key}
 use Rattle.query_line.specs.declared.Key.the-variants.{Is, Not}
 
+-- the bytes that mean something in a line
+abbrev pub space : ℕ
+space = 32
+
+abbrev pub minusSign : ℕ
+minusSign = 45
+
+abbrev pub zeroDigit : ℕ
+zeroDigit = 48
+
+abbrev pub nineDigit : ℕ
+nineDigit = 57
+
+-- a byte that is a digit
+abbrev pub IsDigit : ℕ → Type 0
+IsDigit x = (zeroDigit ≤ x) × (x ≤ nineDigit)
+
+-- the words of queries as the numbers that their bytes write, big-endian
+abbrev pub betweenNumber : ℕ
+betweenNumber = 27696098611389806
+
+abbrev pub addNumber : ℕ
+addNumber = 6382692
+
+abbrev pub subNumber : ℕ
+subNumber = 7566690
+
+abbrev pub nextNumber : ℕ
+nextNumber = 1852143732
+
+abbrev pub previousNumber : ℕ
+previousNumber = 8102650238842402163
+
 -- each is a byte
 abbrev pub Bytes : List ℕ → Type 0
 Bytes [] = Unit {0}
@@ -39,10 +72,10 @@ queryIs Q.Bad = none
 -- the word of n bytes that write w, big-endian
 unfoldable pub wordOf : ℕ → ℕ → Word
 wordOf n w =
-    if eqb n 7 then (if eqb w 27696098611389806 then Between else Other) else
-    if eqb n 3 then (if eqb w 6382692 then Add else if eqb w 7566690 then Sub else Other) else
-    if eqb n 4 then (if eqb w 1852143732 then Next else Other) else
-    if eqb n 8 then (if eqb w 8102650238842402163 then Previous else Other) else Other
+    if eqb n 7 then (if eqb w betweenNumber then Between else Other) else
+    if eqb n 3 then (if eqb w addNumber then Add else if eqb w subNumber then Sub else Other) else
+    if eqb n 4 then (if eqb w nextNumber then Next else Other) else
+    if eqb n 8 then (if eqb w previousNumber then Previous else Other) else Other
 
 -- the query of a word and all its numbers
 unfoldable pub asked : Word → List ℤ → Option model.Query
@@ -61,13 +94,13 @@ limit minus = if minus then 2 ^ 63 else 2 ^ 63 - 1
 unfoldable pub sized : Bool → Bool → ℕ → List ℕ → Option ℤ
 sized minus digits v s =
     let n = decimalFrom v s in
-    given ((digits || ltb 0 (length s)) && (all (isIn 48 57) s && leb n (limit minus))) (signed minus n)
+    given ((digits || ltb 0 (length s)) && (all (isIn zeroDigit nineDigit) s && leb n (limit minus))) (signed minus n)
 
 -- the same where the sign may still come
 unfoldable pub fieldFrom : Bool → Bool → ℕ → List ℕ → Option ℤ
 fieldFrom minus digits v [] = sized minus digits v []
 fieldFrom minus digits v (c ∷ s) =
-    if (not minus && (not digits && eqb c 45)) then sized true false v s else sized minus digits v (c ∷ s)
+    if (not minus && (not digits && eqb c minusSign)) then sized true false v s else sized minus digits v (c ∷ s)
 
 -- the number, with 2^63 added, of a field that has ended
 unfoldable pub keyOf : Bool → Bool → ℕ → Key

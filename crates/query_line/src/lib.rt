@@ -1,10 +1,40 @@
 // Query lines, read byte by byte. A number may have any number of zeros in front, so a line may have any length; what is kept of it does not grow.
-// `start`, then `fed` for each byte but the newline, then `finish`. `parse` does this for a line that lies in memory.
+// `start`, then `fed` for each byte but the newline, then `finish`.
 ghost use mathlib.Core.Path.{_≡_};
 ghost use mathlib.Core.List.{List, [], _∷_};
-ghost use Prim.Native.Nat.{ℕ, _≤_, _<_};
+ghost use Prim.Native.Nat.{ℕ, _<_};
 ghost use Rattle.model.specs.Lines.{queryOf};
-ghost use Rattle.query_line.specs.Reading.{Bytes, wordOf, keyOf, askFour, askTwo, yet, queryIs};
+ghost use Rattle.query_line.specs.Reading.{Bytes, wordOf, keyOf, askFour, askTwo, yet, queryIs, IsDigit, space, minusSign};
+use instant_signed::HALF;
+
+// The bytes of a line that mean something.
+const SPACE: u64 = 32;
+
+const MINUS: u64 = 45;
+
+const ZERO: u64 = 48;
+
+const NINE: u64 = 57;
+
+// The words of queries as numbers: those that their bytes write, big-endian.
+const BETWEEN: u64 = 27696098611389806;
+
+const ADD: u64 = 6382692;
+
+const SUB: u64 = 7566690;
+
+const NEXT: u64 = 1852143732;
+
+const PREVIOUS: u64 = 8102650238842402163;
+
+// The bytes of the longest word, `previous`.
+const LONGEST_WORD: u64 = 8;
+
+// The number of a word stays below 2^64 with one byte more where it is less than this.
+const BYTE_FITS: u64 = 72057594037927936;
+
+// A number up to this one has at most 2^63 + 1 with one digit more.
+const DIGIT_FITS: u64 = HALF / 10;
 
 // A query, with its fields in their order.
 pub enum Query {
@@ -60,28 +90,28 @@ fn word_of(n: u64, w: u64) -> Word
     ensures { λ r. ⌜ r ≡ wordOf n w ⌝ }
 {
     if n == 7 {
-        if w == 27696098611389806 {
+        if w == BETWEEN {
             return Word::Between;
         }
         return Word::Other;
     }
     if n == 3 {
-        if w == 6382692 {
+        if w == ADD {
             return Word::Add;
         }
-        if w == 7566690 {
+        if w == SUB {
             return Word::Sub;
         }
         return Word::Other;
     }
     if n == 4 {
-        if w == 1852143732 {
+        if w == NEXT {
             return Word::Next;
         }
         return Word::Other;
     }
-    if n == 8 {
-        if w == 8102650238842402163 {
+    if n == LONGEST_WORD {
+        if w == PREVIOUS {
             return Word::Previous;
         }
         return Word::Other;
@@ -97,15 +127,15 @@ fn key_of(minus: bool, digits: bool, value: u64) -> Key
         return Key::Not; // nothing, or a sign alone
     }
     if minus {
-        if value > 9223372036854775808 {
+        if value > HALF {
             return Key::Not;
         }
-        return Key::Is(9223372036854775808 - value);
+        return Key::Is(HALF - value);
     }
-    if value >= 9223372036854775808 {
+    if value >= HALF {
         return Key::Not;
     }
-    Key::Is(9223372036854775808 + value)
+    Key::Is(HALF + value)
 }
 
 // A byte of the first word, or the space behind it.
@@ -113,7 +143,7 @@ fn name_fed(n: u64, w: u64, byte: u8) -> Line
     ensures { λ r. ⌜ ((s : List ℕ) → yet r s ≡ yet (Line.Name n w) (byte ∷ s)) ⌝ }
 {
     let x = number::byte_to_u64(byte);
-    if x == 32 {
+    if x == SPACE {
         let word = word_of(n, w);
         return Line::Rest(Fields {
             word,
@@ -126,10 +156,10 @@ fn name_fed(n: u64, w: u64, byte: u8) -> Line
             value: 0,
         });
     }
-    if n >= 8 {
+    if n >= LONGEST_WORD {
         return Line::Broken;
     }
-    if w >= 72057594037927936 {
+    if w >= BYTE_FITS {
         return Line::Broken;
     }
     Line::Name(n + 1, w * 256 + x)
@@ -137,7 +167,7 @@ fn name_fed(n: u64, w: u64, byte: u8) -> Line
 
 // The space behind a number.
 fn spaced(f: Fields) -> Line
-    ensures { λ r. ⌜ ((s : List ℕ) → yet r s ≡ yet (Line.Rest f) (32 ∷ s)) ⌝ }
+    ensures { λ r. ⌜ ((s : List ℕ) → yet r s ≡ yet (Line.Rest f) (space ∷ s)) ⌝ }
 {
     let Key::Is(k) = key_of(f.minus, f.digits, f.value) else {
         return Line::Broken;
@@ -160,14 +190,14 @@ fn spaced(f: Fields) -> Line
 
 // A digit of a number.
 fn digit(f: Fields, x: u64) -> Line
-    requires { ⌜ (48 ≤ x) × (x ≤ 57) ⌝ }
+    requires { ⌜ IsDigit x ⌝ }
     ensures { λ r. ⌜ ((s : List ℕ) → yet r s ≡ yet (Line.Rest f) (x ∷ s)) ⌝ }
 {
-    if f.value > 922337203685477580 {
+    if f.value > DIGIT_FITS {
         return Line::Broken;
     }
-    let value = f.value * 10 + (x - 48);
-    if value > 9223372036854775808 {
+    let value = f.value * 10 + (x - ZERO);
+    if value > HALF {
         return Line::Broken;
     }
     let word = f.word;
@@ -185,7 +215,7 @@ fn digit(f: Fields, x: u64) -> Line
 
 // A minus sign: only the first byte of a field may be one.
 fn signed(f: Fields) -> Line
-    ensures { λ r. ⌜ ((s : List ℕ) → yet r s ≡ yet (Line.Rest f) (45 ∷ s)) ⌝ }
+    ensures { λ r. ⌜ ((s : List ℕ) → yet r s ≡ yet (Line.Rest f) (minusSign ∷ s)) ⌝ }
 {
     if f.minus {
         return Line::Broken;
@@ -211,16 +241,16 @@ fn rest_fed(f: Fields, byte: u8) -> Line
     ensures { λ r. ⌜ ((s : List ℕ) → yet r s ≡ yet (Line.Rest f) (byte ∷ s)) ⌝ }
 {
     let x = number::byte_to_u64(byte);
-    if x == 32 {
+    if x == SPACE {
         return spaced(f);
     }
-    if x == 45 {
+    if x == MINUS {
         return signed(f);
     }
-    if x < 48 {
+    if x < ZERO {
         return Line::Broken;
     }
-    if x > 57 {
+    if x > NINE {
         return Line::Broken;
     }
     digit(f, x)

@@ -11,9 +11,9 @@ use lib.Seq.{drop-cons}
 use Rattle.model.specs.Answer.{Answer}
 use Rattle.model.specs.Working.{Schedule}
 use Rattle.query_line.specs.Reading.{Bytes}
-use Rattle.answer_line.specs.Placed.{Placed}
+use Rattle.answer_line.specs.Placed.{longest, Placed}
 use Rattle.answer_line.proofs.Placing.{placed-more}
-use Rattle.query_stream.specs.Streaming.{toCome, Turned, Fed}
+use Rattle.query_stream.specs.Streaming.{newline, toCome, Turned, Fed}
 use Rattle.query_stream.specs.declared.Progress.{Progress}
 use Rattle.query_stream.proofs.Lines.{placed-none}
 
@@ -61,7 +61,7 @@ module _ (a : Answer Schedule) (input old : List ℕ) (p : Progress) where
         first = λ e. refl;
       }
 
-  pub going-on : (new last : List ℕ) (r q : Progress) (i : ℕ) → p .used ≤ length old → Bytes input → i < length input → r .used + 128 ≤ length old →
+  pub going-on : (new last : List ℕ) (r q : Progress) (i : ℕ) → p .used ≤ length old → Bytes input → i < length input → r .used + longest ≤ length old →
       Going a input old new p r i → Turned a new last r (getD input i 0) q → length last ≡ length new → Going a input old last p q (i + 1)
   going-on new last r q i from b h room g u l =
       record {
@@ -81,7 +81,12 @@ module _ (a : Answer Schedule) (input old : List ℕ) (p : Progress) where
         first = λ e. absurd (omega (arith, g .since));
       }
 
-  fed : (new : List ℕ) (r : Progress) (i : ℕ) → (p .used + 128 ≤ length old → p .next < length input → p .next < r .next) → Going a input old new p r i → Fed a input old new p r
+  -- the byte is a newline
+  pub going-line : (new last : List ℕ) (r q : Progress) (i : ℕ) → p .used ≤ length old → Bytes input → i < length input → r .used + longest ≤ length old →
+      Going a input old new p r i → getD input i 0 ≡ newline → Turned a new last r newline q → length last ≡ length new → Going a input old last p q (i + 1)
+  going-line new last r q i from b h room g e u l = going-on new last r q i from b h room g (rw e u) l
+
+  fed : (new : List ℕ) (r : Progress) (i : ℕ) → (p .used + longest ≤ length old → p .next < length input → p .next < r .next) → Going a input old new p r i → Fed a input old new p r
   fed new r i h g =
       record {
         text = g .text;
@@ -92,10 +97,10 @@ module _ (a : Answer Schedule) (input old : List ℕ) (p : Progress) where
         onward = h;
       }
 
-  pub going-full : (new : List ℕ) (r : Progress) (i : ℕ) → length new - r .used < 128 → Going a input old new p r i → Fed a input old new p r
+  pub going-full : (new : List ℕ) (r : Progress) (i : ℕ) → length new - r .used < longest → Going a input old new p r i → Fed a input old new p r
   going-full new r i h g = fed new r i (λ j k. later j (decLe i (p .next))) g
     where
-      later : p .used + 128 ≤ length old → Dec (i ≤ p .next) → p .next < r .next
+      later : p .used + longest ≤ length old → Dec (i ≤ p .next) → p .next < r .next
       later j (yes e) = let f : r .used ≡ p .used = g .first (le-antisymm e (g .since)) in absurd (omega (arith, g .kept, g .used))
       later j (no e) = omega (arith, g .here)
 

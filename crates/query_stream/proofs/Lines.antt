@@ -1,5 +1,5 @@
 -- How the text still to come goes on by one byte.
-use mathlib.Core.Path.{_≡_, refl, sym, ap, _∙_}
+use mathlib.Core.Path.{_≡_, refl, _∙_}
 use mathlib.Core.Bool.{Bool, true, false}
 use mathlib.Core.Option.{Option}
 use mathlib.Core.List.{List, [], _∷_, _++_, map, append-nil}
@@ -16,7 +16,7 @@ use Rattle.laws_base.specs.Test.{by-test}
 use Rattle.query_line.specs.Reading.{Bytes, yet}
 use Rattle.query_line.specs.declared.Line.{Line}
 use Rattle.answer_line.specs.Placed.{Placed}
-use Rattle.query_stream.specs.Streaming.{outYet}
+use Rattle.query_stream.specs.Streaming.{outYet, newline}
 
 -- ---- lines of bytes
 
@@ -31,15 +31,15 @@ firsts-more c (l ∷ ls) h g = (h, g)
 firsts : (s : List ℕ) → Bytes s → Firsts (linesOf s)
 unfolding linesOf
 firsts [] h = tt
-firsts (c ∷ s) h = by-test (eqb c 10) (λ e. rw e tt) (λ e. rw e (firsts-more c (linesOf s) (h .0) (firsts s (h .1))))
+firsts (c ∷ s) h = by-test (eqb c newline) (λ e. rw e tt) (λ e. rw e (firsts-more c (linesOf s) (h .0) (firsts s (h .1))))
 
-at-newline : (s : List ℕ) → linesOf (10 ∷ s) ≡ [] ∷ linesOf s
+at-newline : (s : List ℕ) → linesOf (newline ∷ s) ≡ [] ∷ linesOf s
 unfolding linesOf
 at-newline s = refl
 
-at-other : (c : ℕ) (s : List ℕ) → (c ≡ 10 → ⊥) → linesOf (c ∷ s) ≡ onFirst c (linesOf s)
+at-other : (c : ℕ) (s : List ℕ) → (c ≡ newline → ⊥) → linesOf (c ∷ s) ≡ onFirst c (linesOf s)
 unfolding linesOf
-at-other c s h = rw (ne-eqb c 10 h)
+at-other c s h = rw (ne-eqb c newline h)
 
 -- a line of which nothing is read
 abbrev pub Fresh : Line → Type 0
@@ -77,11 +77,11 @@ module _ (a : Answer Schedule) where
   more l m true c h (k ∷ ls) = rw (h k)
   more l m false c h (k ∷ ls) = rw (h k)
 
-  pub newline : (l m : Line) (begun : Bool) (c : ℕ) (q : Option Query) → c ≡ 10 → Fresh m → q ≡ yet l [] → (t : List ℕ) → Bytes t →
-      replyIn leastOnly a q ++ outYet a m false (linesOf t) ≡ outYet a l begun (linesOf (c ∷ t))
-  newline l m begun c q n h f t g = rw (n, at-newline t, f, from-fresh m h (linesOf t) (firsts t g), ended l begun (linesOf t))
+  pub line-ended : (l m : Line) (begun : Bool) (q : Option Query) → Fresh m → q ≡ yet l [] → (t : List ℕ) → Bytes t →
+      replyIn leastOnly a q ++ outYet a m false (linesOf t) ≡ outYet a l begun (linesOf (newline ∷ t))
+  line-ended l m begun q h f t g = rw (at-newline t, f, from-fresh m h (linesOf t) (firsts t g), ended l begun (linesOf t))
 
-  pub goes-on : (l m : Line) (begun : Bool) (c : ℕ) → (c ≡ 10 → ⊥) → ((s : List ℕ) → yet m s ≡ yet l (c ∷ s)) → (t : List ℕ) →
+  pub goes-on : (l m : Line) (begun : Bool) (c : ℕ) → (c ≡ newline → ⊥) → ((s : List ℕ) → yet m s ≡ yet l (c ∷ s)) → (t : List ℕ) →
       outYet a m true (linesOf t) ≡ outYet a l begun (linesOf (c ∷ t))
   goes-on l m begun c n h t = more l m begun c h (linesOf t) ∙ rw (at-other c t n)
 

@@ -2,17 +2,12 @@
 // grow: `begin`, then `feed` until each piece is used up, then `end`. `outYet` is the text of answers that is still to come; each call writes
 // the front of it, so that all pieces together are `answered` of the definitions.
 ghost use mathlib.Core.Path.{_≡_};
-ghost use mathlib.Core.List.{List, []};
-ghost use Prim.Native.Nat.{ℕ, _+_, _≤_, _<_};
+ghost use Prim.Native.Nat.{_-_, _^_, _≤_, _<_};
 ghost use lib.ListN.{length};
-ghost use Rattle.model.specs.Answer.{Answer};
-ghost use Rattle.model.specs.Working.{Schedule};
-ghost use Rattle.model.specs.Build as definition;
-ghost use Rattle.model.specs.Lines.{linesOf, answered, leastOnly};
-ghost use Rattle.query_line.specs.Reading.{Bytes};
-ghost use Rattle.answer_line.specs.Placed.{Placed};
+ghost use Rattle.answer_line.specs.Placed.{longest};
 ghost use Rattle.query_answer.specs.Answering.{Stands};
-ghost use Rattle.query_stream.specs.Streaming.{outYet, Turned, Fed};
+ghost use Rattle.query_stream.specs.Streaming.{newline, Begun, HasRoom, LineEnded, LineGoesOn, FedBy, Ended};
+use answer_line::LONGEST;
 use build::Built;
 use query_line::Line;
 
@@ -26,7 +21,7 @@ pub struct Progress {
 
 // Nothing is read yet.
 pub fn begin() -> Progress
-    ensures { λ r. ⌜ ((s : List ℕ) (a : Answer Schedule) → Bytes s → outYet a (r .line) (r .begun) (linesOf s) ≡ answered leastOnly a s) × ((r .next ≡ 0) × (r .used ≡ 0)) ⌝ }
+    ensures { λ r. ⌜ Begun r ⌝ }
 {
     Progress {
         line: query_line::start(),
@@ -36,21 +31,26 @@ pub fn begin() -> Progress
     }
 }
 
-// Reads one byte. A newline ends the line at hand, and its answer is written.
-fn turn(book: &[u8], pack: &[u8], b: Built, p: Progress, byte: u8, out: &mut [u8]) -> Progress
-    requires { ⌜ Stands (now book) (now pack) b × ((p .used + 128 ≤ length (now out)) × (p .next < 18446744073709551615)) ⌝ }
-    ensures { λ r. ⌜ Turned (definition.build (now (book .entry)) (now (pack .entry))) (now (out .entry)) (now (out .exit)) p byte r ⌝ }
+// Reads a newline: it ends the line at hand, whose answer is written.
+fn end_line(book: &[u8], pack: &[u8], b: Built, p: Progress, out: &mut [u8]) -> Progress
+    requires { ⌜ Stands (now book) (now pack) b × HasRoom p (now out) ⌝ }
+    ensures { λ r. ⌜ LineEnded (now (book .entry)) (now (pack .entry)) (now (out .entry)) (now (out .exit)) p r ⌝ }
 {
-    if byte == 10 {
-        let line = p.line;
-        let used = query_answer::answer(book, pack, b, query_line::finish(line), out, p.used);
-        return Progress {
-            line: query_line::start(),
-            begun: false,
-            next: p.next + 1,
-            used,
-        };
+    let line = p.line;
+    let used = query_answer::answer(book, pack, b, query_line::finish(line), out, p.used);
+    Progress {
+        line: query_line::start(),
+        begun: false,
+        next: p.next + 1,
+        used,
     }
+}
+
+// Reads a byte that ends no line.
+fn read_byte(p: Progress, byte: u8) -> Progress
+    requires { ⌜ (byte ≡ newline → ⊥) × (p .next < 2 ^ 64 - 1) ⌝ }
+    ensures { λ r. ⌜ LineGoesOn p byte r ⌝ }
+{
     let line = p.line;
     Progress {
         line: query_line::fed(line, byte),
@@ -70,24 +70,29 @@ pub fn feed(
     out: &mut [u8],
 ) -> Progress
     requires { ⌜ Stands (now book) (now pack) b × ((p .used ≤ length (now out)) × (p .next ≤ length (now input))) ⌝ }
-    ensures { λ r. ⌜ Fed (definition.build (now (book .entry)) (now (pack .entry))) (now (input .entry)) (now (out .entry)) (now (out .exit)) p r ⌝ }
+    ensures { λ r. ⌜ FedBy (book .entry) (pack .entry) (input .entry) (out .entry) (out .exit) p r ⌝ }
 {
     let mut r = p;
     let mut i = p.next;
     while i < input.len() {
-        if out.len() - r.used < 128 {
+        if out.len() - r.used < LONGEST {
             return r;
         }
-        r = turn(book, pack, b, r, input[i], out);
+        let byte = input[i];
         i += 1;
+        if byte == b'\n' {
+            r = end_line(book, pack, b, r, out);
+        } else {
+            r = read_byte(r, byte);
+        }
     }
     r
 }
 
 // The input ends: a last line without a newline counts. Writes its answer at the start of `out`; no other byte changes.
 pub fn end(book: &[u8], pack: &[u8], b: Built, p: Progress, out: &mut [u8]) -> usize
-    requires { ⌜ Stands (now book) (now pack) b × (128 ≤ length (now out)) ⌝ }
-    ensures { λ r. ⌜ Placed (now (out .entry)) (now (out .exit)) 0 r (outYet (definition.build (now (book .entry)) (now (pack .entry))) (p .line) (p .begun) []) × (r ≤ 128) ⌝ }
+    requires { ⌜ Stands (now book) (now pack) b × (longest ≤ length (now out)) ⌝ }
+    ensures { λ r. ⌜ Ended (now (book .entry)) (now (pack .entry)) (now (out .entry)) (now (out .exit)) p r ⌝ }
 {
     if p.begun {
         let line = p.line;

@@ -1,5 +1,4 @@
 -- What a schedule by value means: with the bytes of book and pack it is a schedule of the definitions.
-use mathlib.Core.Path.{_≡_}
 use mathlib.Core.List.{List, [], _∷_, map}
 use Prim.Native.Nat.{ℕ, _+_, _*_, _≤_, _<_}
 use lib.ListN.{length, take, drop}
@@ -7,7 +6,9 @@ use Rattle.model.specs.Basic.{distinct}
 use Rattle.model.specs.Instant.{second}
 use Rattle.model.specs.Working as model
 use Rattle.laws_skip.specs.Books.{BuiltWell}
-use Rattle.book.specs.Meaning.{datesAt}
+use Rattle.book_dates.specs.Days.{datesAt}
+use Rattle.book.specs.Limits.{mostWork, mostBreaks, mostHolidays}
+use Rattle.book.specs.Meaning.{weekdaySets}
 use Rattle.civil.specs.Dates.{timeIn, TimeFits}
 use Rattle.zone.specs.Zones.{meant, ZoneOk}
 use Rattle.rule.specs.declared.Rule.{Rule}
@@ -18,6 +19,7 @@ use Rattle.rule.specs.declared.Schedule.{Schedule}
 abbrev pub fileAt : List ℕ → ℕ → ℕ → List ℕ
 fileAt p at len = take len (drop at p)
 
+-- a rule, the dates of a holiday record, and a schedule
 abbrev pub ruleIs : List ℕ → Rule → model.Rule
 ruleIs p r =
     model.shiftRule (meant (fileAt p (r .at) (r .len)) (r .zone)) (record { days = r .days; from = timeIn (r .from); to = timeIn (r .to) })
@@ -35,27 +37,35 @@ scheduleIs b p s = record {
 
 -- ---- what the rules of a built schedule have
 
+-- the longest search limit in seconds: 366 days, and 7 days for each of 512 dates
+abbrev pub mostLimit : ℕ
+mostLimit = 341280000
+
+-- of a rule
 pub record RuleFits (p : List ℕ) (r : Rule) : Type 0 where
   pub opened : ZoneOk (fileAt p (r .at) (r .len)) (r .zone)
-  pub days : r .days < 128
+  pub days : r .days < weekdaySets
   pub from : TimeFits (r .from)
   pub to : TimeFits (r .to)
 
+-- of a holiday record
 pub record HolidaysFit (b p : List ℕ) (c : HolidayDates) : Type 0 where
   pub opened : ZoneOk (fileAt p (c .at) (c .len)) (c .zone)
   pub inside : c .dates + 4 * c .count ≤ length b
 
+-- P holds of each element
 abbrev pub All : {A : Type 0} → (A → Type 0) → List A → Type 0
 All P [] = Unit {0}
 All P (a ∷ l) = P a × All P l
 
+-- of a schedule
 pub record ScheduleFits (b p : List ℕ) (s : Schedule) : Type 0 where
-  pub works : s .works ≤ 16
-  pub pauses : s .pauses ≤ 16
-  pub closings : s .closings ≤ 8
+  pub works : s .works ≤ mostWork
+  pub pauses : s .pauses ≤ mostBreaks
+  pub closings : s .closings ≤ mostHolidays
   pub work-fits : All (RuleFits p) (take (s .works) (s .work))
   pub breaks-fit : All (RuleFits p) (take (s .pauses) (s .breaks))
   pub closed-fits : All (HolidaysFit b p) (take (s .closings) (s .closed))
-  -- what every book within the limits makes: 366 to 3,950 days as the search limit among it
+  -- what every book within the limits makes: the search limit is 366 to 3,950 days, among other things
   pub well : BuiltWell (scheduleIs b p s)
-  pub limit : s .limit ≤ 341280000
+  pub limit : s .limit ≤ mostLimit

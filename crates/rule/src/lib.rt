@@ -1,5 +1,7 @@
 // A built schedule by value: the work and break rules and the holiday records of a book, each with its zone. Zone files stay in the lent pack and
 // dates in the lent book: a rule says where they stand.
+ghost use mathlib.Core.Path.{_≡_};
+ghost use Rattle.model.specs.Calendar.{contains, weekday};
 use civil::Time;
 use zone::Zone;
 
@@ -17,6 +19,7 @@ pub struct Rule {
 
 // A holiday record.
 pub struct HolidayDates {
+    // where its zone's file stands in the pack, and the file's length; UTC has none
     pub at: usize,
     pub len: usize,
     pub zone: Zone,
@@ -25,13 +28,22 @@ pub struct HolidayDates {
     pub count: usize,
 }
 
+// The rules of a book, as many as it may have.
 pub struct Schedule {
-    pub work: [Rule; 16],
+    // work, breaks and holidays, each with the number of places that are taken
+    pub work: [Rule; book::MOST_WORK],
     pub works: usize,
-    pub breaks: [Rule; 16],
+    pub breaks: [Rule; book::MOST_BREAKS],
     pub pauses: usize,
-    pub closed: [HolidayDates; 8],
+    pub closed: [HolidayDates; book::MOST_HOLIDAYS],
     pub closings: usize,
     // the search limit in seconds
     pub limit: u64,
+}
+
+// Whether a rule with this set of weekdays takes of the date.
+pub fn applies(days: u8, day: u32) -> bool
+    ensures { λ r. ⌜ r ≡ contains days (weekday day) ⌝ }
+{
+    civil::contains(days, civil::weekday_of(day))
 }

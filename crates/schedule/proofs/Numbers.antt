@@ -1,26 +1,22 @@
--- What the answers of crate `edge` tell of the instants and durations that were read.
+-- What the answers of crate `instant_signed` tell of the instants and durations that were read.
 use mathlib.Core.Path.{_≡_, refl, sym, ap, _∙_}
 use mathlib.Core.Bool.{Bool, true, false, not, _&&_, _||_}
 use mathlib.Core.List.{List, [], _∷_}
 use Prim.Native.Nat.{ℕ, _+_, _*_, _-_, _/_, _%_, _^_, _≤_, _<_}
 use native.Mathlib.Omega.{arith}
-use lib.Dec.{leb, ltb}
+use lib.Dec.{ltb}
 use lib.IntN.{ℤ, pos, negsuc, natAbs}
 use mir.Syntax.{w64}
 use mir.Val.{SFits, toZ, ofZ}
 use mir.Facts.{toZ-ofZ}
-use borrow.Author.Tests.{leb-true, ltb-true}
+use borrow.Author.Tests.{ltb-true}
 use Rattle.laws_base.specs.Test.{by-test, and-both, clash}
-use Rattle.model.specs.Basic.{isIn}
 use Rattle.model.specs.Answer.{Answer, gives, refuses}
 use Rattle.model.specs.Instant as M
-use Rattle.model.specs.Instant.{second, firstInstant, lastInstant, isBelow0, secondFrom, instantOf, instant, areOpposite, durationOf, duration, negated}
+use Rattle.model.specs.Instant.{second, lastInstant, isBelow0, areOpposite, durationOf, duration, negated}
 use Rattle.instant.specs.Instant.{nanos, InRange}
 use Rattle.instant.specs.declared.Instant.{Instant}
-use Rattle.instant_signed.specs.Reads.{ofNanos, instantRead, secondsFrom}
 use Rattle.instant_signed.specs.Durations.{signedPair, durationRead, negatedRead, negation}
-use Rattle.instant_signed.specs.declared.InstantRead.{InstantRead}
-use Rattle.instant_signed.specs.declared.InstantRead.the-variants as R
 use Rattle.instant_signed.specs.declared.DurationRead.{DurationRead}
 use Rattle.instant_signed.specs.declared.DurationRead.the-variants as S
 use Rattle.instant_signed.specs.declared.Duration.{Duration}
@@ -36,63 +32,11 @@ whole s n f g h e = e ∙ (λ i. h (toZ-ofZ {w = w64} f i) (toZ-ofZ {w = w64} g 
 
 -- ---- instants
 
-abbrev isSecond : ℤ → Bool
-isSecond s = isIn (firstInstant / second) (lastInstant / second) (secondFrom s)
-
-abbrev isRest : ℤ → Bool
-isRest n = not (isBelow0 n) && ltb (natAbs n) second
-
-no-instant-read : (s n : ℤ) → instantRead (instantOf s n) ≡ R.OutOfRange → instantOf s n ≡ refuses 8 0
-unfolding instantRead instantOf
-no-instant-read s n e =
-    by-test (isSecond s && isRest n)
-    (λ t. let q : R.At (ofNanos (secondFrom s * second + natAbs n)) ≡ R.OutOfRange = simp t at e in never (cc))
-    (λ t. simp t)
-
--- a pair of seconds and nanoseconds is the instant a
-pub record Reads (s n : ℤ) (a : Instant) : Type 0 where
-  pub means : instantOf s n ≡ gives (nanos a)
-  pub in-range : InRange a
-
-instant-read : (s n : ℤ) (a : Instant) → instantRead (instantOf s n) ≡ R.At a → Reads s n a
-unfolding instantRead instantOf
-instant-read s n a e =
-    by-test (isSecond s && isRest n)
-    (λ t.
-    let q : R.At (ofNanos (secondFrom s * second + natAbs n)) ≡ R.At a = simp t at e in
-    let r : ofNanos (secondFrom s * second + natAbs n) ≡ a = cc in
-    let x : (secondFrom s * second + natAbs n) / second ≡ a .sec = ap (λ (i : Instant). i .sec) r in
-    let y : (secondFrom s * second + natAbs n) % second ≡ a .ns = ap (λ (i : Instant). i .ns) r in
-    let p = and-both (isSecond s) (isRest n) t in
-    let u = and-both (leb 12654496799 (secondFrom s)) (leb (secondFrom s) 643761727200) (p .0) in
-    let l : 12654496799 ≤ secondFrom s = leb-true _ _ (u .0) in
-    let k : secondFrom s ≤ 643761727200 = leb-true _ _ (u .1) in
-    let h : natAbs n < second = ltb-true _ _ (and-both (not (isBelow0 n)) (ltb (natAbs n) second) (p .1) .1) in
-    let z : secondFrom s * second + natAbs n ≡ nanos a = omega arith in
-    record { means = simp t (ap gives z); in-range = record { low = omega arith; high = omega arith; ns = omega arith } })
-    (λ t. let q : R.OutOfRange ≡ R.At a = simp t at e in never (cc))
-
--- an instant that was read
-module _ (s n : ℤ) (f : SFits w64 s) (g : SFits w64 n) {r : InstantRead} (e : r ≡ instantRead (instantOf (toZ w64 (ofZ w64 s)) (toZ w64 (ofZ w64 n)))) where
-  pub instant-no : r ≡ R.OutOfRange → instantOf s n ≡ refuses 8 0
-  instant-no h = no-instant-read s n (sym (whole s n f g (λ a b. instantRead (instantOf a b)) e) ∙ h)
-
-  pub instant-yes : {a : Instant} → r ≡ R.At a → Reads s n a
-  instant-yes {a} h = instant-read s n a (sym (whole s n f g (λ a b. instantRead (instantOf a b)) e) ∙ h)
-
 pub not-late : (a : Instant) → InRange a → nanos a ≤ lastInstant
 not-late a h = let k = h .high in let n = h .ns in omega arith
 
 pub earlier : (x y : ℕ) → ltb x y ≡ true → x ≤ y
 earlier x y t = let h = ltb-true x y t in omega arith
-
--- the numbers of an instant
-pub instant-shown : (u : Instant) (a b : ℤ) → u .ns < 1000000000 → a ≡ secondsFrom (u .sec) → b ≡ pos (u .ns) → a ∷ b ∷ [] ≡ instant (nanos u)
-unfolding instant secondsFrom
-instant-shown u a b h p q =
-    let x : nanos u / second ≡ u .sec = omega arith in
-    let y : nanos u % second ≡ u .ns = omega arith in
-    rw (x, y, p, q)
 
 -- ---- durations
 

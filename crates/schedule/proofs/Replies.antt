@@ -3,7 +3,7 @@ use Rattle.instant.specs.Instant.{nanos}
 use mathlib.Core.Path.{_≡_, refl, sym, _∙_}
 use mathlib.Core.Bool.{Bool, true, false, not}
 use mathlib.Core.Option.{some}
-use mathlib.Core.List.{List, [], _∷_}
+use mathlib.Core.List.{List}
 use Prim.Native.Nat.{ℕ, zero, suc, _+_, _-_, _≤_, _<_, _^_, min, max}
 use native.Mathlib.Omega.{arith}
 use lib.Dec.{ltb}
@@ -15,7 +15,7 @@ use Rattle.model.specs.Blocks.{total}
 use Rattle.model.specs.Working.{Schedule, working}
 use Rattle.model.specs.Walk.{Way, on, back, at, reach, begun, timeFrom, timeBetween, ahead, search}
 use Rattle.model.specs.Skip.{repeats, neededBetween, neededSearch, anyTime, someTime}
-use Rattle.model.specs.Calls.{Reply, betweenCall, moved, moveCall, turned, said, Windows}
+use Rattle.model.specs.Calls.{Reply, betweenCall, moved, moveCall, turned}
 use Rattle.model.specs.Build.{build}
 use Rattle.laws_blocks.specs.Count.{span, cnt, bit}
 use Rattle.laws_blocks.specs.Totals.{lists-total}
@@ -28,12 +28,10 @@ use Rattle.rule.specs.Rules.{scheduleIs}
 use Rattle.build.specs.declared.Built.{Built}
 use Rattle.build.specs.Read.{answerIs}
 use Rattle.instant.specs.declared.Instant.{Instant}
-use Rattle.walk.specs.Walks.{Counts, found-at}
-use Rattle.walk.specs.declared.Reached.{Reached}
-use Rattle.walk.specs.declared.Reached.the-variants as R
-use Rattle.schedule.specs.declared.Moved.{Moved}
-use Rattle.schedule.specs.declared.Moved.the-variants as M
-use Rattle.schedule.specs.Answers.{movedIs, movedCount}
+use Rattle.walk_search.specs.Searches.{Counts, found-at}
+use Rattle.walk_search.specs.declared.Reached.{Reached}
+use Rattle.walk_search.specs.declared.Reached.the-variants as R
+use Rattle.schedule.specs.Answers.{Keeps}
 
 -- ---- the working time between two instants is no more than the time between them
 
@@ -71,10 +69,6 @@ pub time-fits : (s : Schedule) (x : Instant) (a b : ℕ) → a ≤ b → b ≤ l
 time-fits s x a b h k e = let m = time-most s a b h in omega arith
 
 -- ---- an answer and what the definitions give
-
--- the values v and the count of windows c are those of d
-abbrev pub Keeps : Answer (List ℤ) → ℕ → Answer Reply → Type 0
-Keeps v c d = (v ≡ said d) × Windows c d
 
 pub refused : {d : Answer Reply} (n p : ℕ) → d ≡ refuses n p → Keeps (refuses n p) 0 d
 refused n p e = rw e (refl, record { least = refl; most = omega arith })
@@ -187,10 +181,3 @@ module _ (b p : List ℕ) (r : Built) (e : answerIs b p r ≡ build b p) where
   when-built f h k =
       let q : gives (scheduleIs b p (r .schedule)) ≡ build b p = rw h at e in
       rw (← q) k
-
--- the numbers of a move, passed on
-pub moved-at : {d : Answer Reply} {r : Moved} {x y : ℤ} {c : ℕ} → Keeps (movedIs r) (movedCount r) d → r ≡ M.At x y c → (u v : ℤ) → u ≡ x → v ≡ y → Keeps (gives (u ∷ v ∷ [])) c d
-moved-at k e u v p q = rw (p, q) (rw e at k)
-
-pub moved-no : {d : Answer Reply} {r : Moved} {n p : ℕ} → Keeps (movedIs r) (movedCount r) d → r ≡ M.Refused n p → Keeps (refuses n p) 0 d
-moved-no k e = rw e at k

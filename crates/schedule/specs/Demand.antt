@@ -1,5 +1,5 @@
 -- Demand 3 over the numbers that the calls answer: it holds of every three functions that answer as the contracts of `between`, `add` and `sub`
--- promise. "Window counts stand outside demand 3." The sentences are those of crate `laws`, Demand3.antt.
+-- promise. "Window counts stand outside demand 3." The sentences are those of crate `laws_demand3`, Demand3.antt.
 use mathlib.Core.Path.{_≡_, sym, _∙_}
 use mathlib.Core.List.{List}
 use Prim.Native.Nat.{ℕ}
@@ -14,17 +14,16 @@ use Rattle.laws_demand3.specs.Zones.{Each, zonesOf, WithinDay}
 use Rattle.laws_demand3.specs.Demand3 as laws
 use Rattle.laws_demand3.specs.Demand3.{Given, demand-3}
 use Rattle.schedule.specs.declared.TimeAnswer.{TimeAnswer}
-use Rattle.schedule.specs.declared.AddAnswer.{AddAnswer}
-use Rattle.schedule.specs.declared.SubAnswer.{SubAnswer}
-use Rattle.schedule.specs.Answers.{timeIs, addIs, subIs}
+use Rattle.schedule.specs.declared.MoveAnswer.{MoveAnswer}
+use Rattle.schedule.specs.Answers.{timeIs, moveIs}
 
 -- what is answered for one book and one pack
-module _ (timeOf : Pair → Pair → TimeAnswer) (addOf : Pair → Pair → AddAnswer) (subOf : Pair → Pair → SubAnswer) where
+module _ (timeOf : Pair → Pair → TimeAnswer) (addOf : Pair → Pair → MoveAnswer) (subOf : Pair → Pair → MoveAnswer) where
   -- as the contracts promise for all pairs of 64-bit numbers; instants and durations are such
   pub record AsPromised (book pack : List ℕ) : Type 0 where
     pub times : (a b : Pair) → IsInstant a → IsInstant b → timeIs (timeOf a b) ≡ said (between book pack (a .sec) (a .ns) (b .sec) (b .ns))
-    pub adds : (t d : Pair) → IsInstant t → IsDuration d → addIs (addOf t d) ≡ said (add book pack (t .sec) (t .ns) (d .sec) (d .ns))
-    pub subs : (t d : Pair) → IsInstant t → IsDuration d → subIs (subOf t d) ≡ said (sub book pack (t .sec) (t .ns) (d .sec) (d .ns))
+    pub adds : (t d : Pair) → IsInstant t → IsDuration d → moveIs (addOf t d) ≡ said (add book pack (t .sec) (t .ns) (d .sec) (d .ns))
+    pub subs : (t d : Pair) → IsInstant t → IsDuration d → moveIs (subOf t d) ≡ said (sub book pack (t .sec) (t .ns) (d .sec) (d .ns))
 
   -- working time from a to b is w
   abbrev pub WorkingTime : Pair → Pair → ℤ → Type 0
@@ -38,22 +37,22 @@ module _ (timeOf : Pair → Pair → TimeAnswer) (addOf : Pair → Pair → AddA
     pub earliest : (y : Pair) → IsInstant y → WorkingTime t y (nanos d) → nanos x ≤ℤ nanos y
     -- "taking d off x is not refused and gives a z at or after t, with zero working time from t to z;"
     pub z : Pair
-    pub taken : subIs (subOf x d) ≡ gives (shown z)
+    pub taken : moveIs (subOf x d) ≡ gives (shown z)
     pub instant-z : IsInstant z
     pub after : nanos t ≤ℤ nanos z
     pub idle : WorkingTime t z (pos 0)
     -- "adding d to z gives x again;"
-    pub again : addIs (addOf z d) ≡ gives (shown x)
+    pub again : moveIs (addOf z d) ≡ gives (shown x)
     -- "and for every e >= 0 where d + e is a duration, adding e to x gives the very instant or refusal that adding d + e to t gives."
-    pub further : (e f : Pair) → IsDuration e → pos 0 ≤ℤ nanos e → IsDuration f → nanos f ≡ nanos d +ℤ nanos e → addIs (addOf x e) ≡ addIs (addOf t f)
+    pub further : (e f : Pair) → IsDuration e → pos 0 ≤ℤ nanos e → IsDuration f → nanos f ≡ nanos d +ℤ nanos e → moveIs (addOf x e) ≡ moveIs (addOf t f)
 
   pub record Demand3 : Type 0 where
     -- "working time from a to c is that from a to b plus that from b to c, in whatever order they lie."
     pub additive : (a b c : Pair) → Given a → Given b → Given c → (x y : ℤ) × WorkingTime a b x × WorkingTime b c y × WorkingTime a c (x +ℤ y)
     -- "For every t and d > 0, if adding d to t gives x, then .."
-    pub added : (t d x : Pair) → Given t → IsDuration d → pos 0 <ℤ nanos d → addIs (addOf t d) ≡ gives (shown x) → Added t d x
+    pub added : (t d x : Pair) → Given t → IsDuration d → pos 0 <ℤ nanos d → moveIs (addOf t d) ≡ gives (shown x) → Added t d x
     -- "If adding d to t is refused as out of range, there is no instant at all to which working time from t is d." "Out of range is 7."
-    pub beyond : (t d : Pair) (place : ℕ) → Given t → IsDuration d → pos 0 <ℤ nanos d → addIs (addOf t d) ≡ refuses 7 place
+    pub beyond : (t d : Pair) (place : ℕ) → Given t → IsDuration d → pos 0 <ℤ nanos d → moveIs (addOf t d) ≡ refuses 7 place
         → (y : Pair) → IsInstant y → WorkingTime t y (nanos d) → ⊥
 
   module _ (book pack : List ℕ) (k : AsPromised book pack) where

@@ -14,17 +14,15 @@ use Rattle.model.specs.Working.{Schedule}
 use Rattle.model.specs.Build.{build}
 use Rattle.model.specs.Walk.{Way, on, back, reach, ahead, begun, search}
 use Rattle.model.specs.Skip.{anyTime, someTime}
-use Rattle.model.specs.Calls.{Reply, turned, betweenCall, moved, moveCall, between, add, sub, said, leastOf, mostOf, Windows}
+use Rattle.model.specs.Calls.{Reply, turned, betweenCall, moved, moveCall, between, add, sub, leastOf, mostOf}
 use Rattle.laws_demand3.specs.Pairs.{Pair}
 use Rattle.laws_demand3.specs.Zones.{Each, zonesOf, WithinDay}
 use Rattle.laws_skip.specs.Skips.{needed-most}
 use Rattle.schedule.specs.declared.TimeAnswer.{TimeAnswer}
 use Rattle.schedule.specs.declared.TimeAnswer.the-variants as T
-use Rattle.schedule.specs.declared.AddAnswer.{AddAnswer}
-use Rattle.schedule.specs.declared.AddAnswer.the-variants as A
-use Rattle.schedule.specs.declared.SubAnswer.{SubAnswer}
-use Rattle.schedule.specs.declared.SubAnswer.the-variants as S
-use Rattle.schedule.specs.Answers.{timeIs, timeCount, addIs, addCount, subIs, subCount}
+use Rattle.schedule.specs.declared.MoveAnswer.{MoveAnswer}
+use Rattle.schedule.specs.declared.MoveAnswer.the-variants as M
+use Rattle.schedule.specs.Answers.{TimeAs, MoveAs}
 use Rattle.schedule.specs.Demand.{AsPromised, Demand3, demand-3-answers}
 
 -- ---- a reply of the definitions as an answer: its two numbers, and the least count of windows
@@ -36,13 +34,9 @@ abbrev pub timeBy : Answer Reply → TimeAnswer
 timeBy (gives r) = T.Is (number r 0) (number r 1) (leastOf (gives r))
 timeBy (refuses n p) = T.Refused n p
 
-abbrev pub addBy : Answer Reply → AddAnswer
-addBy (gives r) = A.At (number r 0) (number r 1) (leastOf (gives r))
-addBy (refuses n p) = A.Refused n p
-
-abbrev pub subBy : Answer Reply → SubAnswer
-subBy (gives r) = S.At (number r 0) (number r 1) (leastOf (gives r))
-subBy (refuses n p) = S.Refused n p
+abbrev pub moveBy : Answer Reply → MoveAnswer
+moveBy (gives r) = M.At (number r 0) (number r 1) (leastOf (gives r))
+moveBy (refuses n p) = M.Refused n p
 
 -- ---- replies of two numbers whose least count is not above the most
 
@@ -76,17 +70,13 @@ move-told w s t₁ t₂ d₁ d₂ =
 
 -- ---- such a reply's numbers are those of the answer, and its count keeps both bounds
 
-time-by : (a : Answer Reply) → Told a → (timeIs (timeBy a) ≡ said a) × Windows (timeCount (timeBy a)) a
+time-by : (a : Answer Reply) → Told a → TimeAs (timeBy a) a
 time-by (gives r) (x, y, e, m) = (rw e, record { least = refl; most = m })
 time-by (refuses n p) h = (refl, record { least = refl; most = omega arith })
 
-add-by : (a : Answer Reply) → Told a → (addIs (addBy a) ≡ said a) × Windows (addCount (addBy a)) a
-add-by (gives r) (x, y, e, m) = (rw e, record { least = refl; most = m })
-add-by (refuses n p) h = (refl, record { least = refl; most = omega arith })
-
-sub-by : (a : Answer Reply) → Told a → (subIs (subBy a) ≡ said a) × Windows (subCount (subBy a)) a
-sub-by (gives r) (x, y, e, m) = (rw e, record { least = refl; most = m })
-sub-by (refuses n p) h = (refl, record { least = refl; most = omega arith })
+move-by : (a : Answer Reply) → Told a → MoveAs (moveBy a) a
+move-by (gives r) (x, y, e, m) = (rw e, record { least = refl; most = m })
+move-by (refuses n p) h = (refl, record { least = refl; most = omega arith })
 
 module _ (book pack : List ℕ) where
   -- what the definitions reply
@@ -103,21 +93,21 @@ module _ (book pack : List ℕ) where
   abbrev pub timeOf : Pair → Pair → TimeAnswer
   timeOf a b = timeBy (timeReply a b)
 
-  abbrev pub addOf : Pair → Pair → AddAnswer
-  addOf t d = addBy (addReply t d)
+  abbrev pub addOf : Pair → Pair → MoveAnswer
+  addOf t d = moveBy (addReply t d)
 
-  abbrev pub subOf : Pair → Pair → SubAnswer
-  subOf t d = subBy (subReply t d)
+  abbrev pub subOf : Pair → Pair → MoveAnswer
+  subOf t d = moveBy (subReply t d)
 
   -- each is what its contract promises, numbers and count, for all pairs of numbers
-  pub time-promised : (a b : Pair) → (timeIs (timeOf a b) ≡ said (timeReply a b)) × Windows (timeCount (timeOf a b)) (timeReply a b)
+  pub time-promised : (a b : Pair) → TimeAs (timeOf a b) (timeReply a b)
   time-promised a b = time-by (timeReply a b) (then-told (build book pack) _ (λ s. between-told s (a .sec) (a .ns) (b .sec) (b .ns)))
 
-  pub add-promised : (t d : Pair) → (addIs (addOf t d) ≡ said (addReply t d)) × Windows (addCount (addOf t d)) (addReply t d)
-  add-promised t d = add-by (addReply t d) (then-told (build book pack) _ (λ s. move-told on s (t .sec) (t .ns) (d .sec) (d .ns)))
+  pub add-promised : (t d : Pair) → MoveAs (addOf t d) (addReply t d)
+  add-promised t d = move-by (addReply t d) (then-told (build book pack) _ (λ s. move-told on s (t .sec) (t .ns) (d .sec) (d .ns)))
 
-  pub sub-promised : (t d : Pair) → (subIs (subOf t d) ≡ said (subReply t d)) × Windows (subCount (subOf t d)) (subReply t d)
-  sub-promised t d = sub-by (subReply t d) (then-told (build book pack) _ (λ s. move-told back s (t .sec) (t .ns) (d .sec) (d .ns)))
+  pub sub-promised : (t d : Pair) → MoveAs (subOf t d) (subReply t d)
+  sub-promised t d = move-by (subReply t d) (then-told (build book pack) _ (λ s. move-told back s (t .sec) (t .ns) (d .sec) (d .ns)))
 
   -- so they answer as demand 3 asks,
   pub as-promised : AsPromised timeOf addOf subOf book pack

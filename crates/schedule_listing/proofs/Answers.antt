@@ -1,72 +1,29 @@
 -- Each answer of the listing, from what the code has tested and called. Assumes nothing.
 use mathlib.Core.Path.{_≡_, refl, sym, ap, _∙_}
-use mathlib.Core.Bool.{Bool, true, false, _&&_, not}
+use mathlib.Core.Bool.{Bool, true, false}
 use mathlib.Core.List.{List, _++_, map}
-use Prim.Native.Nat.{ℕ, _+_, _*_, _/_, _%_, _≤_, _<_}
+use Prim.Native.Nat.{ℕ, _+_, _*_, _≤_}
 use native.Mathlib.Omega.{arith}
-use lib.Dec.{leb, ltb}
-use lib.IntN.{ℤ, natAbs}
+use lib.Dec.{leb}
+use lib.IntN.{ℤ}
 use lib.ListN.{length, drop}
 use mir.Syntax.{w64}
 use mir.Val.{SFits, toZ, ofZ}
 use mir.Facts.{toZ-ofZ}
-use borrow.Author.Tests.{leb-true, ltb-true, eq-eqb, ne-eqb}
-use Rattle.laws_base.specs.Test.{by-test, and-both}
-use Rattle.model.specs.Basic.{isIn, joined}
+use borrow.Author.Tests.{leb-true, eq-eqb, ne-eqb}
+use Rattle.model.specs.Basic.{joined}
 use Rattle.model.specs.Answer.{Answer, gives, refuses}
 use Rattle.model.specs.Blocks.{Block}
 use Rattle.model.specs.Build.{build}
 use Rattle.model.specs.Calls.{listCall, list, stretchCount, numbersAfter}
-use Rattle.model.specs.Instant.{second, firstInstant, lastInstant, isBelow0, secondFrom, instantOf}
+use Rattle.model.specs.Instant.{instantOf}
 use Rattle.model.specs.Walk.{stretches}
 use Rattle.model.specs.Working.{Schedule}
-use Rattle.instant.specs.Instant.{nanos, InRange}
-use Rattle.instant.specs.declared.Instant.{Instant}
-use Rattle.instant_signed.specs.Reads.{ofNanos, instantRead}
-use Rattle.instant_signed.specs.declared.InstantRead.{InstantRead}
-use Rattle.instant_signed.specs.declared.InstantRead.the-variants as R
 use Rattle.rule.specs.Rules.{scheduleIs}
 use Rattle.build.specs.Read.{answerIs}
 use Rattle.build.specs.declared.Built.{Built}
 use Rattle.walk_list_week.specs.Stretched.{placed, fields, stored}
 use Rattle.walk_list_week.proofs.Placing.{numbers-long}
-
--- ---- instants
-
-abbrev isInstant : ℤ → ℤ → Bool
-isInstant s n = isIn (firstInstant / second) (lastInstant / second) (secondFrom s) && (not (isBelow0 n) && ltb (natAbs n) second)
-
--- two constructors that are equal prove anything
-never : {P : Type 0} → _≡_ {A = ℕ} 0 1 → P
-never z = absurd (omega arith)
-
--- what the code reads is what the definitions read
-module _ (s n : ℤ) (f : SFits w64 s) (g : SFits w64 n) {r : InstantRead} (p : r ≡ instantRead (instantOf (toZ w64 (ofZ w64 s)) (toZ w64 (ofZ w64 n)))) where
-  read-same : r ≡ instantRead (instantOf s n)
-  read-same = rw (toZ-ofZ f, toZ-ofZ g) at p
-
-  pub read-refused : r ≡ R.OutOfRange → instantOf s n ≡ refuses 8 0
-  unfolding instantOf instantRead
-  read-refused e =
-      by-test (isInstant s n) (λ t. let q : R.At (ofNanos (secondFrom s * second + natAbs n)) ≡ R.OutOfRange = sym (rw t at read-same) ∙ e in never (cc)) (λ t. rw t)
-
-  pub read-gives : {i : Instant} → r ≡ R.At i → (instantOf s n ≡ gives (nanos i)) × InRange i
-  unfolding instantOf instantRead
-  read-gives {i} e =
-      by-test (isInstant s n)
-      (λ t.
-      let q : R.At (ofNanos (secondFrom s * second + natAbs n)) ≡ R.At i = sym (rw t at read-same) ∙ e in
-      let o : ofNanos (secondFrom s * second + natAbs n) ≡ i = cc in
-      let x : (secondFrom s * second + natAbs n) / second ≡ i .sec = ap (λ (j : Instant). j .sec) o in
-      let y : (secondFrom s * second + natAbs n) % second ≡ i .ns = ap (λ (j : Instant). j .ns) o in
-      let u = and-both (isIn (firstInstant / second) (lastInstant / second) (secondFrom s)) (not (isBelow0 n) && ltb (natAbs n) second) t in
-      let v = and-both (leb 12654496799 (secondFrom s)) (leb (secondFrom s) 643761727200) (u .0) in
-      let w = and-both (not (isBelow0 n)) (ltb (natAbs n) second) (u .1) in
-      let l : 12654496799 ≤ secondFrom s = leb-true _ _ (v .0) in
-      let h : secondFrom s ≤ 643761727200 = leb-true _ _ (v .1) in
-      let k : natAbs n < second = ltb-true _ _ (w .1) in
-      (rw t (ap {B = Answer ℕ} (λ (x : ℕ). gives x) (omega arith)), record { low = omega arith; high = omega arith; ns = omega arith }))
-      (λ t. let q : R.OutOfRange ≡ R.At i = sym (rw t at read-same) ∙ e in never (cc))
 
 -- ---- the answers
 

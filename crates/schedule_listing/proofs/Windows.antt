@@ -17,9 +17,10 @@ use Rattle.instant.specs.declared.Instant.{Instant}
 use Rattle.laws_skip.specs.WindowEnds.{Inside}
 use Rattle.laws_skip.specs.Schedules.{working-inside}
 use Rattle.block.specs.Counted.{blockOf}
-use Rattle.block_pairs.specs.Pairs.{part, pairs}
+use Rattle.block_pairs.specs.Pairs.{pairs}
 use Rattle.walk_list_week.specs.Stretched.{onFrom, ended, stillOpen, anyOpen, stored, Small, Below, Ready, Left}
 use Rattle.walk_list_week.specs.declared.Open.{Open}
+use Rattle.walk_distance.specs.Distances.{Short}
 use Rattle.walk_list_week.proofs.Joins.{from-append, ended-few}
 use Rattle.walk_list_week.proofs.Placing.{stored-append, stored-long}
 use Rattle.walk_list_week.proofs.Turns.{moved-long}
@@ -56,6 +57,15 @@ range-last t r = let h = r .high in let n = r .ns in omega arith
 
 pub range-small : (t : Instant) → InRange t → Small (block (nanos t) (nanos t))
 range-small t r = let h = r .high in let n = r .ns in (omega arith, omega arith)
+
+pub range-short : (t : Instant) → InRange t → Short t
+range-short t r = let h = r .high in record { sec = omega arith; ns = r .ns }
+
+-- the end of a window
+pub range-end : (lo hi b : Instant) → InRange lo → InRange b → nanos lo < nanos b → nanos hi ≡ min (nanos lo + week) (nanos b) → Short hi → InRange hi
+range-end lo hi b l r h e k =
+    let x = l .low in let y = r .high in let n = r .ns in let m = k .ns in
+    record { low = omega arith; high = omega arith; ns = m }
 
 -- ---- a window's blocks
 

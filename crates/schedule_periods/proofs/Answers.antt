@@ -1,24 +1,22 @@
 -- Each answer of the calls, from what the code has read, walked and written. Assumes nothing.
 use mathlib.Core.Path.{_≡_, refl, sym, _∙_, ap}
-use mathlib.Core.Bool.{Bool, true, false, not, _&&_}
+use mathlib.Core.Bool.{Bool, true, false}
 use mathlib.Core.List.{List, [], _∷_, _++_}
-use Prim.Native.Nat.{ℕ, _+_, _*_, _-_, _/_, _%_, _≤_, _<_}
+use Prim.Native.Nat.{ℕ, _+_, _-_, _<_}
 use native.Mathlib.Omega.{arith}
-use lib.Dec.{leb, ltb}
-use lib.IntN.{ℤ, pos, natAbs}
-use borrow.Author.Tests.{leb-true, ltb-true, eq-eqb, ne-eqb}
-use Rattle.model.specs.Basic.{isIn}
+use lib.IntN.{ℤ, pos}
+use borrow.Author.Tests.{eq-eqb, ne-eqb}
 use Rattle.model.specs.Answer.{Answer, gives, refuses, _>>=_}
-use Rattle.model.specs.Instant.{second, secondFrom, isBelow0, firstInstant, lastInstant, instantOf, instant}
+use Rattle.model.specs.Instant.{second, instantOf, instant}
 use Rattle.model.specs.Blocks.{block}
 use Rattle.model.specs.Working as model
 use Rattle.model.specs.Walk.{Way, on, back, at, reach, period}
 use Rattle.model.specs.Build.{build}
 use Rattle.model.specs.Calls.{Reply, ends, periodCall}
-use Rattle.laws_base.specs.Test.{by-test, and-both}
 use Rattle.instant.specs.Instant.{nanos, InRange}
 use Rattle.instant.specs.declared.Instant.{Instant}
-use Rattle.instant_signed.specs.Reads.{ofNanos, instantRead, secondsFrom}
+use Rattle.instant_signed.specs.InstantLaws.{instant-read, instant-refused, instant-written}
+use Rattle.instant_signed.specs.Reads.{instantRead, secondsFrom}
 use Rattle.instant_signed.specs.declared.InstantRead.the-variants as R
 use Rattle.rule.specs.Rules.{scheduleIs}
 use Rattle.build.specs.Read.{answerIs}
@@ -31,66 +29,22 @@ use Rattle.schedule_periods.specs.Replies.{periodGiven}
 
 -- ---- the instant given
 
-never : {P : Type 0} → _≡_ {A = ℕ} 0 1 → P
-never z = absurd (omega arith)
-
--- what was read is the instant that the definitions give
-pub read-is : (a : Answer ℕ) (t : Instant) → instantRead a ≡ R.At t → a ≡ gives (nanos t)
-unfolding instantRead
-read-is (gives n) t e =
-    let p : ofNanos n ≡ t = cc in
-    let x : n / second ≡ t .sec = ap (λ (j : Instant). j .sec) p in
-    let y : n % second ≡ t .ns = ap (λ (j : Instant). j .ns) p in
-    ap gives (omega arith)
-read-is (refuses n k) t e = never (cc)
-
--- an instant of the definitions is refused with 8 only
-pub read-not : (s n : ℤ) → instantRead (instantOf s n) ≡ R.OutOfRange → refuses 8 0 ≡ instantOf s n
-unfolding instantRead instantOf
-read-not s n e =
-    by-test (isIn (firstInstant / second) (lastInstant / second) (secondFrom s) && (not (isBelow0 n) && ltb (natAbs n) second))
-    (λ t. let q : R.At (ofNanos (secondFrom s * second + natAbs n)) ≡ R.OutOfRange = simp t at e in never (cc))
-    (λ t. simp t)
-
--- it lies in the range
-pub read-fits : (s n : ℤ) (t : Instant) → instantRead (instantOf s n) ≡ R.At t → InRange t
-unfolding instantRead instantOf
-read-fits s n t e =
-    by-test (isIn (firstInstant / second) (lastInstant / second) (secondFrom s) && (not (isBelow0 n) && ltb (natAbs n) second))
-    (λ b.
-    let q : R.At (ofNanos (secondFrom s * second + natAbs n)) ≡ R.At t = simp b at e in
-    let p : ofNanos (secondFrom s * second + natAbs n) ≡ t = cc in
-    let x : (secondFrom s * second + natAbs n) / second ≡ t .sec = ap (λ (j : Instant). j .sec) p in
-    let y : (secondFrom s * second + natAbs n) % second ≡ t .ns = ap (λ (j : Instant). j .ns) p in
-    let o = and-both (isIn (firstInstant / second) (lastInstant / second) (secondFrom s)) (not (isBelow0 n) && ltb (natAbs n) second) b in
-    let i = and-both (leb (firstInstant / second) (secondFrom s)) (leb (secondFrom s) (lastInstant / second)) (o .0) in
-    let r = and-both (not (isBelow0 n)) (ltb (natAbs n) second) (o .1) in
-    let l : 12654496799 ≤ secondFrom s = leb-true _ _ (i .0) in
-    let h : secondFrom s ≤ 643761727200 = leb-true _ _ (i .1) in
-    let k : natAbs n < second = ltb-true _ _ (r .1) in
-    record { low = omega arith; high = omega arith; ns = omega arith })
-    (λ b. let q : R.OutOfRange ≡ R.At t = simp b at e in never (cc))
-
 -- ---- an instant written
 
 pub written-is : (i : Instant) (n : ℕ) → i .ns < second → nanos i ≡ n → instant n ≡ secondsFrom (i .sec) ∷ pos (i .ns) ∷ []
-unfolding instant secondsFrom
-written-is i n h e =
-    let x : n / second ≡ i .sec = omega arith in
-    let y : n % second ≡ i .ns = omega arith in
-    rw (x, y)
+written-is i n h e = sym (instant-written i n h e refl refl)
 
 -- ---- the calls on a built schedule
 
 module _ (w : Way) (s : model.Schedule) (sec ns : ℤ) where
   pub call-out : instantRead (instantOf sec ns) ≡ R.OutOfRange → refuses 8 0 ≡ periodCall w s sec ns
   unfolding periodCall
-  call-out e = rw (← (read-not sec ns e))
+  call-out e = rw (instant-refused sec ns e)
 
   -- what the walk answers is the call's refusal, or its period
   walked : (t : Instant) → instantRead (instantOf sec ns) ≡ R.At t → periodCall w s sec ns ≡ (period w s (nanos t) >>= λ p. periodGiven (ends w (nanos t) p))
   unfolding periodCall
-  walked t e = rw (read-is (instantOf sec ns) t e)
+  walked t e = rw (instant-read sec ns t e .means)
 
   pub call-refused : (t : Instant) → instantRead (instantOf sec ns) ≡ R.At t → {r r′ : Found} → r ≡ r′ → foundIs r ≡ period w s (nanos t) → (n : ℕ) → foundIs r′ ≡ refuses n 0 → refuses n 0 ≡ periodCall w s sec ns
   call-refused t e p q n f = let z : period w s (nanos t) ≡ refuses n 0 = sym q ∙ ap foundIs p ∙ f in sym (walked t e ∙ rw z)

@@ -1,4 +1,5 @@
 -- What the answers of the calls mean: the values of document 01 in their order, or a refusal's number and place.
+use mathlib.Core.Bool.{Bool}
 use mathlib.Core.Option.{none}
 use mathlib.Core.List.{List, [], _∷_}
 use Prim.Native.Nat.{ℕ}
@@ -6,7 +7,9 @@ use lib.IntN.{ℤ}
 use Rattle.model.specs.Answer.{Answer, gives, refuses, _>>=_}
 use Rattle.model.specs.Build.{build}
 use Rattle.model.specs.Calls.{Reply, periodCall}
-use Rattle.model.specs.Walk.{Way}
+use Rattle.rule.specs.declared.Schedule.{Schedule}
+use Rattle.rule.specs.Rules.{scheduleIs}
+use Rattle.walk_distance.specs.Distances.{wayOf}
 use Rattle.schedule_periods.specs.declared.PeriodAnswer.{PeriodAnswer}
 use Rattle.schedule_periods.specs.declared.PeriodAnswer.the-variants as P
 
@@ -19,6 +22,10 @@ abbrev pub periodIs : PeriodAnswer → Answer Reply
 periodIs (P.Is a b c d) = periodGiven (a ∷ b ∷ c ∷ d ∷ [])
 periodIs (P.Refused n k) = refuses n k
 
--- `nextPeriod` of the definitions goes on, `previousPeriod` back
-abbrev pub periodOf : Way → List ℕ → List ℕ → ℤ → ℤ → Answer Reply
-periodOf w book pack t₁ t₂ = build book pack >>= λ s. periodCall w s t₁ t₂
+-- `nextPeriod` of the definitions goes on, `previousPeriod` back: of a schedule that is built,
+abbrev pub periodIn : Bool → List ℕ → List ℕ → Schedule → ℤ → ℤ → Answer Reply
+periodIn back book pack s t₁ t₂ = periodCall (wayOf back) (scheduleIs book pack s) t₁ t₂
+
+-- and of a book and a pack
+abbrev pub periodOf : Bool → List ℕ → List ℕ → ℤ → ℤ → Answer Reply
+periodOf back book pack t₁ t₂ = build book pack >>= λ s. periodCall (wayOf back) s t₁ t₂

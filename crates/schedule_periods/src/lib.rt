@@ -1,16 +1,15 @@
 // The calls `next_period` and `previous_period`, on the bytes of a rule book and a zone pack and on an instant as signed numbers: the period's
 // start and end, or a refusal.
 ghost use mathlib.Core.Path.{_≡_};
-ghost use mathlib.Core.List.{List, _++_};
-ghost use Prim.Native.Nat.{ℕ, _^_, _<_};
+ghost use mathlib.Core.List.{_++_};
+ghost use Prim.Native.Nat.{_^_, _<_};
 ghost use Rattle.model.specs.Instant.{instant};
 ghost use Rattle.model.specs.Blocks.{block};
-ghost use Rattle.model.specs.Calls.{ends, periodCall, nextPeriod, previousPeriod};
-ghost use Rattle.instant.specs.Instant.{nanos, InRange};
-ghost use Rattle.rule.specs.Rules.{scheduleIs, ScheduleFits};
-ghost use Rattle.walk_distance.specs.Distances.{wayOf};
-ghost use Rattle.walk_distance.specs.Distances.{Short};
-ghost use Rattle.schedule_periods.specs.Replies.{periodIs, periodGiven, periodOf};
+ghost use Rattle.model.specs.Calls.{ends, nextPeriod, previousPeriod};
+ghost use Rattle.instant.specs.Instant.{nanos, Exact, InRange};
+ghost use Rattle.rule.specs.Rules.{ScheduleFits};
+ghost use Rattle.walk_distance.specs.Distances.{wayOf, Short};
+ghost use Rattle.schedule_periods.specs.Replies.{periodIs, periodGiven, periodIn, periodOf};
 use instant::Instant;
 use instant::Length;
 use instant_signed::InstantRead;
@@ -25,7 +24,7 @@ pub enum PeriodAnswer {
 
 // The period between two instants, as signed numbers.
 fn period_answer(start: Instant, end: Instant) -> PeriodAnswer
-    requires { ⌜ (start .sec < 2 ^ 63) × (start .ns < 1000000000) × (end .sec < 2 ^ 63) × (end .ns < 1000000000) ⌝ }
+    requires { ⌜ (start .sec < 2 ^ 63) × Exact start × (end .sec < 2 ^ 63) × Exact end ⌝ }
     ensures { λ r. ⌜ periodIs r ≡ periodGiven (instant (nanos start) ++ instant (nanos end)) ⌝ }
 {
     let a = instant_signed::seconds_of(start.sec);
@@ -57,7 +56,7 @@ pub fn period_in(
     ns: i64,
 ) -> PeriodAnswer
     requires { ⌜ ScheduleFits (now book) (now pack) s ⌝ }
-    ensures { λ r. ⌜ periodIs r ≡ periodCall (wayOf back) (scheduleIs (now (book .entry)) (now (pack .entry)) s) sec ns ⌝ }
+    ensures { λ r. ⌜ periodIs r ≡ periodIn back (now (book .entry)) (now (pack .entry)) s sec ns ⌝ }
 {
     let InstantRead::At(t) = instant_signed::instant_of(sec, ns) else {
         return PeriodAnswer::Refused(8, 0);
@@ -71,7 +70,7 @@ pub fn period_in(
 
 // The same from the bytes of book and pack: what `build` refuses comes first.
 fn period(book: &[u8], pack: &[u8], back: bool, sec: i64, ns: i64) -> PeriodAnswer
-    ensures { λ r. ⌜ periodIs r ≡ periodOf (wayOf back) (now (book .entry)) (now (pack .entry)) sec ns ⌝ }
+    ensures { λ r. ⌜ periodIs r ≡ periodOf back (now (book .entry)) (now (pack .entry)) sec ns ⌝ }
 {
     let r = build::build(book, pack);
     if r.number != 0 {

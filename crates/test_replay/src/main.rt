@@ -3,6 +3,7 @@
 // are compared. Writes a line for each case that differs, and at the end how many cases and lines are equal and how many cases differ.
 ghost use Prim.Native.Nat.{_+_, _*_, _≤_, _<_};
 ghost use lib.ListN.{length};
+use answer_line::LONGEST;
 use libc::STDOUT_FILENO;
 
 // What was seen so far.
@@ -12,17 +13,19 @@ pub struct Seen {
     pub different: u64,
 }
 
+// Writes a text to standard output.
 fn text(s: &[u8]) {
     io::write_all(STDOUT_FILENO, s);
 }
 
+// Writes a number in decimal digits.
 fn number(n: u64) {
     io::print_decimal(STDOUT_FILENO, n);
 }
 
 // The digit of k, 0 to 9.
 fn digit(k: usize) -> u8 {
-    48 + (k % 10) as u8
+    b'0' + (k % 10) as u8
 }
 
 // n + 1, or the greatest number.
@@ -54,7 +57,7 @@ fn lines_in(s: &[u8], seen: u64) -> u64 {
     let mut n = seen;
     let mut i: usize = 0;
     while i < s.len() {
-        if big_endian::byte_at(s, i) == 10 {
+        if big_endian::byte_at(s, i) == b'\n' {
             n = one_more(n);
         }
         i += 1;
@@ -69,7 +72,7 @@ fn agrees(book: &[u8], pack: &[u8], input: &[u8], expected: &[u8], out: &mut [u8
     if p.next != input.len() {
         return false;
     }
-    let mut tail = [0u8; 128];
+    let mut tail = [0u8; LONGEST];
     let k = query_stream::end(book, pack, b, p, &mut tail);
     let n = p.used;
     if !stands_at(expected, 0, &out[..n]) {
@@ -158,18 +161,18 @@ fn replay_file(file: &[u8], seen: Seen, out: &mut [u8]) -> Seen
 fn replay_at(k: usize, seen: Seen, out: &mut [u8]) -> Seen {
     // cases-KK.bin
     let path = [
-        99,
-        97,
-        115,
-        101,
-        115,
-        45,
+        b'c',
+        b'a',
+        b's',
+        b'e',
+        b's',
+        b'-',
         digit(k / 10),
         digit(k),
-        46,
-        98,
-        105,
-        110,
+        b'.',
+        b'b',
+        b'i',
+        b'n',
     ];
     let file = os::open_read(&path);
     if file < 0 {

@@ -18,10 +18,12 @@ pub struct Seen {
     pub different: u64,
 }
 
+// Writes a text to standard output.
 fn text(s: &[u8]) {
     io::write_all(STDOUT_FILENO, s);
 }
 
+// Writes a number in decimal digits.
 fn number(n: u64) {
     io::print_decimal(STDOUT_FILENO, n);
 }
@@ -276,6 +278,7 @@ fn ask_file(file: &[u8], out: &mut [i64]) -> Seen
     seen
 }
 
+// Writes what was seen.
 fn tell(seen: Seen) {
     number(seen.cases);
     text(b" cases, ");

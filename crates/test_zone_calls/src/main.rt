@@ -8,10 +8,15 @@ use zone_calls::ChangeAnswer;
 use zone_calls::OffsetAnswer;
 use zone_calls::ResolveAnswer;
 
+// 2^63, which is added to every signed number.
 const HALF: u64 = 9223372036854775808;
+
+// The bytes of a question.
+const QUESTION_SIZE: usize = 52;
 
 // ---- writing
 
+// Writes a text.
 fn text(s: &[u8]) {
     io::write_all(STDOUT_FILENO, s);
 }
@@ -38,6 +43,7 @@ fn refused(number: u32, place: usize) {
 
 // ---- asking
 
+// Asks for the offset at an instant, and writes the question and the answer.
 fn offset(file: &[u8], sec: i64, ns: i64) {
     text(b"offset");
     number(sec);
@@ -49,6 +55,7 @@ fn offset(file: &[u8], sec: i64, ns: i64) {
     }
 }
 
+// Asks for the next change after an instant, and writes the question and the answer.
 fn change(file: &[u8], sec: i64, ns: i64) {
     text(b"change");
     number(sec);
@@ -64,6 +71,7 @@ fn change(file: &[u8], sec: i64, ns: i64) {
     }
 }
 
+// Asks for the instant of a local time, and writes the question and the answer.
 fn resolve(file: &[u8], year: i64, month: i64, day: i64, second: i64, ns: i64) {
     text(b"resolve");
     number(year);
@@ -113,10 +121,13 @@ fn ask(zones: &[u8], q: &[u8]) {
 
 // Asks all questions.
 fn ask_all(zones: &[u8], questions: &[u8]) {
-    let n = questions.len() / 52;
+    let n = questions.len() / QUESTION_SIZE;
     let mut i: usize = 0;
     while i < n {
-        ask(zones, big_endian::part(questions, 52 * i, 52));
+        ask(
+            zones,
+            big_endian::part(questions, QUESTION_SIZE * i, QUESTION_SIZE),
+        );
         i += 1;
     }
 }
@@ -135,6 +146,7 @@ fn load(path: &[u8], buffer: &mut [u8]) -> usize
     n
 }
 
+// Asks the questions of questions.bin about the files in zones.bin.
 fn main() {
     let mut zones = [0u8; 65536];
     let mut questions = [0u8; 65536];

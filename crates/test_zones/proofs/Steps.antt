@@ -1,4 +1,4 @@
--- Laws of comparing with stored answers: a number read, one pair tested, and one turn of counting.
+-- Laws of comparing with stored answers: a number read, one pair tested, and one step of counting.
 use mathlib.Core.Path.{_≡_, refl, sym, ap, _∙_}
 use mathlib.Core.Bool.{Bool, true, false}
 use mathlib.Core.List.{List}
@@ -18,6 +18,8 @@ use Rattle.zone_next_change.specs.declared.Next.the-variants as N
 use Rattle.zone.specs.Zones.{meant}
 use Rattle.zone.specs.declared.Zone.{Zone}
 use Rattle.test_zones.specs.Answers.{shifted, localAt, answerAt, isNext, agreesAt}
+use Rattle.laws_zone.specs.Sound.{firstLocal}
+use Rattle.instant.specs.Instant.{yearsEnd}
 
 pub shifted-is : (a : List ℕ) (i k : ℕ) {b r : ℕ} → b ≡ be64 a i → r ≡ (b + k) % 2 ^ 64 → r ≡ shifted a i k
 unfolding shifted
@@ -34,17 +36,17 @@ module _ (o : Option ℕ) (v : ℕ) {n : Next} (e : theNext n ≡ o) where
   next-some q = rw (← e, q)
 
 module _ (f : List ℕ) (z : Zone) (a : List ℕ) (i : ℕ) {x : ℕ} (e : x ≡ localAt a i) where
-  pub early : x < 187200 → false ≡ agreesAt f z a i
+  pub early : x < firstLocal → false ≡ agreesAt f z a i
   unfolding agreesAt
-  early h = rw (← e, lt-leb 187200 x h)
+  early h = rw (← e, lt-leb firstLocal x h)
 
-  pub beyond : {b : Bool} {y : ℕ} → 187200 ≤ x → 656384601600 ≤ x → y ≡ answerAt a i → b ≡ isNext (nextChange (meant f z) (x - 656384601600)) y → b ≡ agreesAt f z a i
+  pub beyond : {b : Bool} {y : ℕ} → firstLocal ≤ x → yearsEnd ≤ x → y ≡ answerAt a i → b ≡ isNext (nextChange (meant f z) (x - yearsEnd)) y → b ≡ agreesAt f z a i
   unfolding agreesAt
-  beyond {b} {y} g h q p = rw (← e, le-leb 187200 x g, le-ltb x 656384601600 h, ← q) p
+  beyond {b} {y} g h q p = rw (← e, le-leb firstLocal x g, le-ltb x yearsEnd h, ← q) p
 
-  pub inside : {s y : ℕ} → 187200 ≤ x → x < 656384601600 → s ≡ secondOf (meant f z) x → y ≡ answerAt a i → eqb s y ≡ agreesAt f z a i
+  pub inside : {s y : ℕ} → firstLocal ≤ x → x < yearsEnd → s ≡ secondOf (meant f z) x → y ≡ answerAt a i → eqb s y ≡ agreesAt f z a i
   unfolding agreesAt
-  inside {s} {y} g h p q = rw (← e, le-leb 187200 x g, lt-ltb x 656384601600 h, ← p, ← q)
+  inside {s} {y} g h p q = rw (← e, le-leb firstLocal x g, lt-ltb x yearsEnd h, ← p, ← q)
 
 module _ (t : ℕ → Bool) {i k : ℕ} {b : Bool} (n : k ≡ countOf t i) (e : b ≡ t i) where
   counted : countOf t (i + 1) ≡ k + pickN b 1 0

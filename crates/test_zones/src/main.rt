@@ -7,32 +7,44 @@ ghost use Prim.Native.Nat.{_≤_, _<_};
 ghost use Rattle.big_endian.specs.Walk.{countOf};
 ghost use Rattle.zone.specs.Zones.{meant, ZoneOk};
 ghost use Rattle.model.specs.NextChange.{nextChange};
-ghost use Rattle.test_zones.specs.Answers.{localAt, answerAt, isNext, agreesAt};
+ghost use Rattle.test_zones.specs.Answers.{fileSize, mostZones, localAt, answerAt, isNext, agreesAt};
 use libc::STDOUT_FILENO;
 use zone::Zone;
 use zone::ZoneRead;
 use zone_next_change::Next;
 
+// The most bytes of a file that are read.
+const FILE_SIZE: usize = 65536;
+
+// The bytes of a stored answer.
+const PAIR_SIZE: usize = 16;
+
+// The most zones of a pack that are written.
+const MOST_ZONES: usize = 1024;
+
+// The local second of 1970-01-01T00:00:00 as zones keep it.
+const LOCAL_EPOCH: u64 = instant::EPOCH + zone_offset::BIAS_64;
+
 // ---- comparing
 
 // The local second of pair i, counted as the zone's code counts it.
 fn local_at(a: &[u8], i: usize) -> u64
-    requires { ⌜ i < 65536 ⌝ }
+    requires { ⌜ i < fileSize ⌝ }
     ensures { λ r. ⌜ r ≡ localAt (now (a .entry)) i ⌝ }
 {
-    std::num::wrapping_add_u64(big_endian::be64_at(a, 16 * i), 390359613600)
+    std::num::wrapping_add_u64(big_endian::be64_at(a, PAIR_SIZE * i), LOCAL_EPOCH)
 }
 
 // The second of pair i, counted from -10400-01-01T00:00:00Z.
 fn answer_at(a: &[u8], i: usize) -> u64
-    requires { ⌜ i < 65536 ⌝ }
+    requires { ⌜ i < fileSize ⌝ }
     ensures { λ r. ⌜ r ≡ answerAt (now (a .entry)) i ⌝ }
 {
-    std::num::wrapping_add_u64(big_endian::be64_at(a, 16 * i + 8), 390359520000)
+    std::num::wrapping_add_u64(big_endian::be64_at(a, PAIR_SIZE * i + 8), instant::EPOCH)
 }
 
 // Is the next change of the zone's offset after u at v?
-fn turns_at(f: &[u8], z: Zone, u: u64, v: u64) -> bool
+fn changes_at(f: &[u8], z: Zone, u: u64, v: u64) -> bool
     requires { ⌜ ZoneOk (now f) z ⌝ }
     ensures { λ r. ⌜ r ≡ isNext (nextChange (meant (now (f .entry)) z) u) v ⌝ }
 {
@@ -44,22 +56,22 @@ fn turns_at(f: &[u8], z: Zone, u: u64, v: u64) -> bool
 
 // Does the zone give pair i's second for its local second, or as its next change?
 fn agrees_at(f: &[u8], z: Zone, a: &[u8], i: usize) -> bool
-    requires { ⌜ ZoneOk (now f) z × (i < 65536) ⌝ }
+    requires { ⌜ ZoneOk (now f) z × (i < fileSize) ⌝ }
     ensures { λ r. ⌜ r ≡ agreesAt (now (f .entry)) z (now (a .entry)) i ⌝ }
 {
     let x = local_at(a, i);
-    if x < 187200 {
+    if x < zone::FIRST_LOCAL {
         return false;
     }
-    if x >= 656384601600 {
-        return turns_at(f, z, x - 656384601600, answer_at(a, i));
+    if x >= zone::YEARS_END {
+        return changes_at(f, z, x - zone::YEARS_END, answer_at(a, i));
     }
     zone::second_of(f, z, x) == answer_at(a, i)
 }
 
 // How many of the first n pairs does it give?
 fn agreeing(f: &[u8], z: Zone, a: &[u8], n: usize) -> usize
-    requires { ⌜ ZoneOk (now f) z × (n ≤ 65536) ⌝ }
+    requires { ⌜ ZoneOk (now f) z × (n ≤ fileSize) ⌝ }
     ensures { λ r. ⌜ (r ≡ countOf (agreesAt (now (f .entry)) z (now (a .entry))) n) × (r ≤ n) ⌝ }
 {
     let mut k: usize = 0;
@@ -76,27 +88,29 @@ fn agreeing(f: &[u8], z: Zone, a: &[u8], n: usize) -> usize
 
 // ---- reading and writing
 
+// Writes a text.
 fn text(s: &[u8]) {
     io::write_all(STDOUT_FILENO, s);
 }
 
+// Writes a number.
 fn number(n: usize) {
     io::print_decimal(STDOUT_FILENO, n as u64);
 }
 
 // The digit of k, 0 to 9.
 fn digit(k: usize) -> u8 {
-    48 + (k % 10) as u8
+    b'0' + (k % 10) as u8
 }
 
 // Compares with the answers that the open file holds.
 fn compare(f: &[u8], z: Zone, file: i32)
     requires { ⌜ ZoneOk (now f) z ⌝ }
 {
-    let mut buffer = [0u8; 65536];
+    let mut buffer = [0u8; FILE_SIZE];
     let got = io::read_full(file, &mut buffer);
     libc::close(file);
-    let n = got / 16;
+    let n = got / PAIR_SIZE;
     let k = agreeing(f, z, &buffer, n);
     text(b", ");
     number(k);
@@ -106,7 +120,7 @@ fn compare(f: &[u8], z: Zone, file: i32)
 }
 
 // Writes what comes of zone i, whose file is f.
-fn tell(f: &[u8], i: usize) {
+fn write_zone(f: &[u8], i: usize) {
     let ZoneRead::Opened(z) = zone::open(f) else {
         text(b"refused\n");
         return;
@@ -114,21 +128,21 @@ fn tell(f: &[u8], i: usize) {
     text(b"usable");
     // answers-KKK.bin
     let path = [
-        97,
-        110,
-        115,
-        119,
-        101,
-        114,
-        115,
-        45,
+        b'a',
+        b'n',
+        b's',
+        b'w',
+        b'e',
+        b'r',
+        b's',
+        b'-',
         digit(i / 100),
         digit(i / 10),
         digit(i),
-        46,
-        98,
-        105,
-        110,
+        b'.',
+        b'b',
+        b'i',
+        b'n',
     ];
     let file = os::open_read(&path);
     if file >= 0 {
@@ -139,12 +153,12 @@ fn tell(f: &[u8], i: usize) {
 
 // Finds zone i by its name, and writes its line.
 fn line(p: &[u8], i: usize)
-    requires { ⌜ i < 1024 ⌝ }
+    requires { ⌜ i < mostZones ⌝ }
 {
     if !zone_pack::pack_ok(p) {
         return;
     }
-    let start = zone_pack::start_at(p, i);
+    let start = directory::start_at(p, i);
     let name = big_endian::part(p, start + 1, big_endian::small_at(p, start));
     text(name);
     let mut found = false;
@@ -155,12 +169,12 @@ fn line(p: &[u8], i: usize)
         return;
     }
     text(b": ");
-    tell(f, i);
+    write_zone(f, i);
 }
 
 // Writes the lines of the first n zones.
 fn lines(p: &[u8], n: usize)
-    requires { ⌜ n ≤ 1024 ⌝ }
+    requires { ⌜ n ≤ mostZones ⌝ }
 {
     let mut i: usize = 0;
     while i < n {
@@ -175,19 +189,20 @@ fn all_lines(p: &[u8]) {
         text(b"no pack\n");
         return;
     }
-    let n = zone_pack::count_of(p);
-    if n <= 1024 {
+    let n = directory::count_of(p);
+    if n <= MOST_ZONES {
         lines(p, n);
     }
 }
 
+// Writes the lines of the pack in zones.bin.
 fn main() {
     let file = os::open_read(b"zones.bin");
     if file < 0 {
         os::fail(b"zones.bin");
         return;
     }
-    let mut buffer = [0u8; 65536];
+    let mut buffer = [0u8; FILE_SIZE];
     let n = io::read_full(file, &mut buffer);
     libc::close(file);
     all_lines(&buffer[..n]);

@@ -1,2 +1,3 @@
 pub mod Borders
 pub mod Near
+pub mod WholeWeeks

@@ -51,22 +51,26 @@ near-inside lo hi (b ∷ l) i = let p = i .0 in let q = i .1 in let r = i .2 in 
 -- ---- the window's blocks
 
 module _ (s : Schedule) (t x y lo hi : ℕ) (h : x ≤ y) (p : List Block) (e : p ≡ onward lo (working s lo hi)) where
-  pub into-on : lo ≡ t + x → hi ≡ t + y → moves x p ≡ ahead on s t x y
+  into-on : lo ≡ t + x → hi ≡ t + y → moves x p ≡ ahead on s t x y
   unfolding ahead
   into-on a b =
       let f : p ≡ onward (t + x) (working s (t + x) (t + y)) = rw (a, b) at e in
       ap (moves x) f ∙ near-on t x (t + y) (working s (t + x) (t + y)) (working-inside s (t + x) (t + y) (omega arith))
 
-  pub into-back : y ≤ t → lo ≡ t - y → hi ≡ t - x → moves x (backward (y - x) p) ≡ ahead back s t x y
+  into-back : y ≤ t → lo ≡ t - y → hi ≡ t - x → moves x (backward (y - x) p) ≡ ahead back s t x y
   unfolding ahead
   into-back k a b =
       let f : p ≡ onward (t - y) (working s (t - y) (t - x)) = rw (a, b) at e in
       ap (λ (l : List Block). moves x (backward (y - x) l)) f ∙ near-back t x y (working s (t - y) (t - x)) h k (working-inside s (t - y) (t - x) (omega arith))
 
-pub into-inside : (s : Schedule) (x y lo hi : ℕ) (p : List Block) → p ≡ onward lo (working s lo hi) → lo ≤ hi → hi - lo ≡ y - x → Inside 0 (y - x) p
+into-inside : (s : Schedule) (x y lo hi : ℕ) (p : List Block) → p ≡ onward lo (working s lo hi) → lo ≤ hi → hi - lo ≡ y - x → Inside 0 (y - x) p
 into-inside s x y lo hi p e k d = rw e (rw d at (near-inside lo hi (working s lo hi) (working-inside s lo hi k)))
 
 -- either way
 pub into-placed : (w : Way) (s : Schedule) (t x y lo hi : ℕ) (p : List Block) → x ≤ y → Placed w t x y lo hi → p ≡ onward lo (working s lo hi) → moves x (seen w (y - x) p) ≡ ahead w s t x y
 into-placed on s t x y lo hi p h (placed-on a b) e = into-on s t x y lo hi h p e a b
 into-placed back s t x y lo hi p h (placed-back k a b) e = into-back s t x y lo hi h p e k a b
+
+pub placed-inside : (w : Way) (s : Schedule) (t x y lo hi : ℕ) (p : List Block) → x ≤ y → Placed w t x y lo hi → p ≡ onward lo (working s lo hi) → Inside 0 (y - x) p
+placed-inside on s t x y lo hi p h (placed-on a b) e = into-inside s x y lo hi p e (omega arith) (omega arith)
+placed-inside back s t x y lo hi p h (placed-back k a b) e = into-inside s x y lo hi p e (omega arith) (omega arith)

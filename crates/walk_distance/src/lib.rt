@@ -1,31 +1,25 @@
-// The windows of a search, by their distances from the instant where it starts: going on from it, or back. A window is seven days, or less at the
+// The windows of a walk, by their distances from the instant where it starts: going on from it, or back. A window is seven days, or less at the
 // range's end.
 ghost use mathlib.Core.Path.{_≡_};
-ghost use Prim.Native.Nat.{ℕ, _+_, _*_, _-_, _≤_, _<_, min};
-ghost use lib.ListN.{length};
-ghost use Rattle.instant.specs.Instant.{nanos, InRange};
+ghost use Prim.Native.Nat.{_+_, _*_, _-_, _/_, _≤_, _<_, min};
+ghost use lib.Dec.{eqb};
+ghost use Rattle.instant.specs.Instant.{nanos, most, Exact, InRange};
 ghost use Rattle.model.specs.Instant.{week};
-ghost use Rattle.model.specs.Walk.{ahead};
 ghost use Rattle.model.specs.Walk as way;
-ghost use Rattle.laws_blocks.specs.Move.{moves};
-ghost use Rattle.laws_skip.specs.WindowEnds.{Inside};
-ghost use Rattle.rule.specs.Rules.{scheduleIs, ScheduleFits};
-ghost use Rattle.walk_distance.specs.Distances.{wayOf};
-ghost use Rattle.window_dates.specs.Windows.{Window};
-ghost use Rattle.block_pairs.specs.Pairs.{pairs};
-ghost use Rattle.window_week.specs.Room.{room};
-ghost use Rattle.walk_distance.specs.Distances.{Short, Ahead, Placed, seen};
+ghost use Rattle.rule.specs.Rules.{ScheduleFits};
+ghost use Rattle.window_week.specs.Room.{HasRoom};
+ghost use Rattle.walk_distance.specs.Distances.{wayOf, rangeSeconds, mostWeeks, Short, Within, PlacedAt, ResolvedAt};
 use instant::Instant;
 use instant::Length;
 use rule::Schedule;
 
-// The end of the window that begins at x: a week further, or `end` if that is nearer.
-pub fn week_on(x: Length, end: Length) -> Length
+// The end of the window that begins at x: a week further, or `end` if that is nearer. Both may be distances, or both instants.
+pub fn window_end(x: Length, end: Length) -> Length
     requires { ⌜ Short x × Short end ⌝ }
     ensures { λ r. ⌜ (nanos r ≡ min (nanos x + week) (nanos end)) × Short r ⌝ }
 {
     let on = Length {
-        sec: x.sec + 604800,
+        sec: x.sec + instant::WEEK,
         ns: x.ns,
     };
     if instant::precedes(on, end) {
@@ -34,27 +28,62 @@ pub fn week_on(x: Length, end: Length) -> Length
     end
 }
 
+// y is a week further than x.
+pub fn is_week(x: Length, y: Length) -> bool
+    requires { ⌜ Short x × Short y ⌝ }
+    ensures { λ r. ⌜ r ≡ eqb (nanos y - nanos x) week ⌝ }
+{
+    if y.ns == x.ns {
+        return y.sec == x.sec + instant::WEEK;
+    }
+    false
+}
+
+// ---- many windows at once
+
+// How many whole windows lie from x to `end`.
+pub fn weeks(x: Length, end: Length) -> u64
+    requires { ⌜ Short x × Short end × (nanos x ≤ nanos end) ⌝ }
+    ensures { λ r. ⌜ r ≡ (nanos end - nanos x) / week ⌝ }
+{
+    let d = instant::difference(end, x);
+    d.sec / instant::WEEK
+}
+
+// n weeks further than x.
+pub fn weeks_on(x: Length, n: u64) -> Length
+    requires { ⌜ (n ≤ mostWeeks) × (nanos x < most) ⌝ }
+    ensures { λ r. ⌜ (nanos r ≡ nanos x + n * week) × (r .ns ≡ x .ns) ⌝ }
+{
+    Length {
+        sec: x.sec + n * instant::WEEK,
+        ns: x.ns,
+    }
+}
+
+// n times x.
+pub fn times(x: Length, n: u64) -> Length
+    requires { ⌜ Exact x × (n ≤ mostWeeks) × (n * nanos x < most) ⌝ }
+    ensures { λ r. ⌜ (nanos r ≡ n * nanos x) × Exact r ⌝ }
+{
+    let ns = n * x.ns as u64;
+    Length {
+        sec: n * x.sec + ns / instant::SECOND,
+        ns: (ns % instant::SECOND) as u32,
+    }
+}
+
+// ---- distances from an instant
+
 // The instant that is x away from t, be it in the range or not.
 pub fn away(t: Instant, back: bool, x: Length) -> Instant
     requires { ⌜ InRange t × Short x ⌝ }
-    ensures { λ r. ⌜ (nanos r ≡ way.at (wayOf back) (nanos t) (nanos x)) × (r .sec < 2000000000000) × (r .ns < 1000000000) ⌝ }
+    ensures { λ r. ⌜ (nanos r ≡ way.at (wayOf back) (nanos t) (nanos x)) × (r .sec < 2 * rangeSeconds) × Exact r ⌝ }
 {
-    let u = Length {
-        sec: t.sec,
-        ns: t.ns,
-    };
     if back {
-        let r = instant::difference(u, x);
-        return Instant {
-            sec: r.sec,
-            ns: r.ns,
-        };
+        return instant::difference(t, x);
     }
-    let r = instant::sum(u, x);
-    Instant {
-        sec: r.sec,
-        ns: r.ns,
-    }
+    instant::sum(t, x)
 }
 
 // The instant at the distance x from t, in the range.
@@ -70,25 +99,21 @@ pub fn reach(t: Instant, back: bool) -> Length
     requires { ⌜ InRange t ⌝ }
     ensures { λ r. ⌜ (nanos r ≡ way.reach (wayOf back) (nanos t)) × Short r ⌝ }
 {
-    let u = Length {
-        sec: t.sec,
-        ns: t.ns,
-    };
     if back {
         return instant::difference(
-            u,
-            Length {
-                sec: 12654496799,
+            t,
+            Instant {
+                sec: instant::FIRST,
                 ns: 0,
             },
         );
     }
     instant::difference(
-        Length {
-            sec: 643761727200,
-            ns: 999999999,
+        Instant {
+            sec: instant::LAST,
+            ns: instant::LAST_NS,
         },
-        u,
+        t,
     )
 }
 
@@ -100,8 +125,8 @@ pub struct Ends {
 
 // The instants between which the window between two distances from t lies.
 pub fn place(t: Instant, back: bool, x: Length, y: Length) -> Ends
-    requires { ⌜ InRange t × Ahead (wayOf back) (nanos t) x y ⌝ }
-    ensures { λ r. ⌜ Window 7 (r .lo) (r .hi) × Placed (wayOf back) (nanos t) (nanos x) (nanos y) (nanos (r .lo)) (nanos (r .hi)) ⌝ }
+    requires { ⌜ Within t back x y ⌝ }
+    ensures { λ r. ⌜ PlacedAt (wayOf back) (nanos t) (nanos x) (nanos y) r ⌝ }
 {
     let near = at(t, back, x);
     let far = at(t, back, y);
@@ -125,13 +150,9 @@ pub fn window_into(
     off: &mut [u64],
     out: &mut [u64],
 ) -> usize
-    requires { ⌜ ScheduleFits (now book) (now pack) s × InRange t × Ahead (wayOf back) (nanos t) x y × (room s ≤ length (now on)) × (room s ≤ length (now off)) × (room s ≤ length (now out)) ⌝ }
-    ensures { λ r. ⌜ (moves (nanos x) (seen (wayOf back) (nanos y - nanos x) (pairs r (now (out .exit)))) ≡ ahead (wayOf back) (scheduleIs (now (book .entry)) (now (pack .entry)) s) (nanos t) (nanos x) (nanos y)) × Inside 0 (nanos y - nanos x) (pairs r (now (out .exit))) × (r ≤ 14 * (s .works + s .pauses + s .closings)) × (length (now (out .exit)) ≡ length (now (out .entry))) ⌝ }
+    requires { ⌜ ScheduleFits (now book) (now pack) s × Within t back x y × HasRoom s (now on) (now off) (now out) ⌝ }
+    ensures { λ r. ⌜ ResolvedAt (now (book .entry)) (now (pack .entry)) s t back x y r (now (out .exit)) ⌝ }
 {
-    let nearer = at(t, back, x);
-    let further = at(t, back, y);
-    if back {
-        return window_week::working_into(book, pack, s, further, nearer, on, off, out);
-    }
-    window_week::working_into(book, pack, s, nearer, further, on, off, out)
+    let at = place(t, back, x, y);
+    window_week::working_into(book, pack, s, at.lo, at.hi, on, off, out)
 }

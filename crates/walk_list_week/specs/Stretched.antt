@@ -1,16 +1,19 @@
 -- Stretches as they are found block by block: those that are ended, the one that is still open, and the numbers that are written of them.
-use Rattle.instant.specs.Instant.{most}
 use mathlib.Core.Path.{_≡_}
 use mathlib.Core.Bool.{Bool, true, false}
 use mathlib.Core.List.{List, [], _∷_, _++_, map}
 use Prim.Native.Nat.{ℕ, _+_, _*_, _≤_, _<_, max}
 use lib.Dec.{leb}
 use lib.IntN.{ℤ}
-use lib.ListN.{length, take, drop}
+use lib.ListN.{length, take, drop, getD}
 use Rattle.model.specs.Basic.{if_then_else_, joined}
 use Rattle.model.specs.Blocks.{Block, block, merged, mergedFrom}
 use Rattle.model.specs.Instant.{instant}
+use Rattle.laws_blocks.specs.Move.{moves}
+use Rattle.instant.specs.Instant.{nanos, most}
+use Rattle.instant.specs.declared.Instant.{Instant}
 use Rattle.block.specs.Counted.{blockOf}
+use Rattle.block_pairs.specs.Pairs.{pairs}
 use Rattle.walk_list_week.specs.declared.Open.{Open}
 
 -- ---- stretches
@@ -58,7 +61,25 @@ unfoldable pub stored : Bool → ℕ → List Block → List ℤ → List ℤ
 stored true n l e = placed (4 * n) (joined (map fields l)) e
 stored false n l e = e
 
+-- ---- a window's blocks, as pairs of numbers that are distances from its start
+
+-- block i of l
+abbrev pub blockFrom : Instant → List ℕ → ℕ → Block
+blockFrom lo l i = block (getD l (2 * i) 0 + nanos lo) (getD l (2 * i + 1) 0 + nanos lo)
+
+-- the first n blocks of l
+abbrev pub blocksFrom : Instant → ℕ → List ℕ → List Block
+blocksFrom lo n l = moves (nanos lo) (pairs n l)
+
 -- ---- what is asked of a window's blocks
+
+-- no window has more blocks than this
+abbrev pub mostBlocks : ℕ
+mostBlocks = 672
+
+-- and no listing as many stretches as this
+abbrev pub mostStretches : ℕ
+mostStretches = 1000000000000
 
 -- a block's borders are before 2^63 seconds
 abbrev pub Small : Block → Type 0
@@ -71,10 +92,10 @@ Below (b ∷ l) = Small b × Below l
 
 -- the blocks l of a window, and the lent numbers: those that are written have room
 pub record Ready (l : List Block) (o : Open) (write : Bool) (e : List ℤ) : Type 0 where
-  pub few : length l ≤ 672
+  pub few : length l ≤ mostBlocks
   pub small : Small (blockOf (o .block))
   pub below : Below l
-  pub count : o .count < 1000000000000
+  pub count : o .count < mostStretches
   pub room : write ≡ true → 4 * (o .count + length (ended (o .known) (blockOf (o .block)) l)) ≤ length e
 
 -- what a window leaves: the stretch that is open, and how many have ended
@@ -83,3 +104,23 @@ pub record Left (l : List Block) (o r : Open) : Type 0 where
   pub last : blockOf (r .block) ≡ stillOpen (o .known) (blockOf (o .block)) l
   pub small : Small (blockOf (r .block))
   pub count : r .count ≡ o .count + length (ended (o .known) (blockOf (o .block)) l)
+
+-- a window's blocks l are joined to the open stretch o: r is what it leaves, and the stretches that end are written where they are to be
+abbrev pub Joins : List Block → Open → Bool → List ℤ → List ℤ → Open → Type 0
+Joins l o write before after r =
+    Left l o r × (after ≡ stored write (o .count) (ended (o .known) (blockOf (o .block)) l) before)
+
+-- ---- the end of a listing
+
+-- the stretch that is open, where there is one
+abbrev pub lastOf : Open → List Block
+lastOf o = onFrom (o .known) (blockOf (o .block)) []
+
+-- it has room where it is to be written
+abbrev pub CanFinish : Open → Bool → List ℤ → Type 0
+CanFinish o write e =
+    Small (blockOf (o .block)) × (o .count < mostStretches) × (write ≡ true → 4 * (o .count + length (lastOf o)) ≤ length e)
+
+-- r is the number of all stretches, and the last is written where it is to be
+abbrev pub Finishes : Open → Bool → List ℤ → List ℤ → ℕ → Type 0
+Finishes o write before after r = (r ≡ o .count + length (lastOf o)) × (after ≡ stored write (o .count) (lastOf o) before)

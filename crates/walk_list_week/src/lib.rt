@@ -6,18 +6,16 @@ ghost use mathlib.Core.Bool.{true};
 ghost use mathlib.Core.List.{[], _∷_};
 ghost use Prim.Native.Nat.{_+_, _*_, _/_, _%_, _≤_, _<_};
 ghost use lib.Dec.{ltb};
-ghost use lib.ListN.{length, getD};
+ghost use lib.ListN.{length};
 ghost use lib.IntN.{pos};
-ghost use Rattle.model.specs.Blocks.{block};
 ghost use Rattle.model.specs.Instant.{second, instant};
-ghost use Rattle.laws_blocks.specs.Move.{moves};
-ghost use Rattle.instant.specs.Instant.{nanos, most};
+ghost use Rattle.instant.specs.Instant.{nanos, most, InRange};
 ghost use Rattle.instant_signed.specs.Reads.{secondsFrom};
 ghost use Rattle.block.specs.Counted.{blockOf};
-ghost use Rattle.block_pairs.specs.Pairs.{pairs};
-ghost use Rattle.walk_list_week.specs.Stretched.{placed, onFrom, stored, ended, Small, Ready, Left};
+ghost use Rattle.walk_list_week.specs.Stretched.{placed, stored, blockFrom, blocksFrom, Small, Ready, Joins, CanFinish, Finishes};
 use block::Block;
 use instant::Instant;
+use instant::Length;
 
 // How many stretches have ended, and the one that is still open, where `known` says that there is one.
 pub struct Open {
@@ -31,20 +29,14 @@ fn seconds(t: Instant) -> i64
     requires { ⌜ nanos t < most ⌝ }
     ensures { λ r. ⌜ r ≡ secondsFrom (nanos t / second) ⌝ }
 {
-    if t.ns < 1000000000 {
-        return instant_signed::seconds_of(t.sec);
-    }
-    instant_signed::seconds_of(t.sec + (t.ns / 1000000000) as u64)
+    instant_signed::seconds_of(t.sec + t.ns as u64 / instant::SECOND)
 }
 
 // The nanoseconds of t behind its seconds.
 fn rest(t: Instant) -> i64
     ensures { λ r. ⌜ r ≡ pos (nanos t % second) ⌝ }
 {
-    if t.ns < 1000000000 {
-        return t.ns as i64;
-    }
-    (t.ns % 1000000000) as i64
+    (t.ns as u64 % instant::SECOND) as i64
 }
 
 // Writes the two numbers of t at i.
@@ -85,27 +77,20 @@ fn is_apart(b: Block, x: Block) -> bool
 
 // The instant x nanoseconds after t.
 fn after(t: Instant, x: u64) -> Instant
-    requires { ⌜ t .sec ≤ 643761727200 ⌝ }
+    requires { ⌜ InRange t ⌝ }
     ensures { λ r. ⌜ nanos r ≡ x + nanos t ⌝ }
 {
-    let s = t.sec + x / 1000000000;
-    let n = t.ns as u64 + x % 1000000000;
-    if n < 1000000000 {
-        return Instant {
-            sec: s,
-            ns: n as u32,
-        };
-    }
-    Instant {
-        sec: s + n / 1000000000,
-        ns: (n % 1000000000) as u32,
-    }
+    let d = Length {
+        sec: x / instant::SECOND,
+        ns: (x % instant::SECOND) as u32,
+    };
+    instant::sum(t, d)
 }
 
 // Block i of l, whose numbers are distances from lo.
 fn block_at(l: &[u64], i: usize, lo: Instant) -> Block
-    requires { ⌜ (2 * i + 2 ≤ length (now l)) × (lo .sec ≤ 643761727200) ⌝ }
-    ensures { λ r. ⌜ blockOf r ≡ block (getD (now (l .entry)) (2 * i) 0 + nanos lo) (getD (now (l .entry)) (2 * i + 1) 0 + nanos lo) ⌝ }
+    requires { ⌜ (2 * i + 2 ≤ length (now l)) × InRange lo ⌝ }
+    ensures { λ r. ⌜ blockOf r ≡ blockFrom lo (now (l .entry)) i ⌝ }
 {
     let start = after(lo, l[2 * i]);
     let end = after(lo, l[2 * i + 1]);
@@ -122,8 +107,8 @@ pub fn join_window(
     write: bool,
     out: &mut [i64],
 ) -> Open
-    requires { ⌜ Ready (moves (nanos lo) (pairs n (now l))) prev write (now out) × (2 * n ≤ length (now l)) × (lo .sec ≤ 643761727200) ⌝ }
-    ensures { λ r. ⌜ Left (moves (nanos lo) (pairs n (now (l .entry)))) prev r × (now (out .exit) ≡ stored write (prev .count) (ended (prev .known) (blockOf (prev .block)) (moves (nanos lo) (pairs n (now (l .entry))))) (now (out .entry))) ⌝ }
+    requires { ⌜ Ready (blocksFrom lo n (now l)) prev write (now out) × (2 * n ≤ length (now l)) × InRange lo ⌝ }
+    ensures { λ r. ⌜ Joins (blocksFrom lo n (now (l .entry))) prev write (now (out .entry)) (now (out .exit)) r ⌝ }
 {
     let mut known = prev.known;
     let mut last = prev.block;
@@ -154,8 +139,8 @@ pub fn join_window(
 
 // Ends the stretch that is open, where there is one, and tells how many stretches there are.
 pub fn finish(last: Open, write: bool, out: &mut [i64]) -> usize
-    requires { ⌜ Small (blockOf (last .block)) × (last .count < 1000000000000) × (write ≡ true → 4 * (last .count + length (onFrom (last .known) (blockOf (last .block)) [])) ≤ length (now out)) ⌝ }
-    ensures { λ r. ⌜ (r ≡ last .count + length (onFrom (last .known) (blockOf (last .block)) [])) × (now (out .exit) ≡ stored write (last .count) (onFrom (last .known) (blockOf (last .block)) []) (now (out .entry))) ⌝ }
+    requires { ⌜ CanFinish last write (now out) ⌝ }
+    ensures { λ r. ⌜ Finishes last write (now (out .entry)) (now (out .exit)) r ⌝ }
 {
     if !last.known {
         return last.count;

@@ -1,11 +1,17 @@
 -- What the walk for a period answers.
-use Rattle.instant.specs.Instant.{nanos}
-use Prim.Native.Nat.{ℕ, _≤_, _<_}
 use mathlib.Core.Path.{_≡_}
+use mathlib.Core.Bool.{Bool}
+use mathlib.Core.List.{List}
+use Prim.Native.Nat.{ℕ, _≤_}
+use lib.ListN.{length}
 use Rattle.model.specs.Answer.{Answer, gives, refuses}
 use Rattle.model.specs.Blocks.{Block, block}
-use Rattle.model.specs.Walk.{Way, reach}
+use Rattle.model.specs.Walk.{Way, reach, period}
+use Rattle.instant.specs.Instant.{nanos, Exact}
 use Rattle.instant.specs.declared.Instant.{Instant}
+use Rattle.rule.specs.declared.Schedule.{Schedule}
+use Rattle.rule.specs.Rules.{scheduleIs}
+use Rattle.walk_distance.specs.Distances.{wayOf}
 use Rattle.walk_period.specs.declared.Found.{Found}
 use Rattle.walk_period.specs.declared.Found.the-variants as F
 
@@ -17,8 +23,8 @@ foundIs F.OutOfRange = refuses 7 0
 
 -- two distances in the range, in order, their nanoseconds below a second
 pub record PeriodFits (w : Way) (t : ℕ) (f e : Instant) : Type 0 where
-  pub start-ns : f .ns < 1000000000
-  pub end-ns : e .ns < 1000000000
+  pub start-ns : Exact f
+  pub end-ns : Exact e
   pub order : nanos f ≤ nanos e
   pub near : nanos e ≤ reach w t
 
@@ -33,3 +39,8 @@ period-fits {w} {t} {r} {f} {e} x p = go (rw p at x)
   where
     go : FoundFits w t (F.Period f e) → PeriodFits w t f e
     go (found-period h) = h
+
+-- r is the nearest period to t, going on or back
+abbrev pub Finds : List ℕ → List ℕ → Schedule → Instant → Bool → Found → Type 0
+Finds book pack s t back r =
+    (foundIs r ≡ period (wayOf back) (scheduleIs book pack s) (nanos t)) × FoundFits (wayOf back) (nanos t) r

@@ -1,20 +1,18 @@
 // The walk over windows of seven days for the nearest period of working time, on from an instant or back from it.
 ghost use mathlib.Core.Path.{_≡_};
 ghost use mathlib.Core.Bool.{_||_};
-ghost use Prim.Native.Nat.{ℕ, _+_, _*_, _-_, _≤_, _<_, min};
+ghost use Prim.Native.Nat.{_+_, _-_, _≤_, _<_, min};
 ghost use lib.Dec.{ltb, leb};
-ghost use lib.ListN.{length};
-ghost use Rattle.instant.specs.Instant.{nanos, most, InRange};
 ghost use Rattle.model.specs.Instant.{week};
-ghost use Rattle.model.specs.Walk.{period};
-ghost use Rattle.rule.specs.Rules.{scheduleIs, ScheduleFits};
-ghost use Rattle.walk_distance.specs.Distances.{wayOf};
-ghost use Rattle.window_week.specs.Room.{room};
-ghost use Rattle.walk_period.specs.Found.{foundIs, FoundFits};
+ghost use Rattle.instant.specs.Instant.{nanos, most, Exact, InRange};
+ghost use Rattle.rule.specs.Rules.{ScheduleFits};
+ghost use Rattle.walk_period.specs.Found.{Finds};
+ghost use Rattle.window_week.specs.Room.{HasRoom};
 use instant::Instant;
 use instant::Length;
 use rule::Schedule;
 use walk_period_week::SoFar;
+use window_memory::Size;
 
 // What the walk finds: the distances of a period's nearer and further border, no work within the limit, or the range's end.
 pub enum Found {
@@ -37,8 +35,8 @@ fn is_whole(limit: Length, y: Length, f: Length, e: Length) -> bool
 
 // The further border of a period, at most the limit from its nearer one.
 fn cut(limit: Length, f: Length, e: Length) -> Length
-    requires { ⌜ (f .ns < 1000000000) × (e .ns < 1000000000) × (limit .ns < 1000000000) × (nanos f + nanos limit < most) ⌝ }
-    ensures { λ r. ⌜ (nanos r ≡ min (nanos e) (nanos f + nanos limit)) × (r .ns < 1000000000) ⌝ }
+    requires { ⌜ Exact f × Exact e × Exact limit × (nanos f + nanos limit < most) ⌝ }
+    ensures { λ r. ⌜ (nanos r ≡ min (nanos e) (nanos f + nanos limit)) × Exact r ⌝ }
 {
     let far = instant::sum(f, limit);
     if instant::precedes(far, e) {
@@ -49,10 +47,10 @@ fn cut(limit: Length, f: Length, e: Length) -> Length
 
 // The length in nanoseconds of the window between two distances.
 fn width(x: Length, y: Length) -> u64
-    requires { ⌜ (x .ns < 1000000000) × (y .ns < 1000000000) × (nanos x ≤ nanos y) × (nanos y ≤ nanos x + week) ⌝ }
+    requires { ⌜ Exact x × Exact y × (nanos x ≤ nanos y) × (nanos y ≤ nanos x + week) ⌝ }
     ensures { λ r. ⌜ r ≡ nanos y - nanos x ⌝ }
 {
-    (y.sec - x.sec) * 1000000000 + y.ns as u64 - x.ns as u64
+    (y.sec - x.sec) * instant::SECOND + y.ns as u64 - x.ns as u64
 }
 
 // The nearest period to t, going on or back. A window's blocks are found in lent memory. The loop calls no other function with the schedule than
@@ -67,8 +65,8 @@ fn walk_into(
     off: &mut [u64],
     out: &mut [u64],
 ) -> Found
-    requires { ⌜ ScheduleFits (now book) (now pack) s × InRange t × (room s ≤ length (now on)) × (room s ≤ length (now off)) × (room s ≤ length (now out)) ⌝ }
-    ensures { λ r. ⌜ (foundIs r ≡ period (wayOf back) (scheduleIs (now (book .entry)) (now (pack .entry)) s) (nanos t)) × FoundFits (wayOf back) (nanos t) r ⌝ }
+    requires { ⌜ ScheduleFits (now book) (now pack) s × InRange t × HasRoom s (now on) (now off) (now out) ⌝ }
+    ensures { λ r. ⌜ Finds (now (book .entry)) (now (pack .entry)) s t back r ⌝ }
 {
     let zero = Length { sec: 0, ns: 0 };
     let end = walk_distance::reach(t, back);
@@ -79,7 +77,7 @@ fn walk_into(
     let mut f = zero;
     let mut e = zero;
     while instant::precedes(x, end) {
-        let y = walk_distance::week_on(x, end);
+        let y = walk_distance::window_end(x, end);
         let at = walk_distance::place(t, back, x, y);
         let n = window_week::working_into(book, pack, s, at.lo, at.hi, on, off, out);
         let w = width(x, y);
@@ -110,42 +108,29 @@ fn walk_into(
     Found::OutOfRange
 }
 
-// The same for a schedule of any size.
-fn large_walk(book: &[u8], pack: &[u8], s: Schedule, t: Instant, back: bool) -> Found
-    requires { ⌜ ScheduleFits (now book) (now pack) s × InRange t ⌝ }
-    ensures { λ r. ⌜ (foundIs r ≡ period (wayOf back) (scheduleIs (now (book .entry)) (now (pack .entry)) s) (nanos t)) × FoundFits (wayOf back) (nanos t) r ⌝ }
-{
-    let mut on = [0u64; 1122];
-    let mut off = [0u64; 1122];
-    let mut out = [0u64; 1122];
-    walk_into(book, pack, s, t, back, &mut on, &mut off, &mut out)
-}
-
-// The same for a schedule of up to four records, which needs less memory.
-fn middle_walk(book: &[u8], pack: &[u8], s: Schedule, t: Instant, back: bool) -> Found
-    requires { ⌜ ScheduleFits (now book) (now pack) s × InRange t × (s .works + s .pauses + s .closings ≤ 4) ⌝ }
-    ensures { λ r. ⌜ (foundIs r ≡ period (wayOf back) (scheduleIs (now (book .entry)) (now (pack .entry)) s) (nanos t)) × FoundFits (wayOf back) (nanos t) r ⌝ }
-{
-    let mut on = [0u64; 114];
-    let mut off = [0u64; 114];
-    let mut out = [0u64; 114];
-    walk_into(book, pack, s, t, back, &mut on, &mut off, &mut out)
-}
-
-// The nearest period to t, going on or back. A schedule of one record needs the least memory.
+// The same with memory for the blocks of a window.
 pub fn period_walk(book: &[u8], pack: &[u8], s: Schedule, t: Instant, back: bool) -> Found
     requires { ⌜ ScheduleFits (now book) (now pack) s × InRange t ⌝ }
-    ensures { λ r. ⌜ (foundIs r ≡ period (wayOf back) (scheduleIs (now (book .entry)) (now (pack .entry)) s) (nanos t)) × FoundFits (wayOf back) (nanos t) r ⌝ }
+    ensures { λ r. ⌜ Finds (now (book .entry)) (now (pack .entry)) s t back r ⌝ }
 {
-    let records = s.works + s.pauses + s.closings;
-    if 4 < records {
-        return large_walk(book, pack, s, t, back);
+    match window_memory::size_for(s.works + s.pauses + s.closings) {
+        Size::One => {
+            let mut on = [0u64; window_memory::ONE];
+            let mut off = [0u64; window_memory::ONE];
+            let mut out = [0u64; window_memory::ONE];
+            walk_into(book, pack, s, t, back, &mut on, &mut off, &mut out)
+        }
+        Size::Four => {
+            let mut on = [0u64; window_memory::FOUR];
+            let mut off = [0u64; window_memory::FOUR];
+            let mut out = [0u64; window_memory::FOUR];
+            walk_into(book, pack, s, t, back, &mut on, &mut off, &mut out)
+        }
+        Size::All => {
+            let mut on = [0u64; window_memory::ALL];
+            let mut off = [0u64; window_memory::ALL];
+            let mut out = [0u64; window_memory::ALL];
+            walk_into(book, pack, s, t, back, &mut on, &mut off, &mut out)
+        }
     }
-    if 1 < records {
-        return middle_walk(book, pack, s, t, back);
-    }
-    let mut on = [0u64; 30];
-    let mut off = [0u64; 30];
-    let mut out = [0u64; 30];
-    walk_into(book, pack, s, t, back, &mut on, &mut off, &mut out)
 }

@@ -1,20 +1,15 @@
 // A period's search through the blocks of one window, which are pairs of numbers in lent memory: going on from an instant or back from it. Inside the
 // window the numbers are nanoseconds from its nearer border; what is known of a period is lengths of time from the instant.
-ghost use Rattle.instant.specs.Instant.{nanos};
 ghost use mathlib.Core.Path.{_≡_};
-ghost use Prim.Native.Nat.{ℕ, _+_, _*_, _-_, _≤_, _<_};
+ghost use mathlib.Core.Bool.{not};
+ghost use Prim.Native.Nat.{_+_, _*_, _≤_, _<_};
 ghost use lib.Dec.{ltb, eqb};
 ghost use lib.ListN.{length};
-ghost use mathlib.Core.List.{_∷_};
-ghost use mathlib.Core.Bool.{not};
 ghost use Rattle.model.specs.Basic.{if_then_else_};
-ghost use Rattle.model.specs.Blocks.{block};
 ghost use Rattle.model.specs.Walk as model;
-ghost use Rattle.laws_blocks.specs.Move.{moves};
-ghost use Rattle.block_pairs.specs.Pairs.{pairs};
-ghost use Rattle.walk_distance.specs.Distances.{wayOf};
-ghost use Rattle.walk_distance.specs.Distances.{Short, seen};
-ghost use Rattle.walk_period_week.specs.SoFars.{soFar, soFarIs, ExactSoFar, rest, tailIs};
+ghost use Rattle.instant.specs.Instant.{nanos, Exact};
+ghost use Rattle.walk_distance.specs.Distances.{wayOf, Short};
+ghost use Rattle.walk_period_week.specs.SoFars.{rest, tailIs, windowBlocks, IsNearest, Known};
 use instant::Length;
 
 // What is known after a window: nothing so far, a period that may go on, one that has ended, or a first block that is too far off. A period is the
@@ -40,7 +35,7 @@ enum Tail {
 
 // Two lengths are the same.
 fn same(a: Length, b: Length) -> bool
-    requires { ⌜ (a .ns < 1000000000) × (b .ns < 1000000000) ⌝ }
+    requires { ⌜ Exact a × Exact b ⌝ }
     ensures { λ r. ⌜ r ≡ eqb (nanos a) (nanos b) ⌝ }
 {
     if a.ns == b.ns {
@@ -52,7 +47,7 @@ fn same(a: Length, b: Length) -> bool
 // A block that begins at `from` ends the search: it does not touch the period that ends at `end`, or, where there is no period yet, it is further
 // than the limit.
 fn stops(some: bool, limit: Length, end: Length, from: Length) -> bool
-    requires { ⌜ (end .ns < 1000000000) × (from .ns < 1000000000) ⌝ }
+    requires { ⌜ Exact end × Exact from ⌝ }
     ensures { λ r. ⌜ r ≡ (if some then not (eqb (nanos from) (nanos end)) else ltb (nanos limit) (nanos from)) ⌝ }
 {
     if some {
@@ -63,8 +58,8 @@ fn stops(some: bool, limit: Length, end: Length, from: Length) -> bool
 
 // The nearer border of the period with a block that begins at `from`.
 fn start_of(some: bool, start: Length, from: Length) -> Length
-    requires { ⌜ (start .ns < 1000000000) × (from .ns < 1000000000) ⌝ }
-    ensures { λ r. ⌜ (nanos r ≡ (if some then nanos start else nanos from)) × (r .ns < 1000000000) ⌝ }
+    requires { ⌜ Exact start × Exact from ⌝ }
+    ensures { λ r. ⌜ (nanos r ≡ (if some then nanos start else nanos from)) × Exact r ⌝ }
 {
     if some {
         return start;
@@ -75,7 +70,7 @@ fn start_of(some: bool, start: Length, from: Length) -> Length
 // The i-th nearest of the first n blocks, in a window that is w long.
 fn nearest(l: &[u64], n: usize, back: bool, w: u64, i: usize) -> Borders
     requires { ⌜ (i < n) × (2 * n ≤ length (now l)) ⌝ }
-    ensures { λ r. ⌜ rest (wayOf back) w n i (now (l .entry)) ≡ block (r .from) (r .to) ∷ rest (wayOf back) w n (i + 1) (now (l .entry)) ⌝ }
+    ensures { λ r. ⌜ IsNearest back w n i (now (l .entry)) r ⌝ }
 {
     if back {
         let k = n - i;
@@ -109,11 +104,11 @@ fn joined(l: &[u64], n: usize, back: bool, w: u64, end: u64) -> Tail
 // The length that is x and d nanoseconds more.
 fn further(x: Length, d: u64) -> Length
     requires { ⌜ Short x ⌝ }
-    ensures { λ r. ⌜ (nanos r ≡ d + nanos x) × (r .ns < 1000000000) ⌝ }
+    ensures { λ r. ⌜ (nanos r ≡ d + nanos x) × Exact r ⌝ }
 {
     let y = Length {
-        sec: d / 1000000000,
-        ns: (d % 1000000000) as u32,
+        sec: d / instant::SECOND,
+        ns: (d % instant::SECOND) as u32,
     };
     instant::sum(x, y)
 }
@@ -131,8 +126,8 @@ pub fn period_in_window(
     f: Length,
     e: Length,
 ) -> SoFar
-    requires { ⌜ (2 * n ≤ length (now l)) × Short x × (f .ns < 1000000000) × (e .ns < 1000000000) ⌝ }
-    ensures { λ r. ⌜ (soFarIs r ≡ model.periodIn (nanos limit) (soFar some (nanos f) (nanos e)) (moves (nanos x) (seen (wayOf back) w (pairs n (now (l .entry)))))) × ExactSoFar r ⌝ }
+    requires { ⌜ (2 * n ≤ length (now l)) × Short x × Exact f × Exact e ⌝ }
+    ensures { λ r. ⌜ Known limit some f e (windowBlocks back w x n (now (l .entry))) r ⌝ }
 {
     if n == 0 {
         if some {

@@ -6,7 +6,7 @@ use mathlib.Core.List.{List, [], _∷_}
 use Prim.Native.Nat.{ℕ, zero, suc, _+_, _*_, _-_, _/_, _≤_, _<_}
 use native.Mathlib.Omega.{arith}
 use lib.Dec.{leb}
-use borrow.Author.Tests.{le-leb, lt-leb, leb-false}
+use borrow.Author.Tests.{le-leb, lt-leb, leb-true, leb-false}
 use Rattle.model.specs.Basic.{if_then_else_, isIn, any, among, distinct}
 use Rattle.model.specs.Instant.{second, firstInstant, lastInstant}
 use Rattle.model.specs.Working.{Holidays, firstDate, lastDate}
@@ -23,7 +23,7 @@ use Rattle.instant.specs.Instant.{InRange, nanos}
 use Rattle.instant.specs.declared.Instant.{Instant}
 use Rattle.zone.specs.Zones.{meant}
 use Rattle.zone_steady.specs.Steady.{Room, low, high}
-use Rattle.walk_skip.specs.Repeating.{noneWithin, Ahead, Behind}
+use Rattle.walk_skip.specs.Repeating.{noneWithin, isMet, noDate, IsDate, isOnWay, Nearest, Ahead, Behind}
 
 -- ---- one turn of the loops over dates
 
@@ -51,73 +51,60 @@ none-left : (t : ℕ → Bool) (b : List ℕ) (p n : ℕ) → n ≤ 0 → any t 
 unfolding datesAt any
 none-left t b p n h = let e : n ≡ 0 = omega arith in rw e
 
--- the first date from `first` on is `near` or among the n dates at p
-pub record Nexts (b : List ℕ) (first near p n : ℕ) (all : List ℕ) : Type 0 where
-  pub same : (l : ℕ) → l < 4294967295 → either (leb near l) (any (isIn first l) (datesAt b p n)) ≡ any (isIn first l) all
+-- ---- dates in their order, on or back
 
-pub nexts-start : (b : List ℕ) (first p n : ℕ) → Nexts b first 4294967295 p n (datesAt b p n)
-nexts-start b first p n = record { same = λ l h. rw (lt-leb 4294967295 l h) }
+met-back : (back : Bool) (a b : ℕ) → isMet back a b ≡ false → isMet back b a ≡ true
+met-back false a b h = let k = leb-false a b h in le-leb b a (omega arith)
+met-back true a b h = let k = leb-false b a h in le-leb a b (omega arith)
 
-module _ {b : List ℕ} {first near p n : ℕ} {all : List ℕ} (m : Nexts b first near p n all) where
+met-no : (back : Bool) (a b y : ℕ) → isMet back a b ≡ true → isMet back a y ≡ false → isMet back b y ≡ false
+met-no false a b y h k = lt-leb b y (omega (arith, leb-true a b h, leb-false a y k))
+met-no true a b y h k = lt-leb y b (omega (arith, leb-true b a h, leb-false y a k))
+
+met-none : (back : Bool) (y : ℕ) → IsDate back y → isMet back (noDate back) y ≡ false
+met-none false y h = lt-leb 4294967295 y h
+met-none true y h = lt-leb y 0 h
+
+-- a date is on the way to y where it is met from `from` on, and y from it on
+on-way : (back : Bool) (from y x : ℕ) → isOnWay back from y x ≡ (if isMet back from x then isMet back x y else false)
+on-way false from y x = by-test (leb from x) (λ e. rw e) (λ e. rw e)
+on-way true from y x = by-test (leb x from) (λ e. rw e (by-test (leb y x) (λ f. rw f) (λ f. rw f))) (λ e. rw e (by-test (leb y x) (λ f. rw f) (λ f. rw f)))
+
+-- the nearest date is `near` or among the n dates at p
+pub record Nears (b : List ℕ) (back : Bool) (from near p n : ℕ) (all : List ℕ) : Type 0 where
+  pub same : (y : ℕ) → IsDate back y → either (isMet back near y) (any (isOnWay back from y) (datesAt b p n)) ≡ any (isOnWay back from y) all
+
+pub nears-start : (b : List ℕ) (back : Bool) (from p n : ℕ) {near : ℕ} → near ≡ noDate back → Nears b back from near p n (datesAt b p n)
+nears-start b back from p n e = record { same = λ y h. rw (e, met-none back y h) }
+
+module _ {b : List ℕ} {back : Bool} {from near p n : ℕ} {all : List ℕ} (m : Nears b back from near p n all) where
   module _ (h : 0 < n) {x : ℕ} (ex : x ≡ dayAt b p) where
-    next-more : (l : ℕ) → l < 4294967295 → either (leb near l) (either (isIn first l x) (any (isIn first l) (datesAt b (p + 4) (n - 1)))) ≡ any (isIn first l) all
-    next-more l k = ap (either (leb near l)) (sym (any-more (isIn first l) b p n x h ex)) ∙ m .same l k
+    -- what is left of the dates
+    abbrev others : ℕ → Bool
+    others y = any (isOnWay back from y) (datesAt b (p + 4) (n - 1))
 
-    pub next-nearer : first ≤ x → x < near → Nexts b first x (p + 4) (n - 1) all
-    next-nearer f g = record {
-      same = λ l k. by-test (leb x l)
-          (λ q. by-test (leb near l) (λ u. rw q (rw u at (next-more l k))) (λ u. rw q (rw (u, le-leb first x f, q) at (next-more l k))))
-          (λ q. let v : leb near l ≡ false = lt-leb near l (omega (arith, leb-false x l q)) in rw q (rw (v, le-leb first x f, q) at (next-more l k)));
+    near-more : (y : ℕ) → IsDate back y → either (isMet back near y) (either (if isMet back from x then isMet back x y else false) (others y)) ≡ any (isOnWay back from y) all
+    near-more y k = ap (λ t. either (isMet back near y) (either t (others y))) (sym (on-way back from y x)) ∙ ap (either (isMet back near y)) (sym (any-more (isOnWay back from y) b p n x h ex)) ∙ m .same y k
+
+    pub near-nearer : isMet back from x ≡ true → isMet back near x ≡ false → Nears b back from x (p + 4) (n - 1) all
+    near-nearer f g = record {
+      same = λ y k. by-test (isMet back x y)
+          (λ q. by-test (isMet back near y) (λ u. rw q (rw u at (near-more y k))) (λ u. rw q (rw (u, f, q) at (near-more y k))))
+          (λ q. rw q (rw (met-no back x near y (met-back back near x g) q, f, q) at (near-more y k)));
     }
 
-    pub next-further : first ≤ x → near ≤ x → Nexts b first near (p + 4) (n - 1) all
-    next-further f g = record {
-      same = λ l k. by-test (leb near l)
-          (λ u. rw u (rw u at (next-more l k)))
-          (λ u. let v : leb x l ≡ false = lt-leb x l (omega (arith, leb-false near l u)) in rw u (rw (u, le-leb first x f, v) at (next-more l k)));
+    pub near-further : isMet back from x ≡ true → isMet back near x ≡ true → Nears b back from near (p + 4) (n - 1) all
+    near-further f g = record {
+      same = λ y k. by-test (isMet back near y)
+          (λ u. rw u (rw u at (near-more y k)))
+          (λ u. rw u (rw (u, f, met-no back near x y g u) at (near-more y k)));
     }
 
-    pub next-outside : x < first → Nexts b first near (p + 4) (n - 1) all
-    next-outside f = record { same = λ l k. rw (lt-leb first x f) at (next-more l k) }
+    pub near-outside : isMet back from x ≡ false → Nears b back from near (p + 4) (n - 1) all
+    near-outside f = record { same = λ y k. rw f at (near-more y k) }
 
-  pub nexts-end : n ≤ 0 → (l : ℕ) → l < 4294967295 → any (isIn first l) all ≡ leb near l
-  nexts-end h l k = sym (m .same l k) ∙ ap (either (leb near l)) (none-left (isIn first l) b p n h) ∙ only (leb near l)
-
--- the last date up to `last` is `near` or among the n dates at p
-pub record Befores (b : List ℕ) (last near p n : ℕ) (all : List ℕ) : Type 0 where
-  pub same : (f : ℕ) → 0 < f → either (leb f near) (any (isIn f last) (datesAt b p n)) ≡ any (isIn f last) all
-
-pub befores-start : (b : List ℕ) (last p n : ℕ) → Befores b last 0 p n (datesAt b p n)
-befores-start b last p n = record { same = λ f h. rw (lt-leb f 0 h) }
-
-module _ {b : List ℕ} {last near p n : ℕ} {all : List ℕ} (m : Befores b last near p n all) where
-  module _ (h : 0 < n) {x : ℕ} (ex : x ≡ dayAt b p) where
-    before-more : (f : ℕ) → 0 < f → either (leb f near) (either (isIn f last x) (any (isIn f last) (datesAt b (p + 4) (n - 1)))) ≡ any (isIn f last) all
-    before-more f k = ap (either (leb f near)) (sym (any-more (isIn f last) b p n x h ex)) ∙ m .same f k
-
-    pub before-nearer : x ≤ last → near < x → Befores b last x (p + 4) (n - 1) all
-    before-nearer i g = record {
-      same = λ f k. by-test (leb f x)
-          (λ q. by-test (leb f near) (λ u. rw q (rw u at (before-more f k))) (λ u. rw q (rw (u, q, le-leb x last i) at (before-more f k))))
-          (λ q. let v : leb f near ≡ false = lt-leb f near (omega (arith, leb-false f x q)) in rw q (rw (v, q) at (before-more f k)));
-    }
-
-    pub before-further : x ≤ last → x ≤ near → Befores b last near (p + 4) (n - 1) all
-    before-further i g = record {
-      same = λ f k. by-test (leb f near)
-          (λ u. rw u (rw u at (before-more f k)))
-          (λ u. let v : leb f x ≡ false = lt-leb f x (omega (arith, leb-false f near u)) in rw u (rw (u, v) at (before-more f k)));
-    }
-
-    pub before-outside : last < x → Befores b last near (p + 4) (n - 1) all
-    before-outside i = record {
-      same = λ f k. by-test (leb f x)
-          (λ q. rw (q, lt-leb x last i) at (before-more f k))
-          (λ q. rw q at (before-more f k));
-    }
-
-  pub befores-end : n ≤ 0 → (f : ℕ) → 0 < f → any (isIn f last) all ≡ leb f near
-  befores-end h f k = sym (m .same f k) ∙ ap (either (leb f near)) (none-left (isIn f last) b p n h) ∙ only (leb f near)
+  pub nears-end : n ≤ 0 → Nearest back from all near
+  nears-end h y k = sym (m .same y k) ∙ ap (either (isMet back near y)) (none-left (isOnWay back from y) b p n h) ∙ only (isMet back near y)
 
 -- a test passes on one of the distinct numbers where it passes on one as written
 any-distinct : (t : ℕ → Bool) (l : List ℕ) → any t (distinct l) ≡ any t l
@@ -138,7 +125,7 @@ module _ (h : Holidays) (s : Sound (h .zone)) (l : List ℕ) (ed : h .dates ≡ 
   unfolding noneWithin
   seen back e = rw ed (ap not (any-distinct (isIn (firstDate (h .zone) (low back a (e * second))) (lastDate (h .zone) (high back b (e * second)))) l))
 
-  module _ (d hi : ℕ) (eh : hi ≡ b / second) (near : (l′ : ℕ) → l′ < 4294967295 → any (isIn first l′) l ≡ leb d l′) (small : d ≤ 4294967295) {r : ℕ} (k : Ahead d last hi r) where
+  module _ (d hi : ℕ) (eh : hi ≡ b / second) (near : Nearest false first l d) (small : d ≤ 4294967295) {r : ℕ} (k : Ahead d last hi r) where
     last-beyond : (e : ℕ) → 0 < e → e < r → lastDate (h .zone) (b + e * second) < d
     last-beyond e p q =
         let i = k .more e p q in let x = last-near (h .zone) s (b + e * second) in let y = day-is (h .zone) s (b + e * second) in let z = off-high (h .zone) s (b + e * second) in
@@ -163,7 +150,7 @@ module _ (h : Holidays) (s : Sound (h .zone)) (l : List ℕ) (ed : h .dates ≡ 
         under zero q = omega (arith, at-start, k .some (omega arith))
         under (suc e) q = last-beyond (suc e) (omega arith) q
 
-  module _ (d lo : ℕ) (eh : lo ≡ a / second) (near : (f : ℕ) → 0 < f → any (isIn f last) l ≡ leb f d) {r : ℕ} (k : Behind d first lo r) where
+  module _ (d lo : ℕ) (eh : lo ≡ a / second) (near : Nearest true last l d) {r : ℕ} (k : Behind d first lo r) where
     first-beyond : (e : ℕ) → 0 < e → e < r → d < firstDate (h .zone) (a - e * second)
     first-beyond e p q =
         let i = k .more e p q in let x = first-near (h .zone) s (a - e * second) in let y = day-is (h .zone) s (a - e * second) in let z = off-low (h .zone) s (a - e * second) in
@@ -195,12 +182,12 @@ zone-sound k p c fit = fits-sound (meant (fileAt p (c .at) (c .len)) (c .zone)) 
 
 module _ (k p : List ℕ) (c : HolidayDates) (a b : Instant) (fit : HolidaysFit k p c) (ha : InRange a) (hb : InRange b) {f : List ℕ} (e : f ≡ fileAt p (c .at) (c .len))
     {first last : ℕ} (ef : first ≡ firstDate (meant f (c .zone)) (nanos a)) (el : last ≡ lastDate (meant f (c .zone)) (nanos b)) where
-  pub closed-ahead : {back : Bool} {d r : ℕ} → back ≡ false → ((l : ℕ) → l < 4294967295 → any (isIn first l) (datesAt k (c .dates) (c .count)) ≡ leb d l) → d ≤ 4294967295 → Ahead d last (b .sec) r
+  pub closed-ahead : {back : Bool} {d r : ℕ} → back ≡ false → Nearest false first (datesAt k (c .dates) (c .count)) d → d ≤ 4294967295 → Ahead d last (b .sec) r
       → Room (λ x. noneWithin back (nanos a) (nanos b) x (holidaysIs k p c)) r
   closed-ahead {d = d} q near small m =
       rw q (ahead-room (holidaysIs k p c) (zone-sound k p c fit) (datesAt k (c .dates) (c .count)) refl (nanos a) (nanos b) (omega (arith, ha .low)) (omega (arith, hb .high, hb .ns)) (rw e at ef) (rw e at el) d (b .sec) (omega (arith, hb .ns)) near small m)
 
-  pub closed-behind : {back : Bool} {d r : ℕ} → back ≡ true → ((g : ℕ) → 0 < g → any (isIn g last) (datesAt k (c .dates) (c .count)) ≡ leb g d) → Behind d first (a .sec) r
+  pub closed-behind : {back : Bool} {d r : ℕ} → back ≡ true → Nearest true last (datesAt k (c .dates) (c .count)) d → Behind d first (a .sec) r
       → Room (λ x. noneWithin back (nanos a) (nanos b) x (holidaysIs k p c)) r
   closed-behind {d = d} q near m =
       rw q (behind-room (holidaysIs k p c) (zone-sound k p c fit) (datesAt k (c .dates) (c .count)) refl (nanos a) (nanos b) (omega (arith, ha .low)) (omega (arith, hb .high, hb .ns)) (rw e at ef) (rw e at el) d (a .sec) (omega (arith, ha .ns)) near m)

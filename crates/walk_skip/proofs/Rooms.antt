@@ -16,7 +16,7 @@ use Rattle.model.specs.Skip.{ruleSteady, noneNear, repeats}
 use Rattle.laws_base.specs.Test.{by-test, and-both}
 use Rattle.laws_demand3.specs.Windows.{RuleOk, OfRules}
 use Rattle.laws_skip.specs.Runs.{repeatsTo, repeats-one, run-each, run-back}
-use Rattle.block.proofs.Front.{front, rest-cons, rest-none}
+use Rattle.laws_base.specs.Front.{front, rest-cons, rest-none}
 use Rattle.rule.specs.Rules.{fileAt, ruleIs, All}
 use Rattle.rule.specs.declared.Rule.{Rule as Item}
 use Rattle.rule.specs.declared.HolidayDates.{HolidayDates}
@@ -26,7 +26,7 @@ use Rattle.zone.specs.Zones.{meant, ZoneOk}
 use Rattle.zone.specs.declared.Zone.{Zone}
 use Rattle.zone_footer.specs.declared.Footer.the-variants as F
 use Rattle.zone_steady.specs.Steady.{Room, low, high}
-use Rattle.walk_skip.specs.Repeating.{steadyWithin, noneWithin, rangeBy, repeatsBy, beyond, Repeating}
+use Rattle.walk_skip.specs.Repeating.{steadyWithin, noneWithin, rangeBy, repeatsBy, beyond, Repeating, earliest, latest}
 
 -- ---- a loop over the first n of an array, one room for each
 
@@ -125,11 +125,11 @@ range-late false t i h =
     let q : t + 0 * second ≡ t = omega arith in
     record { none = λ _. rw (q, le-leb (firstInstant + 11 * day) t i, lt-leb (t + 11 * day) lastInstant h); each = λ e p. absurd (omega arith) }
 
-pub range-back : {back : Bool} (t s n : ℕ) → back ≡ true → t ≡ s * second + n → 12655447199 ≤ s → t + 11 * day ≤ lastInstant → Room (rangeBy back t) (s - 12655447198)
+pub range-back : {back : Bool} (t s n : ℕ) → back ≡ true → t ≡ s * second + n → earliest ≤ s → t + 11 * day ≤ lastInstant → Room (rangeBy back t) (s - earliest + 1)
 unfolding rangeBy
 range-back t s n b p h i = rw b (record { none = λ q. absurd (omega arith); each = λ e q. rw (le-leb (firstInstant + 11 * day) (t - e * second) (omega arith), le-leb (t + 11 * day) lastInstant i) })
 
-pub range-on : {back : Bool} (t s n : ℕ) → back ≡ false → t ≡ s * second + n → n < second → firstInstant + 11 * day ≤ t → s ≤ 643760776800 → Room (rangeBy back t) (643760776801 - s)
+pub range-on : {back : Bool} (t s n : ℕ) → back ≡ false → t ≡ s * second + n → n < second → firstInstant + 11 * day ≤ t → s ≤ latest → Room (rangeBy back t) (latest - s + 1)
 unfolding rangeBy
 range-on t s n b p k h i = rw b (record { none = λ q. absurd (omega arith); each = λ e q. rw (le-leb (firstInstant + 11 * day) t h, le-leb (t + e * second + 11 * day) lastInstant (omega arith)) })
 
@@ -253,8 +253,8 @@ module _ (s : Schedule) (ok : OfRules RuleOk s) (t : ℕ) where
       let q : k * 604800 * second ≡ k * week = omega arith in
       run-each s ok t k i (rw q at e) h
 
-  pub calm-borders : (back : Bool) {m : ℕ} → Room (repeatsBy back s t) m → Repeating back s t ((m + 604799) / 604800)
-  calm-borders back {m} r = record {
+  pub borders-repeat : (back : Bool) {m : ℕ} → Room (repeatsBy back s t) m → Repeating back s t ((m + 604800 - 1) / 604800)
+  borders-repeat back {m} r = record {
     none = λ q. sym (one-border back) ∙ r .none (omega arith);
-    each = λ i h. each-border back ((m + 604799) / 604800 - 1) i (r .each (((m + 604799) / 604800 - 1) * 604800) (omega arith)) (omega arith);
+    each = λ i h. each-border back ((m + 604800 - 1) / 604800 - 1) i (r .each (((m + 604800 - 1) / 604800 - 1) * 604800) (omega arith)) (omega arith);
   }

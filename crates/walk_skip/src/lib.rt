@@ -1,56 +1,69 @@
 // How many borders of windows in a row pass the skip test, on from an instant or back from it. One test of all: the span from eleven days before
 // the first border to eleven days behind the last one lies in the range, no work or break zone changes its offset in it, and no holiday lies among its dates.
 ghost use mathlib.Core.Path.{_≡_};
-ghost use mathlib.Core.List.{List, map};
-ghost use Prim.Native.Nat.{ℕ, _+_, _*_, _-_, _≤_, _<_, min};
-ghost use lib.Dec.{leb};
+ghost use Prim.Native.Nat.{_+_, _*_, _≤_};
 ghost use lib.ListN.{length, take};
-ghost use Rattle.instant.specs.Instant.{nanos, InRange};
-ghost use Rattle.model.specs.Basic.{any, all, isIn};
+ghost use Rattle.instant.specs.Instant.{nanos, lastSecond, InRange};
 ghost use Rattle.book.specs.Meaning.{datesAt};
-ghost use Rattle.rule.specs.Rules.{ruleIs, holidaysIs, scheduleIs, RuleFits, HolidaysFit, ScheduleFits, All};
-ghost use Rattle.zone_steady.specs.Steady.{Room};
-ghost use Rattle.walk_skip.specs.Repeating.{steadyWithin, noneWithin, rangeBy, repeatsBy, Repeating, Ahead, Behind};
+ghost use Rattle.rule.specs.Rules.{scheduleIs, RuleFits, HolidaysFit, ScheduleFits, All};
+ghost use Rattle.walk_skip.specs.Repeating.{isMet, noDate, Nearest, Ahead, Behind, Repeating};
+ghost use Rattle.walk_skip.specs.Repeating.{HolidayRoom, HolidaysRoom, RulesRoom, RangeRoom, BorderRoom};
 use instant::Instant;
 use rule::HolidayDates;
 use rule::Rule;
 use rule::Schedule;
 
-// The first of the n dates at p from `first` on, 4294967295 if there is none.
-fn next_day(book: &[u8], p: usize, n: usize, first: u32) -> u32
-    requires { ⌜ p + 4 * n ≤ length (now book) ⌝ }
-    ensures { λ r. ⌜ ((l : ℕ) → l < 4294967295 → any (isIn first l) (datesAt (now (book .entry)) p n) ≡ leb r l) ⌝ }
+// The seconds of the days on each side of a border that the skip test asks of.
+const MARGIN: u64 = 11 * instant::DAY;
+
+// The first and the last second of a border whose days on each side lie in the range.
+const EARLIEST: u64 = instant::FIRST + MARGIN;
+
+const LATEST: u64 = instant::LAST - MARGIN;
+
+// More seconds than the range has.
+const UNLIMITED: u64 = 1000000000000;
+
+// The greatest offset of a zone in seconds: 25 h 59 min 59 s.
+const OFFSET: u64 = 93599;
+
+// The date that stands for none going on: beyond all others.
+const NO_DATE: u32 = 4294967295;
+
+// Going on from the date a, or back from it, the date b is met: at a or beyond it.
+fn meets(back: bool, a: u32, b: u32) -> bool
+    ensures { λ r. ⌜ r ≡ isMet back a b ⌝ }
 {
-    let mut at = p;
-    let mut left = n;
-    let mut near = 4294967295;
-    while 0 < left {
-        let d = book::date_at(book, at);
-        at += 4;
-        left -= 1;
-        if first <= d {
-            if d < near {
-                near = d;
-            }
-        }
+    if back {
+        return b <= a;
     }
-    near
+    a <= b
 }
 
-// The last of the n dates at p up to `last`, 0 if there is none.
-fn previous_day(book: &[u8], p: usize, n: usize, last: u32) -> u32
+// The date that stands for none, going on or back.
+fn no_date(back: bool) -> u32
+    ensures { λ r. ⌜ r ≡ noDate back ⌝ }
+{
+    if back {
+        return 0;
+    }
+    NO_DATE
+}
+
+// The nearest of the n dates at p, going on from the date `from` or back from it.
+fn nearest_date(book: &[u8], p: usize, n: usize, back: bool, from: u32) -> u32
     requires { ⌜ p + 4 * n ≤ length (now book) ⌝ }
-    ensures { λ r. ⌜ ((f : ℕ) → 0 < f → any (isIn f last) (datesAt (now (book .entry)) p n) ≡ leb f r) ⌝ }
+    ensures { λ r. ⌜ Nearest back from (datesAt (now (book .entry)) p n) r ⌝ }
 {
     let mut at = p;
     let mut left = n;
-    let mut near = 0;
+    let mut near = no_date(back);
     while 0 < left {
-        let d = book::date_at(book, at);
+        let d = book_dates::date_at(book, at);
         at += 4;
         left -= 1;
-        if d <= last {
-            if near < d {
+        if meets(back, from, d) {
+            if !meets(back, near, d) {
                 near = d;
             }
         }
@@ -59,29 +72,32 @@ fn previous_day(book: &[u8], p: usize, n: usize, last: u32) -> u32
 }
 
 // How far behind the second hi the date d is not among the dates, where `last` is the last of them: 0 if it is among them at hi.
+// The last date lies at most one day behind the local one.
 fn days_ahead(d: u32, last: u32, hi: u64) -> u64
-    requires { ⌜ hi ≤ 643761727200 ⌝ }
+    requires { ⌜ hi ≤ lastSecond ⌝ }
     ensures { λ r. ⌜ Ahead d last hi r ⌝ }
 {
     if d <= last {
         return 0;
     }
-    let end = d as u64 * 86400;
-    if hi + 180000 <= end {
-        return end - hi - 179999;
+    let start = d as u64 * instant::DAY;
+    let end = hi + OFFSET + instant::DAY;
+    if end < start {
+        return start - end;
     }
     1
 }
 
 // How far before the second lo the date d is not among the dates, where `first` is the first of them: 0 if it is among them at lo.
+// The first date lies at most two days before the local one.
 fn days_behind(d: u32, first: u32, lo: u64) -> u64
-    requires { ⌜ lo ≤ 643761727200 ⌝ }
+    requires { ⌜ lo ≤ lastSecond ⌝ }
     ensures { λ r. ⌜ Behind d first lo r ⌝ }
 {
     if first <= d {
         return 0;
     }
-    let end = d as u64 * 86400 + 352799;
+    let end = (d as u64 + 3) * instant::DAY + OFFSET;
     if end <= lo {
         return lo - end + 1;
     }
@@ -98,17 +114,17 @@ fn holiday_room(
     b: Instant,
 ) -> u64
     requires { ⌜ HolidaysFit (now book) (now pack) h × InRange a × InRange b ⌝ }
-    ensures { λ r. ⌜ Room (λ e. noneWithin back (nanos a) (nanos b) e (holidaysIs (now (book .entry)) (now (pack .entry)) h)) r ⌝ }
+    ensures { λ r. ⌜ HolidayRoom (now (book .entry)) (now (pack .entry)) h back a b r ⌝ }
 {
     let z = h.zone;
     let f = big_endian::part(pack, h.at, h.len);
     let first = zone_local::first_date(f, z, a);
     let last = zone_local::last_date(f, z, b);
     if back {
-        let d = previous_day(book, h.dates, h.count, last);
+        let d = nearest_date(book, h.dates, h.count, true, last);
         return days_behind(d, first, a.sec);
     }
-    let d = next_day(book, h.dates, h.count, first);
+    let d = nearest_date(book, h.dates, h.count, false, first);
     days_ahead(d, last, b.sec)
 }
 
@@ -123,9 +139,9 @@ fn holidays_room(
     b: Instant,
 ) -> u64
     requires { ⌜ (n ≤ 8) × All (HolidaysFit (now book) (now pack)) (take n closed) × InRange a × InRange b ⌝ }
-    ensures { λ r. ⌜ Room (λ e. all (noneWithin back (nanos a) (nanos b) e) (map (holidaysIs (now (book .entry)) (now (pack .entry))) (take n closed))) r ⌝ }
+    ensures { λ r. ⌜ HolidaysRoom (now (book .entry)) (now (pack .entry)) (take n closed) back a b r ⌝ }
 {
-    let mut room = 1000000000000;
+    let mut room = UNLIMITED;
     let mut i = 0;
     while i < n {
         let h = closed[i];
@@ -142,9 +158,9 @@ fn holidays_room(
 // How far the span from a to b may be widened before one of the first n rules changes its offset in it: 0 if one does already.
 fn rules_room(pack: &[u8], rules: [Rule; 16], n: usize, back: bool, a: Instant, b: Instant) -> u64
     requires { ⌜ (n ≤ 16) × All (RuleFits (now pack)) (take n rules) × InRange a × InRange b × (a .sec ≤ b .sec) ⌝ }
-    ensures { λ r. ⌜ Room (λ e. all (steadyWithin back (nanos a) (nanos b) e) (map (ruleIs (now (pack .entry))) (take n rules))) r ⌝ }
+    ensures { λ r. ⌜ RulesRoom (now (pack .entry)) (take n rules) back a b r ⌝ }
 {
-    let mut room = 1000000000000;
+    let mut room = UNLIMITED;
     let mut i = 0;
     while i < n {
         let r = rules[i];
@@ -163,35 +179,35 @@ fn rules_room(pack: &[u8], rules: [Rule; 16], n: usize, back: bool, a: Instant, 
 // How far beyond t the eleven days on each side lie in the range: 0 if they do not at t.
 fn in_range(t: Instant, back: bool) -> u64
     requires { ⌜ InRange t ⌝ }
-    ensures { λ r. ⌜ Room (rangeBy back (nanos t)) r × (0 < r → (12655447199 ≤ t .sec) × (t .sec ≤ 643760776800)) × (r ≤ 643760776801) ⌝ }
+    ensures { λ r. ⌜ RangeRoom back t r ⌝ }
 {
-    if t.sec < 12655447199 {
+    if t.sec < EARLIEST {
         return 0;
     }
-    if 643760776800 < t.sec {
+    if LATEST < t.sec {
         return 0;
     }
     if back {
-        return t.sec - 12655447198;
+        return t.sec - EARLIEST + 1;
     }
-    643760776801 - t.sec
+    LATEST - t.sec + 1
 }
 
 // How far beyond the border t the skip test passes: 0 if it does not at t.
 fn room(book: &[u8], pack: &[u8], s: Schedule, t: Instant, back: bool) -> u64
     requires { ⌜ ScheduleFits (now book) (now pack) s × InRange t ⌝ }
-    ensures { λ r. ⌜ Room (repeatsBy back (scheduleIs (now (book .entry)) (now (pack .entry)) s) (nanos t)) r × (r ≤ 643760776801) ⌝ }
+    ensures { λ r. ⌜ BorderRoom (now (book .entry)) (now (pack .entry)) s back t r ⌝ }
 {
     let m = in_range(t, back);
     if m == 0 {
         return 0;
     }
     let a = Instant {
-        sec: t.sec - 950400,
+        sec: t.sec - MARGIN,
         ns: t.ns,
     };
     let b = Instant {
-        sec: t.sec + 950400,
+        sec: t.sec + MARGIN,
         ns: t.ns,
     };
     let work = s.work;
@@ -214,5 +230,5 @@ pub fn borders(book: &[u8], pack: &[u8], s: Schedule, t: Instant, back: bool) ->
     requires { ⌜ ScheduleFits (now book) (now pack) s × InRange t ⌝ }
     ensures { λ r. ⌜ Repeating back (scheduleIs (now (book .entry)) (now (pack .entry)) s) (nanos t) r ⌝ }
 {
-    (room(book, pack, s, t, back) + 604799) / 604800
+    (room(book, pack, s, t, back) + instant::WEEK - 1) / instant::WEEK
 }

@@ -29,8 +29,8 @@ use Rattle.instant.specs.declared.Instant.{Instant}
 use Rattle.block.specs.declared.Block.{Block as Item}
 use Rattle.zone_local.specs.Dates.{IsDay, held, pieceOf, during, KeepsOffset, IsIn}
 use Rattle.rule.specs.declared.Rule.{Rule as Rule′}
-use Rattle.window_dates.specs.Windows.{Window, DaysOf, dayBy}
-use Rattle.window_dates.specs.declared.Days.{Days}
+use Rattle.window_dates.specs.Windows.{Window, IsLocalDates, dayBy}
+use Rattle.window_dates.specs.declared.LocalDates.{LocalDates}
 use Rattle.rule.specs.Rules.{fileAt, ruleIs, All}
 
 -- ---- the dates of a rule
@@ -112,9 +112,9 @@ piece-any r lo hi d = refl
 pub zone-moved : (f g : List ℕ) (z : Zone′) → f ≡ g → ZoneOk g z → ZoneOk f z
 zone-moved f g z e o = rw e o
 
-pub days-are : (f g : List ℕ) (z : Zone′) (lo hi : Instant) (d : Days) → f ≡ g → ZoneOk g z → Window 14 lo hi
+pub days-are : (f g : List ℕ) (z : Zone′) (lo hi : Instant) (d : LocalDates) → f ≡ g → ZoneOk g z → Window 14 lo hi
     → d .first ≡ firstDate (meant f z) (nanos lo) → d .last ≡ lastDate (meant f z) (nanos hi)
-    → KeepsOffset (meant f z) (nanos lo) (nanos hi) (d .offset) → DaysOf (meant g z) lo hi d
+    → KeepsOffset (meant f z) (nanos lo) (nanos hi) (d .offset) → IsLocalDates (meant g z) lo hi d
 days-are f g z lo hi d e o w p q v =
     let s : Sound (meant g z) = fits-sound (meant g z) (o .fits) in
     let p′ : d .first ≡ firstDate (meant g z) (nanos lo) = p ∙ ap (λ (f : List ℕ). firstDate (meant f z) (nanos lo)) e in
@@ -142,8 +142,8 @@ kept-room f z lo hi o s w k h =
     let a = w .low .ns in let b = w .high .ns in let c = w .order in let l = k .low h in let u = k .high h in
     (kept-small f z lo hi o s k c h, omega arith, omega arith, omega arith)
 
-pub days-kept : (f g : List ℕ) (z : Zone′) (lo hi : Instant) (o : ℕ) (d : Days) → f ≡ g → ZoneOk g z → Window 14 lo hi → KeepsOffset (meant f z) (nanos lo) (nanos hi) o → 0 < o
-    → d .first ≡ dayBy o lo - 2 → d .last ≡ dayBy o hi + 1 → d .offset ≡ o → DaysOf (meant g z) lo hi d
+pub days-kept : (f g : List ℕ) (z : Zone′) (lo hi : Instant) (o : ℕ) (d : LocalDates) → f ≡ g → ZoneOk g z → Window 14 lo hi → KeepsOffset (meant f z) (nanos lo) (nanos hi) o → 0 < o
+    → d .first ≡ dayBy o lo - 2 → d .last ≡ dayBy o hi + 1 → d .offset ≡ o → IsLocalDates (meant g z) lo hi d
 days-kept f g z lo hi o d e s w k h p q r =
     let m = kept-room f z lo hi o (zone-moved f g z e s) w k h in
     let b = m .1 in let c = m .2 in let x = m .3 in
@@ -156,14 +156,14 @@ days-kept f g z lo hi o d e s w k h p q r =
     (q ∙ last-on (meant f z) (nanos hi) (dayBy o hi) j v)
     (rw r k)
 
-pub day-in : (z : Zone) (lo hi : Instant) (days : Days) (d : ℕ) → DaysOf z lo hi days → days .first ≤ d → d ≤ days .last → IsDay d
+pub day-in : (z : Zone) (lo hi : Instant) (days : LocalDates) (d : ℕ) → IsLocalDates z lo hi days → days .first ≤ d → d ≤ days .last → IsDay d
 day-in z lo hi days d q a b = let l = q .low in let u = q .high in record { low = omega arith; high = omega arith }
 
 -- the same, of a zone whose file is a part of the pack
-pub kept-moved : (f g : List ℕ) (z : Zone′) (lo hi : Instant) (days : Days) → f ≡ g → DaysOf (meant g z) lo hi days → KeepsOffset (meant f z) (nanos lo) (nanos hi) (days .offset)
+pub kept-moved : (f g : List ℕ) (z : Zone′) (lo hi : Instant) (days : LocalDates) → f ≡ g → IsLocalDates (meant g z) lo hi days → KeepsOffset (meant f z) (nanos lo) (nanos hi) (days .offset)
 kept-moved f g z lo hi days e q = rw e (q .kept)
 
-pub in-moved : (f g : List ℕ) (z : Zone′) (lo hi : Instant) (days : Days) (d : ℕ) → f ≡ g → Window 14 lo hi → DaysOf (meant g z) lo hi days → days .first ≤ d → d ≤ days .last
+pub in-moved : (f g : List ℕ) (z : Zone′) (lo hi : Instant) (days : LocalDates) (d : ℕ) → f ≡ g → Window 14 lo hi → IsLocalDates (meant g z) lo hi days → days .first ≤ d → d ≤ days .last
     → IsIn (meant f z) lo hi d
 in-moved f g z lo hi days d e w q a b =
     let p = q .first-is in let r = q .last-is in

@@ -1,14 +1,18 @@
 -- What the functions on a window are asked and answer.
 use mathlib.Core.Path.{_≡_}
+use mathlib.Core.List.{List}
 use Prim.Native.Nat.{ℕ, _+_, _*_, _-_, _/_, _≤_}
 use Rattle.model.specs.Calendar.{firstDay, lastDay}
+use Rattle.model.specs.Blocks.{Block}
 use Rattle.model.specs.Instant.{day}
 use Rattle.model.specs.Tzif.{Zone}
-use Rattle.model.specs.Working.{firstDate, lastDate}
+use Rattle.model.specs.Working.{firstDate, lastDate, blocksOf}
 use Rattle.instant.specs.Instant.{nanos, InRange}
 use Rattle.instant.specs.declared.Instant.{Instant}
-use Rattle.zone_local.specs.Dates.{KeepsOffset}
-use Rattle.window_dates.specs.declared.Days.{Days}
+use Rattle.zone_local.specs.Dates.{KeepsOffset, pieceOf}
+use Rattle.rule.specs.Rules.{ruleIs, RuleFits}
+use Rattle.rule.specs.declared.Rule.{Rule}
+use Rattle.window_dates.specs.declared.LocalDates.{LocalDates}
 
 -- a window of at most k days inside the range
 pub record Window (k : ℕ) (lo hi : Instant) : Type 0 where
@@ -17,15 +21,45 @@ pub record Window (k : ℕ) (lo hi : Instant) : Type 0 where
   pub order : nanos lo ≤ nanos hi
   pub short : nanos hi ≤ nanos lo + k * day
 
+-- how many dates a window of 14 days has at most
+abbrev pub mostDates : ℕ
+mostDates = 21
+
 -- the dates of a window, at most 21 of the years -9999 to 9999
-pub record DaysOf (z : Zone) (lo hi : Instant) (d : Days) : Type 0 where
+pub record IsLocalDates (z : Zone) (lo hi : Instant) (d : LocalDates) : Type 0 where
   pub first-is : d .first ≡ firstDate z (nanos lo)
   pub last-is : d .last ≡ lastDate z (nanos hi)
   pub low : firstDay ≤ d .first
   pub high : d .last ≤ lastDay
-  pub few : d .last + 1 ≤ d .first + 21
+  pub few : d .last + 1 ≤ d .first + mostDates
   pub kept : KeepsOffset z (nanos lo) (nanos hi) (d .offset)
 
 -- the local date at t by the offset o
 abbrev pub dayBy : ℕ → Instant → ℕ
 dayBy o t = (t .sec + o - 93600) / 86400
+
+-- the seconds of the instants that are four days from the ends of the range
+abbrev pub fromSecond : ℕ
+fromSecond = 12654842399
+
+abbrev pub uptoSecond : ℕ
+uptoSecond = 643761381600
+
+-- the offset o, and a window with four days of the range on either side
+abbrev pub OffsetHolds : ℕ → Instant → Instant → Type 0
+OffsetHolds o lo hi = (o ≤ 187199) × (fromSecond ≤ lo .sec) × (lo .sec ≤ hi .sec) × (hi .sec ≤ uptoSecond)
+
+-- ---- a rule
+
+-- a rule, and a date that a window of at most 14 days has in its zone
+abbrev pub RuleDate : List ℕ → Rule → LocalDates → ℕ → Instant → Instant → Type 0
+RuleDate pack r days d lo hi =
+    RuleFits pack r × Window 14 lo hi × IsLocalDates (ruleIs pack r .zone) lo hi days × (days .first ≤ d) × (d ≤ days .last)
+
+-- what the rule shows of a date in the window
+abbrev pub rulePiece : List ℕ → Rule → Instant → Instant → ℕ → List Block
+rulePiece pack r lo hi d = pieceOf (ruleIs pack r) (nanos lo) (nanos hi) d
+
+-- what the rule has in the window
+abbrev pub ruleBlocks : List ℕ → Rule → Instant → Instant → List Block
+ruleBlocks pack r lo hi = blocksOf (nanos lo) (nanos hi) (ruleIs pack r)

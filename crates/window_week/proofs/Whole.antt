@@ -19,9 +19,9 @@ use Rattle.rule.specs.declared.HolidayDates.{HolidayDates}
 use Rattle.rule.specs.Rules.{ruleIs, holidaysIs}
 use Rattle.window_dates.proofs.Whole.{off-is}
 use Rattle.block_pairs.specs.Pairs.{part, pairs}
-use Rattle.window_rule.specs.Filled.{Filled}
-use Rattle.window_rule.proofs.Frames.{rule-apart}
-use Rattle.window_rule.proofs.Laws.{Apart, apart-both, apart-onward, union-onto, onward-append, union-onward, subtract-onward, total-onward, total-within, onward-nonempty}
+use Rattle.window_piece.specs.Filled.{Filled}
+use Rattle.window_piece.proofs.Frames.{rule-apart}
+use Rattle.window_piece.proofs.Laws.{Apart, apart-both, apart-onward, union-onto, onward-append, union-onward, subtract-onward, total-onward, total-within, onward-nonempty}
 
 -- ---- blocks from the window's start on
 
@@ -64,13 +64,6 @@ module _ (lo hi : ℕ) where
       ∙ ap union (sym (onward-append lo b c)) ∙ union-onward lo (b ++ c) (ab .full) (ab .from)
 
   module _ (s : Schedule) (w : BuiltWell s) where
-    -- the list of work is sorted and apart
-    pub work-normal : (l₀ : List ℕ) (b : List Block) (k : ℕ) (l : List ℕ) (n : ℕ) → Filled lo l₀ 0 b k l n → b ≡ blocksOfAll lo hi (s .work) → Normal (pairs n l)
-    unfolding part
-    work-normal l₀ b k l n f e =
-        let a : Apart lo b = rw e (rules-apart lo hi (s .work)) in
-        rw (f .same) (union-normal (onward lo b) (apart-onward lo b a))
-
     -- work without breaks and holidays
     pub window-is : (l₀ : List ℕ) (b : List Block) (k : ℕ) (l : List ℕ) (n : ℕ) → Filled lo l₀ 0 b k l n → b ≡ blocksOfAll lo hi (s .work)
         → (o₀ : List ℕ) (p : List Block) (i : ℕ) (o₁ : List ℕ) (m₁ : ℕ) → Filled lo o₀ 0 p i o₁ m₁ → p ≡ blocksOfAll lo hi (s .breaks)
@@ -127,16 +120,20 @@ module _ (s : Schedule) (lo hi : ℕ) where
       chain-at 0 lo hi (subtract (union W) (union O)) (subtract-normal (union W) (union O) a b)
       (λ t i. all-in lo hi (s .work) t (union-in t W .0 (subtract-in t (union W) (union O) b .0 i .0)))
 
-  pub sum-fits : lo ≤ hi → hi ≤ lo + 7 * day → (r : List Block) → r ≡ onward lo (working s lo hi) → NonEmpty r × (total r < 18446744073709551616)
-  sum-fits h k r e =
+  -- the time of a window is no more than its length
+  pub working-most : lo ≤ hi → total (working s lo hi) ≤ hi - lo
+  working-most h = let c = work-chain in let t = total-within lo hi (working s lo hi) h (c .0) (c .1) in omega arith
+
+  pub total-fits : lo ≤ hi → hi ≤ lo + 7 * day → (r : List Block) → r ≡ onward lo (working s lo hi) → NonEmpty r × (total r < 18446744073709551616)
+  total-fits h k r e =
       let c = work-chain in
       let n = chain-nonempty lo (working s lo hi) (c .0) in
       let f = chain-sorted lo (working s lo hi) (c .0) .1 in
-      let t = total-within lo hi (working s lo hi) h (c .0) (c .1) in
+      let t = working-most h in
       let o = total-onward lo (working s lo hi) n f in
       rw e (onward-nonempty lo (working s lo hi) n f, omega arith)
 
-  pub sum-is : (r : List Block) → r ≡ onward lo (working s lo hi) → total r ≡ total (working s lo hi)
-  sum-is r e =
+  pub total-is : (r : List Block) → r ≡ onward lo (working s lo hi) → total r ≡ total (working s lo hi)
+  total-is r e =
       let c = work-chain in
       rw e (total-onward lo (working s lo hi) (chain-nonempty lo (working s lo hi) (c .0)) (chain-sorted lo (working s lo hi) (c .0) .1))

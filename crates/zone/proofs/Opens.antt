@@ -24,7 +24,7 @@ use Rattle.zone.specs.Zones.{meant, ZoneOk, zoneRead, ReadOk, opened as 
 abbrev zone : Layout → Footer → Zone
 zone l foot = record { table = l; footer = foot }
 
--- a footer in its own words
+-- a footer by its variant
 pub ruled-as : {l : Layout} {foot g : Footer} → foot ≡ g → R.Opened (zone l g) ≡ ruled l g → R.Opened (zone l foot) ≡ ruled l foot
 ruled-as e h = rw e h
 

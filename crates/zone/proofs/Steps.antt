@@ -1,4 +1,4 @@
--- One turn of each walk over the runs of a zone, as the code takes it.
+-- One step of each search over the runs of a zone, as the code takes it.
 use mathlib.Core.Path.{_≡_, sym, _∙_, ap}
 use mathlib.Core.Bool.{Bool, true, false}
 use mathlib.Core.Logic.{_⊎_, inl, inr}
@@ -17,6 +17,7 @@ use Rattle.zone_tzif.specs.Places.{offsetAfter, timeAt}
 use Rattle.zone_tzif.specs.Opened.{Opened, zoneAt, countAt}
 use Rattle.zone_tzif.proofs.Laws.{offset-early, offset-late, count-end, table-run}
 use Rattle.zone.specs.Zones.{inRun}
+use Rattle.model.specs.Tzif.{greatestOffset}
 
 pub in-run-yes : (u o e x : ℕ) → inRun u o e x ≡ true → (u + o ≤ x) × (x - o < e)
 unfolding inRun
@@ -43,15 +44,15 @@ module _ {off : ℕ → ℕ} {x u d o e : ℕ} {b : Bool} (p : Past off x u d) (
       go (inl a) = inl (omega arith)
       go (inr a) = inr (omega arith)
 
--- where the walk of `second_of` stands: before any reading and any jump, in a run of the offset o that ends at e
+-- where the search of `second_of` is: before any reading and any jump, in a run of the offset o that ends at e
 pub record At (off : ℕ → ℕ) (x o e : ℕ) : Type 0 where
   pub u : ℕ
   pub low : Low off x u
   pub same : o ≡ off u
   pub run : Run off u e
 
-pub at-start : (off : ℕ → ℕ) → ((u : ℕ) → 1 ≤ off u) → ((u : ℕ) → off u ≤ 187199) → {x o e : ℕ} → 187199 ≤ x → o ≡ off (x - 187199) → Run off (x - 187199) e → At off x o e
-at-start off lo hi {x} h s r = record { u = x - 187199; low = low-start off lo hi x h; same = s; run = r }
+pub at-start : (off : ℕ → ℕ) → ((u : ℕ) → 1 ≤ off u) → ((u : ℕ) → off u ≤ greatestOffset) → {x o e : ℕ} → greatestOffset ≤ x → o ≡ off (x - greatestOffset) → Run off (x - greatestOffset) e → At off x o e
+at-start off lo hi {x} h s r = record { u = x - greatestOffset; low = low-start off lo hi x h; same = s; run = r }
 
 module _ {off : ℕ → ℕ} {x o e : ℕ} (a : At off x o e) where
   pub at-off : o ≤ x

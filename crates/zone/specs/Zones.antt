@@ -3,9 +3,10 @@ use mathlib.Core.Path.{_≡_}
 use mathlib.Core.Bool.{Bool, _&&_}
 use mathlib.Core.Option.{Option, none, some}
 use mathlib.Core.List.{List}
-use Prim.Native.Nat.{ℕ, _+_, _-_}
+use Prim.Native.Nat.{ℕ, _+_, _-_, _<_}
 use lib.Dec.{leb, ltb}
 use Rattle.model.specs.Tzif as model
+use Rattle.model.specs.Zone.{offsetAt}
 use Rattle.laws_zone.specs.Zones.{ZoneFits}
 use Rattle.zone_tzif.specs.Opened.{Opened, zoneAt}
 use Rattle.zone_tzif.specs.declared.Layout.{Layout}
@@ -15,14 +16,24 @@ use Rattle.zone_changes.specs.Meaning.{theFooter}
 use Rattle.zone.specs.declared.Zone.{Zone}
 use Rattle.zone.specs.declared.ZoneRead.{ZoneRead}
 use Rattle.zone.specs.declared.ZoneRead.the-variants as R
+use Rattle.instant.specs.Instant.{yearsEnd}
 
+-- the zone of the definitions
 abbrev pub meant : List ℕ → Zone → model.Zone
 meant f z = zoneAt f (z .table) (theFooter (z .footer))
 
--- what an open zone has: its table lies in the file, and its offsets and its footer's turns are in bounds
+-- what an open zone has: its table lies in the file, and its offsets and its footer's changes are in bounds
 pub record ZoneOk (f : List ℕ) (z : Zone) : Type 0 where
   pub table : Opened f (z .table)
   pub fits : ZoneFits (meant f z)
+
+-- an open zone is asked for a second of the calendar's years
+abbrev pub Asked : List ℕ → Zone → ℕ → Type 0
+Asked f z u = ZoneOk f z × (u < yearsEnd)
+
+-- its offset at a second
+abbrev pub zoneOffset : List ℕ → Zone → ℕ → ℕ
+zoneOffset f z = offsetAt (meant f z)
 
 -- what `open` answers
 abbrev pub zoneRead : List ℕ → ZoneRead → Option model.Zone

@@ -1,24 +1,32 @@
-// A zone: its file, the layout of the file's table, and its footer. The offset at a second, whether a span keeps one offset, and the instant of a
-// local time. Seconds are counted from -10400-01-01T00:00:00Z; offsets and local seconds have 93,600 added.
+// A zone: its file, the layout of the file's table, and its footer. The offset at a second, and the second of a local time. Seconds are counted from -10400-01-01T00:00:00Z; offsets and local seconds have zone_offset::BIAS added.
 ghost use mathlib.Core.Path.{_≡_};
 ghost use mathlib.Core.List.{List};
 ghost use Prim.Native.Nat.{ℕ, _+_, _-_, _≤_, _<_};
 ghost use Rattle.model.specs.Zone as model;
-ghost use Rattle.model.specs.Tzif.{zoneOf};
+ghost use Rattle.model.specs.Tzif.{greatestOffset, zoneOf};
 ghost use Rattle.laws_zone.specs.Resolve.{Resolves};
-ghost use Rattle.laws_zone.specs.Runs as runs;
-ghost use Rattle.zone.specs.Zones.{meant, ZoneOk, zoneRead, ReadOk, ruled, inRun};
-use instant::Instant;
+ghost use Rattle.laws_zone.specs.Runs.{Past};
+ghost use Rattle.laws_zone.specs.Sound.{firstLocal};
+ghost use Rattle.instant.specs.Instant.{yearsEnd};
+ghost use Rattle.zone_changes.specs.Meaning.{IsOffset};
+ghost use Rattle.zone.specs.Zones.{meant, ZoneOk, Asked, zoneOffset, zoneRead, ReadOk, ruled, inRun};
 use zone_changes::OffsetUntil;
 use zone_footer::Footer;
 use zone_tzif::Layout;
 use zone_tzif::TzifRead;
 
+// The second behind the last year that the calendar has, and the first local second that `second_of` takes: one more than the greatest offset.
+pub const YEARS_END: u64 = 656384601600;
+
+pub const FIRST_LOCAL: u64 = 187200;
+
+// An open zone: the layout of its file's table, and its footer.
 pub struct Zone {
     pub table: Layout,
     pub footer: Footer,
 }
 
+// What `open` answers.
 pub enum ZoneRead {
     Opened(Zone),
     Unusable,
@@ -60,8 +68,8 @@ pub fn utc() -> Zone
 
 // The offset at u, and a second before which it stays.
 pub fn run_at(f: &[u8], z: Zone, u: u64) -> OffsetUntil
-    requires { ⌜ ZoneOk (now f) z × (u < 656384601600) ⌝ }
-    ensures { λ r. ⌜ (r .offset ≡ model.offsetAt (meant (now (f .entry)) z) u) × runs.Run (model.offsetAt (meant (now (f .entry)) z)) u (r .until) ⌝ }
+    requires { ⌜ Asked (now f) z u ⌝ }
+    ensures { λ r. ⌜ IsOffset (zoneOffset (now (f .entry)) z) u r ⌝ }
 {
     let table = z.table;
     let k = zone_tzif::count_at(f, table, u);
@@ -78,7 +86,7 @@ pub fn run_at(f: &[u8], z: Zone, u: u64) -> OffsetUntil
 
 // A run from u up to e with the offset o holds a second that reads x.
 fn in_run(u: u64, o: u64, e: u64, x: u64) -> bool
-    requires { ⌜ (u < 656384601600) × (o ≤ 187199) ⌝ }
+    requires { ⌜ (u < yearsEnd) × (o ≤ greatestOffset) ⌝ }
     ensures { λ r. ⌜ r ≡ inRun u o e x ⌝ }
 {
     if u + o <= x {
@@ -89,8 +97,8 @@ fn in_run(u: u64, o: u64, e: u64, x: u64) -> bool
 
 // The first reading of x from the second `from` on, past the first jump over x, and d if there is none.
 fn read_after(f: &[u8], z: Zone, x: u64, from: u64, d: u64) -> u64
-    requires { ⌜ ZoneOk (now f) z × (x < 656384601600) × runs.Past (model.offsetAt (meant (now f) z)) x from d ⌝ }
-    ensures { λ r. ⌜ Resolves (model.offsetAt (meant (now (f .entry)) z)) x r ⌝ }
+    requires { ⌜ ZoneOk (now f) z × (x < yearsEnd) × Past (zoneOffset (now f) z) x from d ⌝ }
+    ensures { λ r. ⌜ Resolves (zoneOffset (now (f .entry)) z) x r ⌝ }
 {
     let mut u = from;
     while u < x {
@@ -105,10 +113,10 @@ fn read_after(f: &[u8], z: Zone, x: u64, from: u64, d: u64) -> u64
 
 // The second of the local second x: the earliest that reads so, or by the earliest jump over it.
 pub fn second_of(f: &[u8], z: Zone, x: u64) -> u64
-    requires { ⌜ ZoneOk (now f) z × (187200 ≤ x) × (x < 656384601600) ⌝ }
+    requires { ⌜ ZoneOk (now f) z × (firstLocal ≤ x) × (x < yearsEnd) ⌝ }
     ensures { λ r. ⌜ r ≡ model.secondOf (meant (now (f .entry)) z) x ⌝ }
 {
-    let r = run_at(f, z, x - 187199);
+    let r = run_at(f, z, x - zone_offset::GREATEST_64);
     let mut off = r.offset as u64;
     let mut until = r.until;
     while until <= x - off {

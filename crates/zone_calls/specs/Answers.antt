@@ -10,15 +10,18 @@ use Rattle.zone_calls.specs.declared.ChangeAnswer.the-variants as C
 use Rattle.zone_calls.specs.declared.ResolveAnswer.{ResolveAnswer}
 use Rattle.zone_calls.specs.declared.ResolveAnswer.the-variants as R
 
+-- the offset, or the refusal
 abbrev pub offsetIs : OffsetAnswer → Answer ℤ
 offsetIs (O.Is o) = gives o
 offsetIs (O.Refused n p) = refuses n p
 
+-- the instant of the change or that there is none, or the refusal
 abbrev pub changeIs : ChangeAnswer → Answer (Option (List ℤ))
 changeIs (C.At s n) = gives (some (s ∷ n ∷ []))
 changeIs C.Never = gives none
 changeIs (C.Refused n p) = refuses n p
 
+-- the instant, or the refusal
 abbrev pub resolveIs : ResolveAnswer → Answer (List ℤ)
 resolveIs (R.At s n) = gives (s ∷ n ∷ [])
 resolveIs (R.Refused n p) = refuses n p

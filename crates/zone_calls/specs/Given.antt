@@ -5,6 +5,19 @@ use Rattle.model.specs.Answer.{Answer, gives, refuses}
 use Rattle.civil.specs.declared.DayRead.{DayRead}
 use Rattle.civil.specs.declared.DayRead.the-variants as D
 
+-- the year 0 counted from -10400; and the first year, month and day that there is not
+abbrev pub yearZero : ℕ
+yearZero = 10400
+
+abbrev pub yearAfter : ℕ
+yearAfter = 20800
+
+abbrev pub monthAfter : ℕ
+monthAfter = 13
+
+abbrev pub dayAfter : ℕ
+dayAfter = 32
+
 -- the number, and the cap where it is below 0 or beyond the cap
 unfoldable pub capped : ℤ → ℕ → ℕ
 capped (pos n) cap = min n cap

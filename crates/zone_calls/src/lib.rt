@@ -5,7 +5,7 @@ ghost use mathlib.Core.Path.{_≡_};
 ghost use Prim.Native.Nat.{min};
 ghost use Rattle.model.specs.ZoneCalls as definition;
 ghost use Rattle.zone_calls.specs.Answers.{offsetIs, changeIs, resolveIs};
-ghost use Rattle.zone_calls.specs.Given.{capped, dayIs};
+ghost use Rattle.zone_calls.specs.Given.{yearAfter, capped, dayIs};
 use civil::Date;
 use civil::DayRead;
 use civil::Time;
@@ -17,6 +17,25 @@ use zone_next_change::Next;
 // 2^63, which `lift` adds and `lower` takes off.
 const HALF: u64 = 9223372036854775808;
 
+// The refusals: a file that is not usable; an instant, a date or a time of day that there is not.
+const UNUSABLE: u32 = 5;
+
+const OUT_OF_RANGE: u32 = 8;
+
+// The year 0 counted from -10400.
+const YEAR_ZERO: u64 = 10400;
+
+// The first year (counted from -10400), month, day, second of a day and nanosecond that there is not.
+const YEAR_AFTER: u32 = 20800;
+
+const MONTH_AFTER: u32 = 13;
+
+const DAY_AFTER: u32 = 32;
+
+const SECOND_AFTER: u32 = 86400;
+
+const NANOSECOND_AFTER: u32 = 1000000000;
+
 // ---- the offset at an instant
 
 // What `offset_in` answers: seconds east of Greenwich, or a refusal's number and place.
@@ -25,11 +44,11 @@ pub enum OffsetAnswer {
     Refused(u32, usize),
 }
 
-// Seconds east of Greenwich, of an offset that is kept with 93,600 added.
+// Seconds east of Greenwich, of an offset as zones keep it.
 fn east(offset: u32) -> i64
     ensures { λ r. ⌜ r ≡ definition.east offset ⌝ }
 {
-    instant_signed::lower(HALF + offset as u64 - 93600)
+    instant_signed::lower(HALF + offset as u64 - zone_offset::BIAS_64)
 }
 
 // The offset at an instant.
@@ -37,10 +56,10 @@ pub fn offset_in(file: &[u8], sec: i64, ns: i64) -> OffsetAnswer
     ensures { λ r. ⌜ offsetIs r ≡ definition.offsetCall (now (file .entry)) sec ns ⌝ }
 {
     let ZoneRead::Opened(z) = zone::open(file) else {
-        return OffsetAnswer::Refused(5, 0);
+        return OffsetAnswer::Refused(UNUSABLE, 0);
     };
     let InstantRead::At(t) = instant_signed::instant_of(sec, ns) else {
-        return OffsetAnswer::Refused(8, 0);
+        return OffsetAnswer::Refused(OUT_OF_RANGE, 0);
     };
     let r = zone::run_at(file, z, t.sec);
     OffsetAnswer::Is(east(r.offset))
@@ -60,10 +79,10 @@ pub fn next_change_in(file: &[u8], sec: i64, ns: i64) -> ChangeAnswer
     ensures { λ r. ⌜ changeIs r ≡ definition.changeCall (now (file .entry)) sec ns ⌝ }
 {
     let ZoneRead::Opened(z) = zone::open(file) else {
-        return ChangeAnswer::Refused(5, 0);
+        return ChangeAnswer::Refused(UNUSABLE, 0);
     };
     let InstantRead::At(t) = instant_signed::instant_of(sec, ns) else {
-        return ChangeAnswer::Refused(8, 0);
+        return ChangeAnswer::Refused(OUT_OF_RANGE, 0);
     };
     let Next::At(v) = zone_next_change::next_change(file, z, t.sec) else {
         return ChangeAnswer::Never;
@@ -95,16 +114,16 @@ fn capped(x: i64, cap: u32) -> u32
 
 // A year counted from -10400; 0 for all before, and 20,800 for all from 10400 on.
 fn year_from(year: i64) -> u32
-    ensures { λ r. ⌜ r ≡ min (definition.yearFrom year) 20800 ⌝ }
+    ensures { λ r. ⌜ r ≡ min (definition.yearFrom year) yearAfter ⌝ }
 {
     let k = instant_signed::lift(year);
-    if k < HALF - 10400 {
+    if k < HALF - YEAR_ZERO {
         return 0;
     }
-    if HALF + 10400 < k {
-        return 20800;
+    if HALF + YEAR_ZERO < k {
+        return YEAR_AFTER;
     }
-    (k - (HALF - 10400)) as u32
+    (k - (HALF - YEAR_ZERO)) as u32
 }
 
 // The number of a date's day. There is no month 13 and no day 32.
@@ -113,8 +132,8 @@ fn day_given(year: i64, month: i64, day: i64) -> DayRead
 {
     civil::day_of(Date {
         year: year_from(year),
-        month: capped(month, 13),
-        day: capped(day, 32),
+        month: capped(month, MONTH_AFTER),
+        day: capped(day, DAY_AFTER),
     })
 }
 
@@ -130,15 +149,15 @@ pub fn resolve_in(
     ensures { λ r. ⌜ resolveIs r ≡ definition.resolveCall (now (file .entry)) year month day second ns ⌝ }
 {
     let ZoneRead::Opened(z) = zone::open(file) else {
-        return ResolveAnswer::Refused(5, 0);
+        return ResolveAnswer::Refused(UNUSABLE, 0);
     };
     let DayRead::Day(d) = day_given(year, month, day) else {
-        return ResolveAnswer::Refused(8, 0);
+        return ResolveAnswer::Refused(OUT_OF_RANGE, 0);
     };
-    let seconds = capped(second, 86400);
-    let nanos = capped(ns, 1000000000);
+    let seconds = capped(second, SECOND_AFTER);
+    let nanos = capped(ns, NANOSECOND_AFTER);
     let TimeRead::Nanoseconds(_) = civil::time_of(seconds, nanos) else {
-        return ResolveAnswer::Refused(8, 0);
+        return ResolveAnswer::Refused(OUT_OF_RANGE, 0);
     };
     let time = Time { seconds, nanos };
     let t = zone_local::resolve(file, z, d, time);

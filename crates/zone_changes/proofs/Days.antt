@@ -15,8 +15,11 @@ use Rattle.laws_zone.specs.FooterChanges.{DayFits}
 use Rattle.zone_footer.specs.Parsed.{dayIs}
 use Rattle.zone_footer.specs.declared.Day.{Day}
 use Rattle.zone_footer.specs.declared.Day.the-variants.{Month, Julian, Plain}
+use Rattle.model.specs.Tzif.{offsetBias}
+use Rattle.instant.specs.Instant.{yearsEnd}
+use Rattle.zone_changes.specs.Meaning.{lastYear}
 
-pub year-small : (y : ℕ) → y ≤ 20801 → daysBeforeYear y ≤ 7597500
+pub year-small : (y : ℕ) → y ≤ lastYear → daysBeforeYear y ≤ 7597500
 year-small y h = omega (arith, dby-hi y)
 
 -- months by computing
@@ -44,7 +47,7 @@ floors false = at-each (λ m. if (le 1 m) (le 28 (daysInMonth false m))) 13 tt
 pub length-big : (l : Bool) (m : ℕ) → 1 ≤ m → m ≤ 12 → 28 ≤ daysInMonth l m
 length-big l m p h = floors l m (omega arith) p
 
-pub years-in : (u : ℕ) {y : ℕ} → u < 656384601600 → y ≡ yearAt u → y ≤ 20799
+pub years-in : (u : ℕ) {y : ℕ} → u < yearsEnd → y ≡ yearAt u → y ≤ 20799
 years-in u h e = omega (arith, year-below {n = u / 86400} (omega arith) (year-within (u / 86400)))
 
 -- ---- Mm.w.d
@@ -96,6 +99,6 @@ pub plain-is : (y n : ℕ) {b : ℕ} → b ≡ daysBeforeYear y → b + n ≡ da
 unfolding dayIn
 plain-is y n e = rw e
 
-pub change-is : (o y : ℕ) (t : model.ChangeRule) {r k : ℕ} → k ≡ dayIn y (t .day) → r ≡ k * 86400 + t .time + 93600 - o → r ≡ changeIn o t y
+pub change-is : (o y : ℕ) (t : model.ChangeRule) {r k : ℕ} → k ≡ dayIn y (t .day) → r ≡ k * 86400 + t .time + offsetBias - o → r ≡ changeIn o t y
 unfolding changeIn
 change-is o y t q p = p ∙ rw q

@@ -1,3 +1,3 @@
 pub mod Meaning
 pub mod MeaningLaws
-pub mod Usual
+pub mod OneYear

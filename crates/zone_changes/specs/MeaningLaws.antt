@@ -15,8 +15,7 @@ use Rattle.laws_zone.specs.FooterChanges.{ChangeRuleFits, latest-is, latest-le,
 use Rattle.laws_zone.specs.Grammar.{FooterFits}
 use Rattle.laws_zone.specs.Runs as runs
 use Rattle.zone_changes.specs.Meaning.{Near}
-
--- ---- a parsed footer fits
+use Rattle.model.specs.Tzif.{greatestOffset}
 
 -- ---- the latest of four that rise
 
@@ -53,9 +52,9 @@ module _ (u : ℕ) {a b c d : ℕ} (p : a ≤ b) (q : b ≤ c) (r : c ≤ d) whe
       let y : u < d = omega arith in
       rw (le-leb a u h, lt-leb b u k, lt-leb c u x, lt-leb d u y) (omega arith)
 
-  nought : u < a → 0 ≡ greatest
+  none-yet : u < a → 0 ≡ greatest
   unfolding filter
-  nought h =
+  none-yet h =
       let x : u < b = omega arith in
       let y : u < c = omega arith in
       let z : u < d = omega arith in
@@ -63,7 +62,7 @@ module _ (u : ℕ) {a b c d : ℕ} (p : a ≤ b) (q : b ≤ c) (r : c ≤ d) whe
 
 -- ---- the changes around a second
 
-module _ (o : ℕ) (t : model.ChangeRule) (ho : o ≤ 187199) (f : ChangeRuleFits t) where
+module _ (o : ℕ) (t : model.ChangeRule) (ho : o ≤ greatestOffset) (f : ChangeRuleFits t) where
   abbrev change : ℕ → ℕ
   change = changeIn o t
 
@@ -131,7 +130,7 @@ module _ (o : ℕ) (t : model.ChangeRule) (ho : o ≤ 187199) (f : ChangeRuleFit
     -- only in the first two years can there be none
     pub near-none : {a : ℕ} → a ≡ change y → u < a → Near change u 0 a
     near-none {a} q g = record {
-      last-is = nought u a-b b-c c-d (omega arith) ∙ sym is-latest;
+      last-is = none-yet u a-b b-c c-d (omega arith) ∙ sym is-latest;
       on = g;
       none-before = λ z j. go z (decLe y z);
     }

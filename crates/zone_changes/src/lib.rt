@@ -1,17 +1,32 @@
 // The changes that a footer makes: the day and the second of a change in a year, the latest change at or before a second and the next
 // one, and the footer's offset with the second up to which it stays. Years, days and seconds are counted from -10400-01-01.
 ghost use mathlib.Core.Path.{_≡_};
-ghost use Prim.Native.Nat.{ℕ, _-_, _≤_, _<_, min};
+ghost use Prim.Native.Nat.{ℕ, _-_, _≤_, _<_};
 ghost use Rattle.model.specs.Footer as model;
 ghost use Rattle.model.specs.Zone.{yearAt, ruledAt};
 ghost use Rattle.zone_footer.specs.Parsed.{dayIs, changeRuleIs};
 ghost use Rattle.laws_zone.specs.FooterChanges.{DayFits, ChangeRuleFits};
 ghost use Rattle.laws_zone.specs.Grammar.{FooterFits};
-ghost use Rattle.laws_zone.specs.Runs as runs;
-ghost use Rattle.zone_changes.specs.Meaning.{theFooter, Near, Sure, Halved};
+ghost use Rattle.instant.specs.Instant.{yearsEnd};
+ghost use Rattle.model.specs.Tzif.{greatestOffset};
+ghost use Rattle.zone_changes.specs.Meaning.{lastYear, changesEnd, rulesOf, theFooter, IsOffset, Near, Sure, ByTwoChanges};
 use zone_footer::ChangeRule;
 use zone_footer::Day;
 use zone_footer::Footer;
+
+// A mean year of the calendar and four weeks, in seconds.
+const MEAN_YEAR: u64 = 31556952;
+
+const FOUR_WEEKS: u64 = 2419200;
+
+// The least time from a change to the next of its kind, 349 days.
+const LEAST_YEAR: u64 = 30153600;
+
+// What is added to a second where no change follows: more than there are seconds in the calendar's years.
+const FAR: u64 = 1099511627776;
+
+// 29 February as a day of its year, the first of which is 1.
+const LEAP_DAY: u32 = 60;
 
 // The latest change at or before a second, 0 if there is none, and the first one behind it.
 pub struct Changes {
@@ -27,7 +42,7 @@ pub struct OffsetUntil {
 
 // Mm.w.d: the w-th weekday d of the month, where week 5 is the last.
 fn month_day(year: u32, m: u32, w: u32, d: u32) -> u32
-    requires { ⌜ (year ≤ 20801) × (1 ≤ m) × (m ≤ 12) × (1 ≤ w) × (w ≤ 5) × (d ≤ 6) ⌝ }
+    requires { ⌜ (year ≤ lastYear) × (1 ≤ m) × (m ≤ 12) × (1 ≤ w) × (w ≤ 5) × (d ≤ 6) ⌝ }
     ensures { λ r. ⌜ r ≡ model.dayIn year (model.month m w d) ⌝ }
 {
     let leap = civil::is_leap(year);
@@ -41,14 +56,14 @@ fn month_day(year: u32, m: u32, w: u32, d: u32) -> u32
 
 // Jn: 29 February is never counted.
 fn julian_day(year: u32, n: u32) -> u32
-    requires { ⌜ (year ≤ 20801) × (1 ≤ n) × (n ≤ 365) ⌝ }
+    requires { ⌜ (year ≤ lastYear) × (1 ≤ n) × (n ≤ 365) ⌝ }
     ensures { λ r. ⌜ r ≡ model.dayIn year (model.julian n) ⌝ }
 {
     let day = civil::days_before_year(year) + (n - 1);
     if !civil::is_leap(year) {
         return day;
     }
-    if n < 60 {
+    if n < LEAP_DAY {
         return day;
     }
     day + 1
@@ -56,7 +71,7 @@ fn julian_day(year: u32, n: u32) -> u32
 
 // The day of a change in a year.
 pub fn day_in(day: Day, year: u32) -> u32
-    requires { ⌜ DayFits (dayIs day) × (year ≤ 20801) ⌝ }
+    requires { ⌜ DayFits (dayIs day) × (year ≤ lastYear) ⌝ }
     ensures { λ r. ⌜ r ≡ model.dayIn year (dayIs day) ⌝ }
 {
     match day {
@@ -67,24 +82,24 @@ pub fn day_in(day: Day, year: u32) -> u32
 }
 
 // The second of a change in a year, by a clock that shows the given offset.
-pub fn change_in(offset: u32, turn: ChangeRule, year: u32) -> u64
-    requires { ⌜ ChangeRuleFits (changeRuleIs turn) × (year ≤ 20801) ⌝ }
-    ensures { λ r. ⌜ r ≡ model.changeIn offset (changeRuleIs turn) year ⌝ }
+pub fn change_in(offset: u32, rule: ChangeRule, year: u32) -> u64
+    requires { ⌜ ChangeRuleFits (changeRuleIs rule) × (year ≤ lastYear) ⌝ }
+    ensures { λ r. ⌜ r ≡ model.changeIn offset (changeRuleIs rule) year ⌝ }
 {
-    let day = turn.day;
-    let time = turn.time;
+    let day = rule.day;
+    let time = rule.time;
     number::difference(
-        day_in(day, year) as u64 * 86400 + time as u64 + 93600,
+        day_in(day, year) as u64 * instant::DAY + time as u64 + zone_offset::BIAS_64,
         offset as u64,
     )
 }
 
 // The first of the years whose changes may be the latest at u: two before u's year.
 fn first_year(u: u64) -> u32
-    requires { ⌜ u < 656384601600 ⌝ }
-    ensures { λ r. ⌜ (r ≡ yearAt u - 2) × (r ≤ 20797) ⌝ }
+    requires { ⌜ u < yearsEnd ⌝ }
+    ensures { λ r. ⌜ (r ≡ yearAt u - 2) × (r ≤ lastYear - 4) ⌝ }
 {
-    let year = civil::year_of((u / 86400) as u32);
+    let year = civil::year_of((u / instant::DAY) as u32);
     if year < 2 {
         return 0;
     }
@@ -92,41 +107,41 @@ fn first_year(u: u64) -> u32
 }
 
 // The changes around u.
-pub fn around(offset: u32, turn: ChangeRule, u: u64) -> Changes
-    requires { ⌜ ChangeRuleFits (changeRuleIs turn) × (offset ≤ 187199) × (u < 656384601600) ⌝ }
-    ensures { λ r. ⌜ Near (model.changeIn offset (changeRuleIs turn)) u (r .last) (r .next) ⌝ }
+pub fn around(offset: u32, rule: ChangeRule, u: u64) -> Changes
+    requires { ⌜ ChangeRuleFits (changeRuleIs rule) × (offset ≤ greatestOffset) × (u < yearsEnd) ⌝ }
+    ensures { λ r. ⌜ Near (model.changeIn offset (changeRuleIs rule)) u (r .last) (r .next) ⌝ }
 {
     let first = first_year(u);
-    let d = change_in(offset, turn, first + 3);
+    let d = change_in(offset, rule, first + 3);
     if d <= u {
         return Changes {
             last: d,
-            next: change_in(offset, turn, first + 4),
+            next: change_in(offset, rule, first + 4),
         };
     }
-    let c = change_in(offset, turn, first + 2);
+    let c = change_in(offset, rule, first + 2);
     if c <= u {
         return Changes { last: c, next: d };
     }
-    let b = change_in(offset, turn, first + 1);
+    let b = change_in(offset, rule, first + 1);
     if b <= u {
         return Changes { last: b, next: c };
     }
-    let a = change_in(offset, turn, first);
+    let a = change_in(offset, rule, first);
     if a <= u {
         return Changes { last: a, next: b };
     }
     Changes { last: 0, next: a }
 }
 
-// What two changes of one year tell of u: the first is at p, and the second, more than four weeks later, at q. Between them the offset is
-// `inner`, before and behind them `outer`. Where they do not tell, the span ends at or before u. 30,153,600 s are 349 days.
+// The offset at u by two changes of one year: the first is at p, and the second, more than four weeks later, at q. Between them the offset is
+// `inner`, before and behind them `outer`. Where they do not decide, `until` is at or before u.
 fn by_two_changes(inner: u32, outer: u32, p: u64, q: u64, u: u64) -> OffsetUntil
-    requires { ⌜ (p < 1099511627776) × (u < 656384601600) ⌝ }
-    ensures { λ r. ⌜ Halved inner outer p q u (r .offset) (r .until) ⌝ }
+    requires { ⌜ (p < changesEnd) × (u < yearsEnd) ⌝ }
+    ensures { λ r. ⌜ ByTwoChanges inner outer p q u (r .offset) (r .until) ⌝ }
 {
     if u < p {
-        if q <= u + 30153600 {
+        if q <= u + LEAST_YEAR {
             return OffsetUntil {
                 offset: outer,
                 until: p,
@@ -138,7 +153,7 @@ fn by_two_changes(inner: u32, outer: u32, p: u64, q: u64, u: u64) -> OffsetUntil
         };
     }
     if u < q {
-        if q < p + 30153600 {
+        if q < p + LEAST_YEAR {
             return OffsetUntil {
                 offset: inner,
                 until: q,
@@ -151,17 +166,17 @@ fn by_two_changes(inner: u32, outer: u32, p: u64, q: u64, u: u64) -> OffsetUntil
     }
     OffsetUntil {
         offset: outer,
-        until: p + 30153600,
+        until: p + LEAST_YEAR,
     }
 }
 
-// The offset at u by the two changes of one year, that of u or the next to it. Where they do not tell it, the span ends at or before u: they lie
-// close together, or u lies close to the year's end and one of them does too. 31,556,952 s are a mean year, 2,419,200 s four weeks.
+// The offset at u by the two changes of one year, that of u or the next to it. Where they do not decide, `until` is at or before u: they lie
+// close together, or u lies close to the year's end and one of them does too.
 fn by_one_year(std: u32, dst: u32, start: ChangeRule, end: ChangeRule, u: u64) -> OffsetUntil
-    requires { ⌜ FooterFits (model.rules std dst (changeRuleIs start) (changeRuleIs end)) × (u < 656384601600) ⌝ }
-    ensures { λ r. ⌜ ((last : ℕ) → Sure (ruledAt (model.rules std dst (changeRuleIs start) (changeRuleIs end)) last) u (r .offset) (r .until)) ⌝ }
+    requires { ⌜ FooterFits (rulesOf std dst start end) × (u < yearsEnd) ⌝ }
+    ensures { λ r. ⌜ ((last : ℕ) → Sure (ruledAt (rulesOf std dst start end) last) u (r .offset) (r .until)) ⌝ }
 {
-    let year = (u / 31556952) as u32;
+    let year = (u / MEAN_YEAR) as u32;
     if year < 2 {
         return OffsetUntil {
             offset: std,
@@ -170,10 +185,10 @@ fn by_one_year(std: u32, dst: u32, start: ChangeRule, end: ChangeRule, u: u64) -
     }
     let a = change_in(std, start, year);
     let b = change_in(dst, end, year);
-    if a + 2419200 < b {
+    if a + FOUR_WEEKS < b {
         return by_two_changes(dst, std, a, b, u);
     }
-    if b + 2419200 < a {
+    if b + FOUR_WEEKS < a {
         return by_two_changes(std, dst, b, a, u);
     }
     OffsetUntil {
@@ -184,8 +199,8 @@ fn by_one_year(std: u32, dst: u32, start: ChangeRule, end: ChangeRule, u: u64) -
 
 // The offset at u by the latest changes of all years.
 fn by_all_years(std: u32, dst: u32, start: ChangeRule, end: ChangeRule, u: u64) -> OffsetUntil
-    requires { ⌜ FooterFits (model.rules std dst (changeRuleIs start) (changeRuleIs end)) × (u < 656384601600) ⌝ }
-    ensures { λ r. ⌜ ((last : ℕ) → (r .offset ≡ ruledAt (model.rules std dst (changeRuleIs start) (changeRuleIs end)) last u) × runs.Run (ruledAt (model.rules std dst (changeRuleIs start) (changeRuleIs end)) last) u (r .until)) ⌝ }
+    requires { ⌜ FooterFits (rulesOf std dst start end) × (u < yearsEnd) ⌝ }
+    ensures { λ r. ⌜ ((last : ℕ) → IsOffset (ruledAt (rulesOf std dst start end) last) u r) ⌝ }
 {
     let a = around(std, start, u);
     let b = around(dst, end, u);
@@ -198,10 +213,10 @@ fn by_all_years(std: u32, dst: u32, start: ChangeRule, end: ChangeRule, u: u64) 
 
 // The offset at u where the footer counts; `last` is the table's last offset, which an empty footer leaves.
 pub fn footer_run_at(footer: Footer, last: u32, u: u64) -> OffsetUntil
-    requires { ⌜ FooterFits (theFooter footer) × (u < 656384601600) ⌝ }
-    ensures { λ r. ⌜ (r .offset ≡ ruledAt (theFooter footer) last u) × runs.Run (ruledAt (theFooter footer) last) u (r .until) ⌝ }
+    requires { ⌜ FooterFits (theFooter footer) × (u < yearsEnd) ⌝ }
+    ensures { λ r. ⌜ IsOffset (ruledAt (theFooter footer) last) u r ⌝ }
 {
-    let far = u + 1099511627776;
+    let far = u + FAR;
     match footer {
         Footer::Empty => OffsetUntil {
             offset: last,

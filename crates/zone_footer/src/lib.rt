@@ -2,13 +2,20 @@
 // on what stands from that place on.
 ghost use mathlib.Core.Path.{_≡_};
 ghost use mathlib.Core.Option.{some};
-ghost use Prim.Native.Nat.{_-_, _≤_};
+ghost use Prim.Native.Nat.{_≤_};
 ghost use lib.ListN.{drop};
 ghost use Rattle.model.specs.Footer as grammar;
+ghost use Rattle.model.specs.Tzif.{greatestOffset};
 ghost use Rattle.zone_footer_numbers.specs.Numbered.{skipIn};
-ghost use Rattle.zone_footer.specs.Parsed.{dayFrom, changeRuleFrom, rulesText, footerIs};
+ghost use Rattle.zone_footer.specs.Parsed.{IsNameEnd, dayFrom, changeRuleFrom, rulesText, footerIs};
 use zone_footer_numbers::Num;
 use zone_footer_numbers::Skip;
+
+// The time of a change where none is written.
+const TWO_HOURS: u32 = 7200;
+
+// The fewest bytes of a name.
+const SHORTEST_NAME: usize = 3;
 
 // A day of the year: Mm.w.d, Jn and n.
 pub enum Day {
@@ -23,7 +30,7 @@ pub struct ChangeRule {
     pub time: u32,
 }
 
-// A footer. Offsets are seconds east of Greenwich plus 93,600. Rules has the standard offset, the daylight offset, and the start and
+// A footer. Offsets are kept with zone_offset::BIAS added. Rules has the standard offset, the daylight offset, and the start and
 // the end of daylight time.
 pub enum Footer {
     Empty,
@@ -32,16 +39,19 @@ pub enum Footer {
     Broken,
 }
 
+// A day and the place behind it.
 pub enum DayAt {
     On(Day, usize),
     Never,
 }
 
+// A change and the place behind it.
 pub enum ChangeRuleAt {
     When(ChangeRule, usize),
     Wrong,
 }
 
+// Is the place the text's end?
 fn done(s: &[u8], at: usize) -> bool
     ensures { λ r. ⌜ some (r, drop at (now (s .entry))) ≡ grammar.atEnd (drop at (now (s .entry))) ⌝ }
 {
@@ -51,19 +61,20 @@ fn done(s: &[u8], at: usize) -> bool
     true
 }
 
+// Is the byte a letter?
 fn letter(b: u8) -> bool
     ensures { λ r. ⌜ r ≡ grammar.isLetter b ⌝ }
 {
-    if b < 65 {
+    if b < b'A' {
         return false;
     }
-    if b <= 90 {
+    if b <= b'Z' {
         return true;
     }
-    if b < 97 {
+    if b < b'a' {
         return false;
     }
-    b <= 122
+    b <= b'z'
 }
 
 // A byte of a name: a letter; between < and > also a digit, + or -.
@@ -76,21 +87,21 @@ fn name_byte(quoted: bool, b: u8) -> bool
     if !quoted {
         return false;
     }
-    if b == 43 {
+    if b == b'+' {
         return true;
     }
-    if b == 45 {
+    if b == b'-' {
         return true;
     }
-    if b < 48 {
+    if b < b'0' {
         return false;
     }
-    b <= 57
+    b <= b'9'
 }
 
 // Where the bytes of a name end.
 fn name_end(s: &[u8], at: usize, quoted: bool) -> usize
-    ensures { λ r. ⌜ (grammar.spanned (grammar.isNameByte quoted) (drop at (now (s .entry))) ≡ (r - at, drop r (now (s .entry)))) × (at ≤ r) ⌝ }
+    ensures { λ r. ⌜ IsNameEnd quoted (now (s .entry)) at r ⌝ }
 {
     let mut i = at;
     while i < s.len() {
@@ -106,18 +117,18 @@ fn name_end(s: &[u8], at: usize, quoted: bool) -> usize
 fn name(s: &[u8], at: usize) -> Skip
     ensures { λ r. ⌜ skipIn (now (s .entry)) r ≡ grammar.name (drop at (now (s .entry))) ⌝ }
 {
-    let Skip::To(a) = zone_footer_numbers::mark(s, at, 60) else {
+    let Skip::To(a) = zone_footer_numbers::mark(s, at, b'<') else {
         let e = name_end(s, at, false);
-        if e - at < 3 {
+        if e - at < SHORTEST_NAME {
             return Skip::Not;
         }
         return Skip::To(e);
     };
     let e = name_end(s, a, true);
-    if e - a < 3 {
+    if e - a < SHORTEST_NAME {
         return Skip::Not;
     }
-    zone_footer_numbers::exact(s, e, 62)
+    zone_footer_numbers::exact(s, e, b'>')
 }
 
 // Behind the M: month, week and weekday.
@@ -127,13 +138,13 @@ fn month(s: &[u8], at: usize) -> DayAt
     let Num::Val(m, a) = zone_footer_numbers::number(s, at, 2, 1, 12) else {
         return DayAt::Never;
     };
-    let Skip::To(b) = zone_footer_numbers::exact(s, a, 46) else {
+    let Skip::To(b) = zone_footer_numbers::exact(s, a, b'.') else {
         return DayAt::Never;
     };
     let Num::Val(w, c) = zone_footer_numbers::number(s, b, 1, 1, 5) else {
         return DayAt::Never;
     };
-    let Skip::To(e) = zone_footer_numbers::exact(s, c, 46) else {
+    let Skip::To(e) = zone_footer_numbers::exact(s, c, b'.') else {
         return DayAt::Never;
     };
     let Num::Val(d, f) = zone_footer_numbers::number(s, e, 1, 0, 6) else {
@@ -142,13 +153,14 @@ fn month(s: &[u8], at: usize) -> DayAt
     DayAt::On(Day::Month(m, w, d), f)
 }
 
+// A day of the year.
 fn day_at(s: &[u8], at: usize) -> DayAt
     ensures { λ r. ⌜ dayFrom (now (s .entry)) r ≡ grammar.dayText (drop at (now (s .entry))) ⌝ }
 {
-    if let Skip::To(a) = zone_footer_numbers::mark(s, at, 77) {
+    if let Skip::To(a) = zone_footer_numbers::mark(s, at, b'M') {
         return month(s, a);
     }
-    if let Skip::To(a) = zone_footer_numbers::mark(s, at, 74) {
+    if let Skip::To(a) = zone_footer_numbers::mark(s, at, b'J') {
         let Num::Val(n, e) = zone_footer_numbers::number(s, a, 3, 1, 365) else {
             return DayAt::Never;
         };
@@ -160,15 +172,21 @@ fn day_at(s: &[u8], at: usize) -> DayAt
     DayAt::On(Day::Plain(n), e)
 }
 
-// "/time" is 02:00:00 where it isn't written.
+// A change. "/time" is 02:00:00 where it isn't written.
 fn change_rule_at(s: &[u8], at: usize) -> ChangeRuleAt
     ensures { λ r. ⌜ changeRuleFrom (now (s .entry)) r ≡ grammar.changeRuleText (drop at (now (s .entry))) ⌝ }
 {
     let DayAt::On(d, a) = day_at(s, at) else {
         return ChangeRuleAt::Wrong;
     };
-    let Skip::To(b) = zone_footer_numbers::mark(s, a, 47) else {
-        return ChangeRuleAt::When(ChangeRule { day: d, time: 7200 }, a);
+    let Skip::To(b) = zone_footer_numbers::mark(s, a, b'/') else {
+        return ChangeRuleAt::When(
+            ChangeRule {
+                day: d,
+                time: TWO_HOURS,
+            },
+            a,
+        );
     };
     let Num::Val(t, e) = zone_footer_numbers::clock(s, b) else {
         return ChangeRuleAt::Wrong;
@@ -183,7 +201,7 @@ fn rules(s: &[u8], at: usize, std: u32, dst: u32) -> Footer
     let ChangeRuleAt::When(start, a) = change_rule_at(s, at) else {
         return Footer::Broken;
     };
-    let Skip::To(b) = zone_footer_numbers::exact(s, a, 44) else {
+    let Skip::To(b) = zone_footer_numbers::exact(s, a, b',') else {
         return Footer::Broken;
     };
     let ChangeRuleAt::When(end, e) = change_rule_at(s, b) else {
@@ -197,19 +215,19 @@ fn rules(s: &[u8], at: usize, std: u32, dst: u32) -> Footer
 
 // Behind the standard offset. The daylight offset is one hour ahead where it isn't written.
 fn daylight(s: &[u8], at: usize, std: u32) -> Footer
-    requires { ⌜ std ≤ 187199 ⌝ }
+    requires { ⌜ std ≤ greatestOffset ⌝ }
     ensures { λ r. ⌜ footerIs r ≡ grammar.parsed (grammar.daylightText std (drop at (now (s .entry)))) ⌝ }
 {
     let Skip::To(a) = name(s, at) else {
         return Footer::Broken;
     };
-    if let Skip::To(b) = zone_footer_numbers::mark(s, a, 44) {
-        return rules(s, b, std, std + 3600);
+    if let Skip::To(b) = zone_footer_numbers::mark(s, a, b',') {
+        return rules(s, b, std, std + zone_footer_numbers::HOUR);
     }
     let Num::Val(dst, b) = zone_footer_numbers::offset(s, a) else {
         return Footer::Broken;
     };
-    let Skip::To(e) = zone_footer_numbers::exact(s, b, 44) else {
+    let Skip::To(e) = zone_footer_numbers::exact(s, b, b',') else {
         return Footer::Broken;
     };
     rules(s, e, std, dst)

@@ -1,3 +1,3 @@
 pub mod Places
 pub mod Numbers
-pub mod Walks
+pub mod Loops

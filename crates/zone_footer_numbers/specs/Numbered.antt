@@ -2,14 +2,17 @@
 use mathlib.Core.Bool.{Bool, true, false}
 use mathlib.Core.Option.{Option, none, some}
 use mathlib.Core.List.{List}
-use Prim.Native.Nat.{ℕ, _-_}
+use mathlib.Core.Path.{_≡_}
+use Prim.Native.Nat.{ℕ, _-_, _≤_}
 use lib.ListN.{drop}
 use Rattle.model.specs.Footer as model
 use Rattle.zone_footer_numbers.specs.declared.Num.{Num}
 use Rattle.zone_footer_numbers.specs.declared.Num.the-variants.{Val, Bad}
 use Rattle.zone_footer_numbers.specs.declared.Skip.{Skip}
 use Rattle.zone_footer_numbers.specs.declared.Skip.the-variants.{To, Not}
+use Rattle.model.specs.Tzif.{offsetBias}
 
+-- the number, and the text behind it
 abbrev pub numberIn : List ℕ → Num → Option (ℕ × List ℕ)
 numberIn s (Val v a) = some (v, drop a s)
 numberIn s Bad = none
@@ -18,6 +21,14 @@ numberIn s Bad = none
 abbrev pub valueOf : Num → ℕ
 valueOf (Val v a) = v
 valueOf Bad = 0
+
+-- the greatest number of three digits
+abbrev pub threeDigits : ℕ
+threeDigits = 999
+
+-- r is what the parser gives at the place `at` of the text s, a number up to k
+abbrev pub IsNumber : model.Parser ℕ → List ℕ → ℕ → ℕ → Num → Type 0
+IsNumber p s at k r = (numberIn s r ≡ p (drop at s)) × (valueOf r ≤ k)
 
 -- a text that may be missing at the place `at`
 abbrev pub markIn : List ℕ → ℕ → Skip → Option (Bool × List ℕ)
@@ -31,4 +42,4 @@ skipIn s Not = none
 
 -- a part of the model's grammar that the code reads in a function of its own
 unfoldable pub westText : model.Parser ℕ
-westText = model._>>=_ model.clock (λ t. model.pure (93600 - t))
+westText = model._>>=_ model.clock (λ t. model.pure (offsetBias - t))

@@ -4,7 +4,13 @@ ghost use mathlib.Core.Path.{_≡_};
 ghost use Prim.Native.Nat.{_≤_, _<_};
 ghost use lib.ListN.{drop};
 ghost use Rattle.model.specs.Footer as grammar;
-ghost use Rattle.zone_footer_numbers.specs.Numbered.{valueOf, numberIn, markIn, skipIn, westText};
+ghost use Rattle.model.specs.Tzif.{offsetBias, greatestOffset, latestClock};
+ghost use Rattle.zone_footer_numbers.specs.Numbered.{threeDigits, IsNumber, markIn, skipIn, westText};
+
+// The seconds of a minute and of an hour.
+const MINUTE: u32 = 60;
+
+pub const HOUR: u32 = 3600;
 
 // A number and the place behind it.
 pub enum Num {
@@ -44,7 +50,7 @@ pub fn exact(s: &[u8], at: usize, b: u8) -> Skip
 // At most k digits.
 fn digits(s: &[u8], at: usize, k: u32) -> Num
     requires { ⌜ k ≤ 3 ⌝ }
-    ensures { λ r. ⌜ (numberIn (now (s .entry)) r ≡ grammar.digits k 0 (drop at (now (s .entry)))) × (valueOf r ≤ 999) ⌝ }
+    ensures { λ r. ⌜ IsNumber (grammar.digits k 0) (now (s .entry)) at threeDigits r ⌝ }
 {
     let mut n: u32 = 0;
     let mut i = at;
@@ -54,13 +60,13 @@ fn digits(s: &[u8], at: usize, k: u32) -> Num
             return Num::Val(n, i);
         }
         let b = big_endian::byte_at(s, i);
-        if b < 48 {
+        if b < b'0' {
             return Num::Val(n, i);
         }
-        if b > 57 {
+        if b > b'9' {
             return Num::Val(n, i);
         }
-        n = n * 10 + number::byte_to_u32(b - 48);
+        n = n * 10 + number::byte_to_u32(b - b'0');
         i += 1;
         left -= 1;
     }
@@ -70,16 +76,16 @@ fn digits(s: &[u8], at: usize, k: u32) -> Num
 // A number of 1 to k digits, from lo to hi.
 pub fn number(s: &[u8], at: usize, k: u32, lo: u32, hi: u32) -> Num
     requires { ⌜ k ≤ 3 ⌝ }
-    ensures { λ r. ⌜ (numberIn (now (s .entry)) r ≡ grammar.number k lo hi (drop at (now (s .entry)))) × (valueOf r ≤ hi) ⌝ }
+    ensures { λ r. ⌜ IsNumber (grammar.number k lo hi) (now (s .entry)) at hi r ⌝ }
 {
     if at >= s.len() {
         return Num::Bad;
     }
     let b = big_endian::byte_at(s, at);
-    if b < 48 {
+    if b < b'0' {
         return Num::Bad;
     }
-    if b > 57 {
+    if b > b'9' {
         return Num::Bad;
     }
     let Num::Val(n, a) = digits(s, at, k) else {
@@ -96,7 +102,7 @@ pub fn number(s: &[u8], at: usize, k: u32, lo: u32, hi: u32) -> Num
 
 // Two digits, up to 59.
 fn sixty(s: &[u8], at: usize) -> Num
-    ensures { λ r. ⌜ (numberIn (now (s .entry)) r ≡ grammar.sixty (drop at (now (s .entry)))) × (valueOf r ≤ 59) ⌝ }
+    ensures { λ r. ⌜ IsNumber grammar.sixty (now (s .entry)) at 59 r ⌝ }
 {
     let Num::Val(x, a) = number(s, at, 1, 0, 5) else {
         return Num::Bad;
@@ -109,47 +115,47 @@ fn sixty(s: &[u8], at: usize) -> Num
 
 // hh, hh:mm or hh:mm:ss, in seconds.
 pub fn clock(s: &[u8], at: usize) -> Num
-    ensures { λ r. ⌜ (numberIn (now (s .entry)) r ≡ grammar.clock (drop at (now (s .entry)))) × (valueOf r ≤ 89999) ⌝ }
+    ensures { λ r. ⌜ IsNumber grammar.clock (now (s .entry)) at latestClock r ⌝ }
 {
     let Num::Val(h, a) = number(s, at, 2, 0, 24) else {
         return Num::Bad;
     };
-    let Skip::To(b) = mark(s, a, 58) else {
-        return Num::Val(h * 3600, a);
+    let Skip::To(b) = mark(s, a, b':') else {
+        return Num::Val(h * HOUR, a);
     };
     let Num::Val(m, d) = sixty(s, b) else {
         return Num::Bad;
     };
-    let Skip::To(e) = mark(s, d, 58) else {
-        return Num::Val(h * 3600 + m * 60, d);
+    let Skip::To(e) = mark(s, d, b':') else {
+        return Num::Val(h * HOUR + m * MINUTE, d);
     };
     let Num::Val(x, f) = sixty(s, e) else {
         return Num::Bad;
     };
-    Num::Val(h * 3600 + m * 60 + x, f)
+    Num::Val(h * HOUR + m * MINUTE + x, f)
 }
 
 // A time behind Greenwich, as an offset.
 fn west(s: &[u8], at: usize) -> Num
-    ensures { λ r. ⌜ (numberIn (now (s .entry)) r ≡ westText (drop at (now (s .entry)))) × (valueOf r ≤ 93600) ⌝ }
+    ensures { λ r. ⌜ IsNumber westText (now (s .entry)) at offsetBias r ⌝ }
 {
     let Num::Val(t, a) = clock(s, at) else {
         return Num::Bad;
     };
-    Num::Val(93600 - t, a)
+    Num::Val(zone_offset::BIAS - t, a)
 }
 
 // An offset: POSIX counts west of Greenwich.
 pub fn offset(s: &[u8], at: usize) -> Num
-    ensures { λ r. ⌜ (numberIn (now (s .entry)) r ≡ grammar.offset (drop at (now (s .entry)))) × (valueOf r ≤ 187199) ⌝ }
+    ensures { λ r. ⌜ IsNumber grammar.offset (now (s .entry)) at greatestOffset r ⌝ }
 {
-    if let Skip::To(a) = mark(s, at, 45) {
+    if let Skip::To(a) = mark(s, at, b'-') {
         let Num::Val(t, e) = clock(s, a) else {
             return Num::Bad;
         };
-        return Num::Val(93600 + t, e);
+        return Num::Val(zone_offset::BIAS + t, e);
     }
-    if let Skip::To(a) = mark(s, at, 43) {
+    if let Skip::To(a) = mark(s, at, b'+') {
         return west(s, a);
     }
     west(s, at)

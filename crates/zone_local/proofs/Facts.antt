@@ -1,4 +1,4 @@
--- The answers of the functions on one date, over plain numbers. Assumes nothing.
+-- The answers of the functions on one date, over plain numbers.
 use Prim.Native.Nat.{ℕ, _+_, _*_, _-_, _/_, _%_, _≤_, _<_, min, max}
 use mathlib.Core.Path.{_≡_, sym, _∙_, ap, ap₂}
 use mathlib.Core.Bool.{true, false}
@@ -9,7 +9,7 @@ use borrow.Author.Tests.{lt-ltb, le-ltb, le-leb, lt-leb, ltb-true, ltb-false}
 use Rattle.model.specs.Blocks.{Block as Block′, block, put, clipped}
 use Rattle.model.specs.Calendar.{firstDay, lastDay, dayOfYearZero}
 use Rattle.model.specs.Instant.{second, day, firstInstant, lastInstant}
-use Rattle.model.specs.Tzif.{Zone}
+use Rattle.model.specs.Tzif.{Zone, offsetBias, greatestOffset}
 use Rattle.model.specs.Zone.{offsetAt, secondOf, resolve}
 use Rattle.model.specs.Working.{localDay, firstDate, lastDate, startOf, endOf}
 use Rattle.laws_base.specs.Test.{by-test}
@@ -18,7 +18,7 @@ use Rattle.laws_zone.specs.Zones.{fits-sound}
 use Rattle.laws_zone.specs.Runs.{Run}
 use Rattle.laws_demand3.specs.Local.{offsetNanos, off-high}
 use Rattle.laws_skip.specs.Steady.{less, till, const-date}
-use Rattle.instant.specs.Instant.{nanos, InRange}
+use Rattle.instant.specs.Instant.{nanos, InRange, firstSecond, lastSecond, secondsOfDay}
 use Rattle.instant.specs.declared.Instant.{Instant}
 use Rattle.zone.specs.Zones.{meant, ZoneOk}
 use Rattle.zone.specs.declared.Zone.{Zone as Zone′}
@@ -28,51 +28,51 @@ use Rattle.block.specs.Counted.{blockOf}
 use Rattle.block.specs.declared.Block.{Block}
 use Rattle.zone_local.specs.Dates.{during, rangeEnd, pieceOf, held, KeepsOffset, IsIn, tillTime}
 
-pub local-is : (z : Zone) (sec ns o : ℕ) → ns < 1000000000 → o ≡ offsetAt z sec → (sec + o - 93600) / 86400 ≡ localDay z (sec * 1000000000 + ns)
+pub local-is : (z : Zone) (sec ns o : ℕ) → ns < second → o ≡ offsetAt z sec → (sec + o - offsetBias) / secondsOfDay ≡ localDay z (sec * second + ns)
 unfolding localDay
-local-is z sec ns o h e = let q : (sec * 1000000000 + ns) / second ≡ sec = omega arith in rw (q, e)
+local-is z sec ns o h e = let q : (sec * second + ns) / second ≡ sec = omega arith in rw (q, e)
 
 module _ (z : Zone) (t d : ℕ) (e : d ≡ localDay z t) where
-  pub first-back : 146465 ≤ d → d - 2 ≡ firstDate z t
+  pub first-back : firstDay + 2 ≤ d → d - 2 ≡ firstDate z t
   unfolding firstDate
   first-back h = rw (← e, le-leb (firstDay + 2) d h)
 
-  pub first-here : d < 146465 → d ≡ firstDate z t
+  pub first-here : d < firstDay + 2 → d ≡ firstDate z t
   unfolding firstDate
   first-here h = rw (← e, lt-leb (firstDay + 2) d h)
 
-  pub last-on : d < 7450946 → d + 1 ≡ lastDate z t
+  pub last-on : d < lastDay → d + 1 ≡ lastDate z t
   unfolding lastDate
   last-on h = rw (← e, lt-ltb d lastDay h)
 
-  pub last-here : 7450946 ≤ d → d ≡ lastDate z t
+  pub last-here : lastDay ≤ d → d ≡ lastDate z t
   unfolding lastDate
   last-here h = rw (← e, le-ltb d lastDay h)
 
-pub end-early : (d : ℕ) → d < 3798522 → 12654496799 * 1000000000 + 0 ≡ rangeEnd d
+pub end-early : (d : ℕ) → d < dayOfYearZero → firstSecond * second + 0 ≡ rangeEnd d
 unfolding rangeEnd
 end-early d h = rw (lt-ltb d dayOfYearZero h)
 
-pub end-late : (d : ℕ) → 3798522 ≤ d → 643761727200 * 1000000000 + 999999999 ≡ rangeEnd d
+pub end-late : (d : ℕ) → dayOfYearZero ≤ d → lastSecond * second + 999999999 ≡ rangeEnd d
 unfolding rangeEnd
 end-late d h = rw (le-ltb d dayOfYearZero h)
 
-module _ (z : Zone) (d sec ns s : ℕ) (h : ns < 1000000000) (e : s ≡ secondOf z (d * 86400 + sec + 93600)) where
+module _ (z : Zone) (d sec ns s : ℕ) (h : ns < second) (e : s ≡ secondOf z (d * secondsOfDay + sec + offsetBias)) where
   quotient : (sec * second + ns) / second ≡ sec
   quotient = omega arith
 
   remainder : (sec * second + ns) % second ≡ ns
   remainder = omega arith
 
-  pub resolve-kept : 12654496799 ≤ s → s ≤ 643761727200 → s * 1000000000 + ns ≡ resolve z d (sec * second + ns)
+  pub resolve-kept : firstSecond ≤ s → s ≤ lastSecond → s * second + ns ≡ resolve z d (sec * second + ns)
   unfolding resolve
   resolve-kept a b = rw (quotient, remainder, ← e, le-leb firstInstant (s * second + ns) (omega arith), le-leb (s * second + ns) lastInstant (omega arith))
 
-  pub resolve-early : s < 12654496799 → rangeEnd d ≡ resolve z d (sec * second + ns)
+  pub resolve-early : s < firstSecond → rangeEnd d ≡ resolve z d (sec * second + ns)
   unfolding resolve rangeEnd
   resolve-early a = rw (quotient, remainder, ← e, lt-leb firstInstant (s * second + ns) (omega arith))
 
-  pub resolve-late : 643761727200 < s → rangeEnd d ≡ resolve z d (sec * second + ns)
+  pub resolve-late : lastSecond < s → rangeEnd d ≡ resolve z d (sec * second + ns)
   unfolding resolve rangeEnd
   resolve-late a = rw (quotient, remainder, ← e, le-leb firstInstant (s * second + ns) (omega arith), lt-leb (s * second + ns) lastInstant (omega arith))
 
@@ -82,7 +82,7 @@ module _ (z : Zone) (d sec ns s : ℕ) (h : ns < 1000000000) (e : s ≡ secondOf
 same-test : (m n k l : ℕ) → (m < n → k < l) → (n ≤ m → l ≤ k) → ltb m n ≡ ltb k l
 same-test m n k l f g = by-test (ltb m n) (λ t. t ∙ sym (lt-ltb k l (f (ltb-true m n t)))) (λ t. t ∙ sym (le-ltb k l (g (ltb-false m n t))))
 
-module _ (a b x y : ℕ) (p : x < 1000000000) (q : y < 1000000000) where
+module _ (a b x y : ℕ) (p : x < second) (q : y < second) where
   pub same-second : a ≡ b → ltb x y ≡ ltb (a * second + x) (b * second + y)
   same-second e = same-test x y (a * second + x) (b * second + y) (λ h. omega arith) (λ h. omega arith)
 
@@ -96,11 +96,11 @@ module _ (z : Zone) (from to d t : ℕ) where
   unfolding endOf
   end-same h e = rw h e
 
-  pub end-next : ltb from to ≡ false → d < 7450946 → t ≡ resolve z (d + 1) to → t ≡ endOf (during z from to) d
+  pub end-next : ltb from to ≡ false → d < lastDay → t ≡ resolve z (d + 1) to → t ≡ endOf (during z from to) d
   unfolding endOf
   end-next h k e = rw (h, lt-ltb d lastDay k) e
 
-  pub end-last : ltb from to ≡ false → 7450946 ≤ d → t ≡ lastInstant → t ≡ endOf (during z from to) d
+  pub end-last : ltb from to ≡ false → lastDay ≤ d → t ≡ lastInstant → t ≡ endOf (during z from to) d
   unfolding endOf
   end-last h k e = rw (h, le-ltb d lastDay k) e
 
@@ -116,12 +116,13 @@ piece-is z from to d lo hi s e x p q b = ap (λ (y : Block′). put (y .start) (
 
 -- ---- one offset
 
-pub kept-none : (z : Zone) (lo hi : ℕ) → KeepsOffset z lo hi 0
-kept-none z lo hi = record { low = λ h. absurd (omega arith); high = λ h. absurd (omega arith); same = λ h. absurd (omega arith) }
+-- four days in seconds
+abbrev fourDays : ℕ
+fourDays = 345600
 
 -- the window and the four days on either side lie in one run
-pub kept-run : (z : Zone) (lo hi : Instant) (e o : ℕ) → InRange lo → InRange hi → 12654842399 ≤ lo .sec → hi .sec ≤ 643761381600
-    → o ≡ offsetAt z (lo .sec - 345600) → Run (offsetAt z) (lo .sec - 345600) e → hi .sec + 345600 < e → KeepsOffset z (nanos lo) (nanos hi) o
+pub kept-run : (z : Zone) (lo hi : Instant) (e o : ℕ) → InRange lo → InRange hi → firstSecond + fourDays ≤ lo .sec → hi .sec ≤ lastSecond - fourDays
+    → o ≡ offsetAt z (lo .sec - fourDays) → Run (offsetAt z) (lo .sec - fourDays) e → hi .sec + fourDays < e → KeepsOffset z (nanos lo) (nanos hi) o
 unfolding offsetNanos
 kept-run z lo hi e o i j p q r s t =
     let a = i .ns in let b = j .ns in
@@ -131,22 +132,22 @@ kept-run z lo hi e o i j p q r s t =
       same = λ h u x y. ap (λ (k : ℕ). k * second) (s .same (u / second) (omega arith) (omega arith) ∙ sym r);
     }
 
-pub kept-small : (f : List ℕ) (z : Zone′) (lo hi : Instant) (o : ℕ) → ZoneOk f z → KeepsOffset (meant f z) (nanos lo) (nanos hi) o → nanos lo ≤ nanos hi → 0 < o → o ≤ 187199
+pub kept-small : (f : List ℕ) (z : Zone′) (lo hi : Instant) (o : ℕ) → ZoneOk f z → KeepsOffset (meant f z) (nanos lo) (nanos hi) o → nanos lo ≤ nanos hi → 0 < o → o ≤ greatestOffset
 kept-small f z lo hi o k q l h =
     let e = q .same h (nanos lo) (omega arith) (omega arith) in
     let b = off-high (meant f z) (fits-sound (meant f z) (k .fits)) (nanos lo) in
     omega arith
 
-pub plain-start : (o d fs fn base : ℕ) → o ≤ 187199 → 146463 ≤ d → base ≡ d * 86400 + 93600 - o → (base + fs) * 1000000000 + fn ≡ less (o * second) d (fs * second + fn)
+pub plain-start : (o d fs fn base : ℕ) → o ≤ greatestOffset → firstDay ≤ d → base ≡ d * secondsOfDay + offsetBias - o → (base + fs) * second + fn ≡ less (o * second) d (fs * second + fn)
 plain-start o d fs fn base a b e = omega arith
 
-pub plain-same : (from o d ts tn base : ℕ) → o ≤ 187199 → 146463 ≤ d → base ≡ d * 86400 + 93600 - o → ltb from (ts * second + tn) ≡ true
-    → (base + ts) * 1000000000 + tn ≡ less (o * second) d (tillTime from (ts * second + tn))
+pub plain-same : (from o d ts tn base : ℕ) → o ≤ greatestOffset → firstDay ≤ d → base ≡ d * secondsOfDay + offsetBias - o → ltb from (ts * second + tn) ≡ true
+    → (base + ts) * second + tn ≡ less (o * second) d (tillTime from (ts * second + tn))
 unfolding tillTime
 plain-same from o d ts tn base a b e t = rw t (omega arith)
 
-pub plain-next : (from o d ts tn base : ℕ) → o ≤ 187199 → 146463 ≤ d → base ≡ d * 86400 + 93600 - o → ltb from (ts * second + tn) ≡ false
-    → (base + 86400 + ts) * 1000000000 + tn ≡ less (o * second) d (tillTime from (ts * second + tn))
+pub plain-next : (from o d ts tn base : ℕ) → o ≤ greatestOffset → firstDay ≤ d → base ≡ d * secondsOfDay + offsetBias - o → ltb from (ts * second + tn) ≡ false
+    → (base + secondsOfDay + ts) * second + tn ≡ less (o * second) d (tillTime from (ts * second + tn))
 unfolding tillTime
 plain-next from o d ts tn base a b e t = rw t (omega arith)
 

@@ -12,6 +12,11 @@ use Rattle.model.specs.Blocks.{Block, put, clipped}
 use Rattle.model.specs.Working.{Rule, firstDate, lastDate, startOf, endOf}
 use Rattle.block.specs.declared.Block.{Block as Item}
 use Rattle.laws_demand3.specs.Local.{offsetNanos}
+use Rattle.laws_skip.specs.Steady.{less}
+use Rattle.civil.specs.Dates.{timeIn, TimeFits}
+use Rattle.civil.specs.declared.Time.{Time}
+use Rattle.zone.specs.Zones.{meant, ZoneOk}
+use Rattle.zone.specs.declared.Zone.{Zone as CodeZone}
 use Rattle.instant.specs.Instant.{nanos}
 use Rattle.instant.specs.declared.Instant.{Instant}
 
@@ -27,6 +32,18 @@ rangeEnd d = if ltb d dayOfYearZero then firstInstant else lastInstant
 -- a rule that takes, of every date, from a time of day to a time of day
 abbrev pub during : Zone → ℕ → ℕ → Rule
 during z from to = record { zone = z; on = λ d. true; from = from; to = to }
+
+-- the same, for a zone and times of the code
+abbrev pub ruleOf : List ℕ → CodeZone → Time → Time → Rule
+ruleOf f z from to = during (meant f z) (timeIn from) (timeIn to)
+
+-- what is asked of a rule's date: an open zone, a date of the range, and times of a day
+abbrev pub AskedDate : List ℕ → CodeZone → ℕ → Time → Time → Type 0
+AskedDate f z d from to = ZoneOk f z × IsDay d × TimeFits from × TimeFits to
+
+-- b is what the rule takes of the date d
+abbrev pub IsTaken : Rule → ℕ → Item → Type 0
+IsTaken r d b = (nanos (b .start) ≡ startOf r d) × (nanos (b .end) ≡ endOf r d)
 
 -- what a rule shows of a date in the window [lo, hi)
 unfoldable pub pieceOf : Rule → ℕ → ℕ → ℕ → List Block
@@ -48,8 +65,18 @@ pub record KeepsOffset (z : Zone) (lo hi o : ℕ) : Type 0 where
 unfoldable pub tillTime : ℕ → ℕ → ℕ
 tillTime from to = if ltb from to then to else to + day
 
+-- b is what a rule takes of the date d by the offset o: the local times less the offset
+abbrev pub IsTakenBy : ℕ → Time → Time → ℕ → Item → Type 0
+IsTakenBy o from to d b =
+    (nanos (b .start) ≡ less (o * second) d (timeIn from)) × (nanos (b .end) ≡ less (o * second) d (tillTime (timeIn from) (timeIn to)))
+
 -- d is a date of the window
 pub record IsIn (z : Zone) (lo hi : Instant) (d : ℕ) : Type 0 where
   pub order : nanos lo ≤ nanos hi
   pub first : firstDate z (nanos lo) ≤ d
   pub last : d ≤ lastDate z (nanos hi)
+
+-- what is asked of a rule's date in a window: the date, the offset that the zone keeps there, and that it is one of the window's dates
+abbrev pub AskedPiece : List ℕ → CodeZone → ℕ → Time → Time → ℕ → Instant → Instant → Type 0
+AskedPiece f z o from to d lo hi =
+    ZoneOk f z × IsDay d × TimeFits from × TimeFits to × KeepsOffset (meant f z) (nanos lo) (nanos hi) o × IsIn (meant f z) lo hi d

@@ -1,21 +1,33 @@
 // One date in a zone: the local date at an instant, the first and last date of a window, the instant of a time of day on a date, and the block
 // that a rule takes of a date. f is the zone's file.
 ghost use mathlib.Core.Path.{_≡_};
-ghost use Prim.Native.Nat.{_+_, _*_, _≤_, _<_};
+ghost use Prim.Native.Nat.{_≤_};
 ghost use lib.Dec.{ltb};
-ghost use Rattle.model.specs.Instant.{second};
-ghost use Rattle.laws_skip.specs.Steady.{less};
 ghost use Rattle.instant.specs.Instant.{nanos, InRange};
-ghost use Rattle.model.specs.Basic.{if_then_else_};
+ghost use Rattle.model.specs.Tzif.{greatestOffset};
 ghost use Rattle.model.specs.Zone as model;
-ghost use Rattle.model.specs.Working.{localDay, firstDate, lastDate, startOf, endOf};
+ghost use Rattle.model.specs.Working.{localDay, firstDate, lastDate, endOf};
 ghost use Rattle.civil.specs.Dates.{timeIn, TimeFits};
 ghost use Rattle.zone.specs.Zones.{meant, ZoneOk};
-ghost use Rattle.zone_local.specs.Dates.{IsDay, during, rangeEnd, pieceOf, held, KeepsOffset, tillTime, IsIn};
+ghost use Rattle.zone_local.specs.Dates.{IsDay, rangeEnd, ruleOf, AskedDate, IsTaken, pieceOf, held, KeepsOffset, IsTakenBy, AskedPiece};
 use block::Block;
 use civil::Time;
 use instant::Instant;
 use zone::Zone;
+
+// The third and the last of the dates, and the first of the year 0, as days from -10400-01-01.
+const THIRD_DAY: u32 = 146465;
+
+const LAST_DAY: u32 = 7450946;
+
+const DAY_OF_YEAR_ZERO: u32 = 3798522;
+
+// Four days in seconds, the first second that they lie before, and the last that they lie behind.
+const FOUR_DAYS: u64 = 4 * instant::DAY;
+
+const FIRST_KEPT: u64 = instant::FIRST + FOUR_DAYS;
+
+const LAST_KEPT: u64 = instant::LAST - FOUR_DAYS;
 
 // The local date at t.
 pub fn local_day(f: &[u8], z: Zone, t: Instant) -> u32
@@ -23,7 +35,7 @@ pub fn local_day(f: &[u8], z: Zone, t: Instant) -> u32
     ensures { λ r. ⌜ r ≡ localDay (meant (now (f .entry)) z) (nanos t) ⌝ }
 {
     let run = zone::run_at(f, z, t.sec);
-    ((t.sec + run.offset as u64 - 93600) / 86400) as u32
+    ((t.sec + run.offset as u64 - zone_offset::BIAS_64) / instant::DAY) as u32
 }
 
 // The first of a window's dates, two before the local date at its start lo.
@@ -32,7 +44,7 @@ pub fn first_date(f: &[u8], z: Zone, lo: Instant) -> u32
     ensures { λ r. ⌜ r ≡ firstDate (meant (now (f .entry)) z) (nanos lo) ⌝ }
 {
     let d = local_day(f, z, lo);
-    if 146465 <= d {
+    if THIRD_DAY <= d {
         return d - 2;
     }
     d
@@ -44,7 +56,7 @@ pub fn last_date(f: &[u8], z: Zone, hi: Instant) -> u32
     ensures { λ r. ⌜ r ≡ lastDate (meant (now (f .entry)) z) (nanos hi) ⌝ }
 {
     let d = local_day(f, z, hi);
-    if d < 7450946 {
+    if d < LAST_DAY {
         return d + 1;
     }
     d
@@ -54,15 +66,15 @@ pub fn last_date(f: &[u8], z: Zone, hi: Instant) -> u32
 fn range_end(day: u32) -> Instant
     ensures { λ r. ⌜ (nanos r ≡ rangeEnd day) × InRange r ⌝ }
 {
-    if day < 3798522 {
+    if day < DAY_OF_YEAR_ZERO {
         return Instant {
-            sec: 12654496799,
+            sec: instant::FIRST,
             ns: 0,
         };
     }
     Instant {
-        sec: 643761727200,
-        ns: 999999999,
+        sec: instant::LAST,
+        ns: instant::LAST_NS,
     }
 }
 
@@ -71,11 +83,15 @@ pub fn resolve(f: &[u8], z: Zone, day: u32, time: Time) -> Instant
     requires { ⌜ ZoneOk (now f) z × IsDay day × TimeFits time ⌝ }
     ensures { λ r. ⌜ (nanos r ≡ model.resolve (meant (now (f .entry)) z) day (timeIn time)) × InRange r ⌝ }
 {
-    let s = zone::second_of(f, z, day as u64 * 86400 + time.seconds as u64 + 93600);
-    if s < 12654496799 {
+    let s = zone::second_of(
+        f,
+        z,
+        day as u64 * instant::DAY + time.seconds as u64 + zone_offset::BIAS_64,
+    );
+    if s < instant::FIRST {
         return range_end(day);
     }
-    if 643761727200 < s {
+    if instant::LAST < s {
         return range_end(day);
     }
     Instant {
@@ -97,25 +113,25 @@ fn is_before(a: Time, b: Time) -> bool
 
 // Where that which a rule takes of a date ends: on the next date if `to` is at or before `from`, and at the last instant where there is no next date.
 pub fn end_of(f: &[u8], z: Zone, from: Time, to: Time, day: u32) -> Instant
-    requires { ⌜ ZoneOk (now f) z × IsDay day × TimeFits from × TimeFits to ⌝ }
-    ensures { λ r. ⌜ nanos r ≡ endOf (during (meant (now (f .entry)) z) (timeIn from) (timeIn to)) day ⌝ }
+    requires { ⌜ AskedDate (now f) z day from to ⌝ }
+    ensures { λ r. ⌜ nanos r ≡ endOf (ruleOf (now (f .entry)) z from to) day ⌝ }
 {
     if is_before(from, to) {
         return resolve(f, z, day, to);
     }
-    if day < 7450946 {
+    if day < LAST_DAY {
         return resolve(f, z, day + 1, to);
     }
     Instant {
-        sec: 643761727200,
-        ns: 999999999,
+        sec: instant::LAST,
+        ns: instant::LAST_NS,
     }
 }
 
 // What a rule takes of a date.
 pub fn block_on(f: &[u8], z: Zone, from: Time, to: Time, day: u32) -> Block
-    requires { ⌜ ZoneOk (now f) z × IsDay day × TimeFits from × TimeFits to ⌝ }
-    ensures { λ r. ⌜ (nanos (r .start) ≡ startOf (during (meant (now (f .entry)) z) (timeIn from) (timeIn to)) day) × (nanos (r .end) ≡ endOf (during (meant (now (f .entry)) z) (timeIn from) (timeIn to)) day) ⌝ }
+    requires { ⌜ AskedDate (now f) z day from to ⌝ }
+    ensures { λ r. ⌜ IsTaken (ruleOf (now (f .entry)) z from to) day r ⌝ }
 {
     let start = resolve(f, z, day, from);
     let end = end_of(f, z, from, to, day);
@@ -132,8 +148,8 @@ pub fn piece_on(
     lo: Instant,
     hi: Instant,
 ) -> Block
-    requires { ⌜ ZoneOk (now f) z × IsDay day × TimeFits from × TimeFits to ⌝ }
-    ensures { λ r. ⌜ held r ≡ pieceOf (during (meant (now (f .entry)) z) (timeIn from) (timeIn to)) (nanos lo) (nanos hi) day ⌝ }
+    requires { ⌜ AskedDate (now f) z day from to ⌝ }
+    ensures { λ r. ⌜ held r ≡ pieceOf (ruleOf (now (f .entry)) z from to) (nanos lo) (nanos hi) day ⌝ }
 {
     block::clip(block_on(f, z, from, to, day), lo, hi)
 }
@@ -145,14 +161,14 @@ pub fn one_offset(f: &[u8], z: Zone, lo: Instant, hi: Instant) -> u32
     requires { ⌜ ZoneOk (now f) z × InRange lo × InRange hi ⌝ }
     ensures { λ r. ⌜ KeepsOffset (meant (now (f .entry)) z) (nanos lo) (nanos hi) r ⌝ }
 {
-    if lo.sec < 12654842399 {
+    if lo.sec < FIRST_KEPT {
         return 0;
     }
-    if 643761381600 < hi.sec {
+    if LAST_KEPT < hi.sec {
         return 0;
     }
-    let run = zone::run_at(f, z, lo.sec - 345600);
-    if hi.sec + 345600 < run.until {
+    let run = zone::run_at(f, z, lo.sec - FOUR_DAYS);
+    if hi.sec + FOUR_DAYS < run.until {
         return run.offset;
     }
     0
@@ -160,10 +176,10 @@ pub fn one_offset(f: &[u8], z: Zone, lo: Instant, hi: Instant) -> u32
 
 // What a rule takes of a date, by the offset o: the local times less the offset.
 fn plain_block(o: u32, from: Time, to: Time, day: u32) -> Block
-    requires { ⌜ (o ≤ 187199) × IsDay day × TimeFits from × TimeFits to ⌝ }
-    ensures { λ r. ⌜ (nanos (r .start) ≡ less (o * second) day (timeIn from)) × (nanos (r .end) ≡ less (o * second) day (tillTime (timeIn from) (timeIn to))) ⌝ }
+    requires { ⌜ (o ≤ greatestOffset) × IsDay day × TimeFits from × TimeFits to ⌝ }
+    ensures { λ r. ⌜ IsTakenBy o from to day r ⌝ }
 {
-    let base = day as u64 * 86400 + 93600 - o as u64;
+    let base = day as u64 * instant::DAY + zone_offset::BIAS_64 - o as u64;
     let start = Instant {
         sec: base + from.seconds as u64,
         ns: from.nanos,
@@ -176,7 +192,7 @@ fn plain_block(o: u32, from: Time, to: Time, day: u32) -> Block
         return Block { start, end };
     }
     let end = Instant {
-        sec: base + 86400 + to.seconds as u64,
+        sec: base + instant::DAY + to.seconds as u64,
         ns: to.nanos,
     };
     Block { start, end }
@@ -193,8 +209,8 @@ pub fn piece_by(
     lo: Instant,
     hi: Instant,
 ) -> Block
-    requires { ⌜ ZoneOk (now f) z × IsDay day × TimeFits from × TimeFits to × KeepsOffset (meant (now f) z) (nanos lo) (nanos hi) o × IsIn (meant (now f) z) lo hi day ⌝ }
-    ensures { λ r. ⌜ held r ≡ pieceOf (during (meant (now (f .entry)) z) (timeIn from) (timeIn to)) (nanos lo) (nanos hi) day ⌝ }
+    requires { ⌜ AskedPiece (now f) z o from to day lo hi ⌝ }
+    ensures { λ r. ⌜ held r ≡ pieceOf (ruleOf (now (f .entry)) z from to) (nanos lo) (nanos hi) day ⌝ }
 {
     if o == 0 {
         return piece_on(f, z, from, to, day, lo, hi);

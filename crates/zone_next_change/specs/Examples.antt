@@ -7,15 +7,16 @@ use native.Mathlib.Omega.{arith}
 use Rattle.model.specs.Bytes.{hex, text}
 use Rattle.model.specs.Calendar.{dayNumber}
 use Rattle.model.specs.Instant.{epoch}
-use Rattle.model.specs.Footer.{ChangeRule, month, empty, rules}
-use Rattle.model.specs.Tzif.{Zone, Change, zoneOf}
+use Rattle.model.specs.Footer.{month, empty, rules}
+use Rattle.model.specs.Tzif.{Zone, Change, zoneOf, offsetBias}
 use Rattle.model.specs.All.{everything}
 use Rattle.laws_zone.specs.Grammar.{FooterFits}
 use Rattle.model.specs.NextChange.{firstOf, nextChange}
 use Rattle.zone_next_change.specs.NextLaws.{steady-next, steady-never}
 
+-- a transition t seconds after 1970, to an offset of o seconds east of Greenwich
 abbrev change : ℕ → ℕ → Change
-change t o = record { time = epoch + t; offset = 93600 + o }
+change t o = record { time = epoch + t; offset = offsetBias + o }
 
 -- ---- a file with two transitions: an hour east of Greenwich from 1,000,000 s after 1970 on, for ten seconds
 
@@ -27,7 +28,7 @@ twoFile =
     ++ text "UTC\0\n\n"
 
 abbrev two : Zone
-two = record { initial = 93600; changes = change 1000000 3600 ∷ change 1000010 0 ∷ []; footer = empty }
+two = record { initial = offsetBias; changes = change 1000000 3600 ∷ change 1000010 0 ∷ []; footer = empty }
 
 pub record Two : Type 0 where
   pub file : zoneOf twoFile ≡ some two
@@ -51,7 +52,7 @@ two-changes = record {
 -- ---- a transition that does not change the offset, which is no change
 
 abbrev renamed : Zone
-renamed = record { initial = 93600; changes = change 1000000 3600 ∷ change 1000004 3600 ∷ change 1000010 0 ∷ []; footer = empty }
+renamed = record { initial = offsetBias; changes = change 1000000 3600 ∷ change 1000004 3600 ∷ change 1000010 0 ∷ []; footer = empty }
 
 pub renamed-change : nextChange renamed (epoch + 1000000) ≡ some (epoch + 1000010)
 unfolding everything firstOf nextChange

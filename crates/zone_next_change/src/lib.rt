@@ -16,12 +16,12 @@ pub fn next_change(f: &[u8], z: Zone, u: u64) -> Next
     requires { ⌜ ZoneOk (now f) z ⌝ }
     ensures { λ r. ⌜ theNext r ≡ nextChange (meant (now (f .entry)) z) u ⌝ }
 {
-    if 643761727200 <= u {
+    if instant::LAST <= u {
         return Next::Never;
     }
     let r = zone::run_at(f, z, u);
     let mut until = r.until;
-    while until <= 643761727200 {
+    while until <= instant::LAST {
         let q = zone::run_at(f, z, until);
         if q.offset != r.offset {
             return Next::At(until);

@@ -3,7 +3,7 @@ use mathlib.Core.Path.{_≡_, refl, sym, ap, _∙_}
 use mathlib.Core.List.{List, [], _∷_, map}
 use mathlib.Core.Bool.{Bool, true, false}
 use mathlib.Core.Option.{none, some}
-use Prim.Native.Nat.{ℕ, zero, suc, _+_, _*_, _-_, _≤_, _<_}
+use Prim.Native.Nat.{ℕ, zero, suc, _+_, _-_, _≤_, _<_}
 use native.Mathlib.Omega.{arith}
 use borrow.Author.Tests.{le-leb, lt-leb}
 use lib.ListN.{length, getD, take, drop}
@@ -12,47 +12,32 @@ use Rattle.model.specs.Directory.{partsOf}
 use Rattle.model.specs.Pack.{sameName, packOf, find}
 use Rattle.big_endian.specs.Maybe.{isSome}
 use Rattle.big_endian.specs.Walk.{allFrom}
-use Rattle.zone_pack.specs.Directory.{countAt, startAt, lenAt, entriesOk, dirOk}
-use Rattle.zone_pack.specs.Pack.{namedFrom, namedAt, nameAtOk, packOk, zoneFile, bytesOf, Finds}
+use Rattle.directory.specs.Directory.{countAt, startAt, lenAt, dirOk}
+use Rattle.zone_pack.specs.Pack.{namedFrom, namedAt, nameAtOk, mostZones, packOk, zoneFile, bytesOf, Finds}
 use Rattle.zone_pack.specs.declared.Place.{Place}
 use Rattle.zone_pack.specs.declared.Place.the-variants.{At, Absent}
-use Rattle.zone_pack.proofs.Parts.{as-dir}
+use Rattle.directory.proofs.Parts.{as-dir}
 use Rattle.zone_pack.proofs.Names.{pack-index, as-pack}
-
--- ---- the directory: too short for a count; too short for its entries; else by its entries
-
-pub dir-short : (s : List ℕ) → length s < 4 → false ≡ isSome (partsOf s)
-unfolding dirOk
-dir-short s h = as-dir s (rw (lt-leb 4 (length s) h))
-
-module _ (s : List ℕ) {n : ℕ} (h : 4 ≤ length s) (e : n ≡ countAt s) where
-  pub dir-cut : length s < 4 + 8 * n → false ≡ isSome (partsOf s)
-  unfolding dirOk
-  dir-cut k = as-dir s (rw (← e, le-leb 4 (length s) h, lt-leb (4 + 8 * n) (length s) k))
-
-  pub dir-rest : {r : Bool} → 4 + 8 * n ≤ length s → r ≡ entriesOk s (4 + 8 * n) 0 n → r ≡ isSome (partsOf s)
-  unfolding dirOk
-  dir-rest k q = as-dir s (rw (← e, le-leb 4 (length s) h, le-leb (4 + 8 * n) (length s) k) q)
 
 -- ---- the pack: too many records; a broken directory; else by its names
 
 module _ (s : List ℕ) {n : ℕ} (e : n ≡ countAt s) where
-  pub pack-many : 1024 < n → false ≡ isSome (packOf s)
+  pub pack-many : mostZones < n → false ≡ isSome (packOf s)
   unfolding packOk
-  pack-many h = as-pack s (rw (← e, lt-leb n 1024 h))
+  pack-many h = as-pack s (rw (← e, lt-leb n mostZones h))
 
-  module _ {t : Bool} (h : n ≤ 1024) (d : t ≡ isSome (partsOf s)) where
+  module _ {t : Bool} (h : n ≤ mostZones) (d : t ≡ isSome (partsOf s)) where
     pub pack-dir : t ≡ false → false ≡ isSome (packOf s)
     unfolding packOk
     pack-dir q =
         let f : dirOk s ≡ false = as-dir s refl ∙ sym d ∙ q in
-        as-pack s (rw (← e, le-leb n 1024 h, f))
+        as-pack s (rw (← e, le-leb n mostZones h, f))
 
     pub pack-rest : {r : Bool} → t ≡ true → r ≡ allFrom (nameAtOk s) 0 n → r ≡ isSome (packOf s)
     unfolding packOk
     pack-rest q k =
         let f : dirOk s ≡ true = as-dir s refl ∙ sym d ∙ q in
-        as-pack s (rw (← e, le-leb n 1024 h, f) k)
+        as-pack s (rw (← e, le-leb n mostZones h, f) k)
 
 -- ---- the record of an entry
 

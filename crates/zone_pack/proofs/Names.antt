@@ -1,35 +1,25 @@
 -- The pack by index is the pack of the crate `model`.
-use mathlib.Core.Path.{_≡_, refl, sym, ap, _∙_}
+use mathlib.Core.Path.{_≡_, refl, _∙_}
 use mathlib.Core.Bool.{Bool, true, false, _&&_}
-use mathlib.Core.List.{List, [], _∷_, map}
-use mathlib.Core.Option.{Option, none, some}
+use mathlib.Core.List.{List, _∷_, map}
+use mathlib.Core.Option.{Option, some}
 use Prim.Native.Nat.{ℕ, zero, suc, _+_, _*_, _-_, _≤_, _<_}
-use native.Mathlib.Nat.{le-of-suc-le-suc, sub-zero}
 use native.Mathlib.Omega.{arith}
 use native.Mathlib.Numerals.{add-one}
-use borrow.Author.Tests.{leb-true, leb-false, le-leb, lt-leb, lt-ltb, le-ltb}
-use lib.Dec.{leb, ltb, leb·suc-suc}
-use lib.ListN.{length, getD, take, drop, length-take, length-drop}
-use lib.Seq.{drop-drop, drop-cons, take-take, length-take-le, take-nil}
-use Rattle.model.specs.Basic.{_>>=_, given, need, run, isIn, each}
+use borrow.Author.Tests.{leb-true, leb-false, lt-ltb, le-ltb}
+use lib.Dec.{leb, ltb}
+use lib.ListN.{length, getD, take, drop, length-drop}
+use lib.Seq.{drop-drop, drop-cons, take-take, length-take-le}
+use Rattle.model.specs.Basic.{_>>=_, given, run, isIn, each}
 use Rattle.model.specs.Bytes.{be}
-use Rattle.model.specs.Directory.{Part, partsOf}
+use Rattle.model.specs.Directory.{Part}
 use Rattle.model.specs.Pack.{Named, namedOf, packOf}
-use Rattle.laws_base.specs.Test.{by-test, and-both, clash}
+use Rattle.laws_base.specs.Test.{by-test, and-both}
 use Rattle.big_endian.specs.Walk.{both, allFrom}
 use Rattle.big_endian.specs.Maybe.{isSome}
-use Rattle.zone_pack.specs.Directory.{countAt, startAt, lenAt, partAt, recordOk, entriesOk, dirOk}
-use Rattle.zone_pack.specs.Pack.{namedFrom, namedAt, nameOk, nameAtOk, packOk}
-use Rattle.zone_pack.proofs.Parts.{parts-index, counted, some-given}
-
--- a part of a part
-drop-take : {A : Type 0} (n m : ℕ) (l : List A) → n ≤ m → drop n (take m l) ≡ take (m - n) (drop n l)
-drop-take zero m l h = ap (λ (k : ℕ). take k l) (sym (sub-zero m))
-drop-take (suc n) zero l h = absurd (omega arith)
-drop-take (suc n) (suc m) [] h = sym (take-nil (suc m - suc n))
-drop-take (suc n) (suc m) (x ∷ l) h =
-    let e : suc m - suc n ≡ m - n = omega arith in
-    rw e (drop-take n m l (le-of-suc-le-suc h))
+use Rattle.directory.specs.Directory.{longestName, countAt, startAt, lenAt, partAt, recordOk, entriesOk, dirOk}
+use Rattle.zone_pack.specs.Pack.{namedFrom, namedAt, nameOk, nameAtOk, mostZones, packOk}
+use Rattle.directory.proofs.Parts.{parts-index, counted, some-given, drop-take, entries-hold}
 
 and-false : (t : Bool) → (t && false) ≡ false
 and-false true = refl
@@ -37,10 +27,10 @@ and-false false = refl
 
 -- a record whose first byte is n and whose others are l
 unfoldable withName : ℕ → List ℕ → Option Named
-withName n l = given (isIn 1 64 n && leb n (length l)) (record { name = take n l; file = drop n l })
+withName n l = given (isIn 1 longestName n && leb n (length l)) (record { name = take n l; file = drop n l })
 
 with-name : (n : ℕ) (l : List ℕ) (q : Named) (len : ℕ) → length l + 1 ≡ len → (n ≤ length l → record { name = take n l; file = drop n l } ≡ q) →
-    withName n l ≡ given (isIn 1 64 n && ltb n len) q
+    withName n l ≡ given (isIn 1 longestName n && ltb n len) q
 unfolding withName
 with-name n l q len h f =
     by-test (leb n (length l))
@@ -96,23 +86,16 @@ named-each s (suc k) lo i h =
     rw (← add-one i) (named-each s k (o + n) (i + 1) (p .1)) in
     given-more (nameAtOk s i) (allFrom (nameAtOk s) (i + 1) k) (namedAt s i) (map (namedAt s) (run (suc i) k)) (named-one s lo i (p .0)) more
 
-whole : (s : List ℕ) → dirOk s ≡ true → (4 ≤ length s) × (entriesOk s (4 + 8 * countAt s) 0 (countAt s) ≡ true)
-unfolding dirOk
-whole s h =
-    let m = 4 + 8 * countAt s in
-    let p = and-both (leb 4 (length s)) (leb m (length s) && entriesOk s m 0 (countAt s)) h in
-    (leb-true 4 (length s) (p .0), and-both (leb m (length s)) (entriesOk s m 0 (countAt s)) (p .1) .1)
-
 -- the pack by index
 pub pack-index : (s : List ℕ) → packOf s ≡ given (packOk s) (map (namedAt s) (run 0 (countAt s)))
 unfolding packOf packOk
 pack-index s =
     by-test (dirOk s)
     (λ e.
-    let w = whole s e in
+    let w = entries-hold s e in
     rw (parts-index s, e, counted s (w .0), named-each s (countAt s) (4 + 8 * countAt s) 0 (w .1))
-    (by-test (leb (countAt s) 1024) (λ f. rw f) (λ f. rw f)))
-    (λ e. rw (parts-index s, e, and-false) (by-test (leb (be 4 s) 1024) (λ f. rw f) (λ f. rw f)))
+    (by-test (leb (countAt s) mostZones) (λ f. rw f) (λ f. rw f)))
+    (λ e. rw (parts-index s, e, and-false) (by-test (leb (be 4 s) mostZones) (λ f. rw f) (λ f. rw f)))
 
 -- the test by index passes exactly where there are records
 pub as-pack : (s : List ℕ) {r : Bool} → r ≡ packOk s → r ≡ isSome (packOf s)

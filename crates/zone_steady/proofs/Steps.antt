@@ -1,4 +1,4 @@
--- Runs back from a second: in the table, in the footer, and one joined to another. Assumes nothing.
+-- Runs back from a second: in the table, in the footer, and one joined to another.
 use mathlib.Core.Path.{_≡_, refl, sym, _∙_, ap}
 use mathlib.Core.Bool.{Bool, true, false}
 use mathlib.Core.List.{List}
@@ -7,7 +7,7 @@ use native.Mathlib.Omega.{arith}
 use native.Mathlib.Decide.{decLt}
 use Rattle.model.specs.Footer as model
 use Rattle.model.specs.Footer.{changeIn}
-use Rattle.model.specs.Tzif.{Zone}
+use Rattle.model.specs.Tzif.{Zone, greatestOffset}
 use Rattle.model.specs.Zone.{latest, offsetAt, ruledAt, steady}
 use Rattle.laws_base.specs.Test.{by-test, by-either}
 use Rattle.laws_zone.specs.Changes.{same-steady}
@@ -47,7 +47,7 @@ module _ (f : List ℕ) (l : Layout) (o : Opened f l) where
       let r : keyAt f (l .times) i ≤ keyAt f (l .times) j = rises (keyAt f (l .times)) (l .count) (o .rise) i j h k in
       omega arith
 
-  -- a second of the k-th piece lies behind each transition before it
+  -- a second of the table's k-th part lies behind each transition before it
   behind-each : (k v : ℕ) → k ≤ l .count → sinceAt f l k ≤ v → (j : ℕ) → j < k → timeAt f l j ≤ v
   unfolding sinceAt
   behind-each zero v m h j q = absurd (omega arith)
@@ -89,7 +89,7 @@ module _ (f : List ℕ) (l : Layout) (o : Opened f l) where
 -- ---- the footer
 
 -- from the latest change at or before u up to u it is the latest
-module _ (o : ℕ) (t : model.ChangeRule) (ho : o ≤ 187199) (f : ChangeRuleFits t) where
+module _ (o : ℕ) (t : model.ChangeRule) (ho : o ≤ greatestOffset) (f : ChangeRuleFits t) where
   latest-back : (u v : ℕ) → latest (changeIn o t) u ≤ v → v ≤ u → latest (changeIn o t) v ≡ latest (changeIn o t) u
   latest-back u v h k = omega (arith, later, earlier)
     where
@@ -105,27 +105,27 @@ module _ (o : ℕ) (t : model.ChangeRule) (ho : o ≤ 187199) (f : ChangeRuleFit
           (λ (p : (y : ℕ) × (changeIn o t y ≡ latest (changeIn o t) v)). omega (arith, p .1, latest-of-all o t ho f u (p .0) (omega (arith, p .1, latest-le (changeIn o t) v))))
           (latest-is (changeIn o t) v)
 
--- offset and run, as the code promises them
-abbrev Behinds : Footer → ℕ → ℕ → ℕ → ℕ → ℕ → Type 0
-Behinds f o u from r s = (r ≡ ruledAt (theFooter f) o u) × Back (ruledAt (theFooter f) o) u s × (from ≤ s)
+-- r is the footer's offset at u and has stayed it from s on, which is not before `from`
+abbrev StaysFrom : Footer → ℕ → ℕ → ℕ → ℕ → ℕ → Type 0
+StaysFrom f o u from r s = (r ≡ ruledAt (theFooter f) o u) × Back (ruledAt (theFooter f) o) u s × (from ≤ s)
 
-pub empty-behind : {f : Footer} (o : ℕ) {u from : ℕ} → f ≡ Empty → from ≤ u → Behinds f o u from o from
+pub empty-behind : {f : Footer} (o : ℕ) {u from : ℕ} → f ≡ Empty → from ≤ u → StaysFrom f o u from o from
 unfolding ruledAt
 empty-behind o e h = rw e (refl, record { to = h; same = λ v p q. refl }, omega arith)
 
-pub broken-behind : {f : Footer} (o : ℕ) {u from : ℕ} → f ≡ Broken → from ≤ u → Behinds f o u from o from
+pub broken-behind : {f : Footer} (o : ℕ) {u from : ℕ} → f ≡ Broken → from ≤ u → StaysFrom f o u from o from
 unfolding ruledAt
 broken-behind o e h = rw e (refl, record { to = h; same = λ v p q. refl }, omega arith)
 
-pub fixed-behind : {f : Footer} (o : ℕ) {g u from : ℕ} → f ≡ Fixed g → from ≤ u → Behinds f o u from g from
+pub fixed-behind : {f : Footer} (o : ℕ) {g u from : ℕ} → f ≡ Fixed g → from ≤ u → StaysFrom f o u from g from
 unfolding ruledAt
 fixed-behind o e h = rw e (refl, record { to = h; same = λ v p q. refl }, omega arith)
 
 module _ {f : Footer} {std dst : ℕ} {start end : ChangeRule} (e : f ≡ Rules std dst start end) (fits : FooterFits (theFooter f)) where
-  pub start-fits : ChangeRuleFits (changeRuleIs start) × (std ≤ 187199)
+  pub start-fits : ChangeRuleFits (changeRuleIs start) × (std ≤ greatestOffset)
   start-fits = let h = (rw e at fits) in (h .2, h .0 .1)
 
-  pub end-fits : ChangeRuleFits (changeRuleIs end) × (dst ≤ 187199)
+  pub end-fits : ChangeRuleFits (changeRuleIs end) × (dst ≤ greatestOffset)
   end-fits = let h = (rw e at fits) in (h .3, h .1 .1)
 
   module _ (o : ℕ) {u from la na lb nb m s : ℕ} (h : from ≤ u) (a : Near (changeIn std (changeRuleIs start)) u la na) (b : Near (changeIn dst (changeRuleIs end)) u lb nb) (p : m ≡ max la lb) (q : s ≡ max from m) where
@@ -140,10 +140,10 @@ module _ {f : Footer} {std dst : ℕ} {start end : ChangeRule} (e : f ≡ Rules 
           );
     }
 
-    pub daylight-behind : lb ≤ la → Behinds f o u from dst s
+    pub daylight-behind : lb ≤ la → StaysFrom f o u from dst s
     daylight-behind i = let k = (rw e at fits) in rw e (rules-daylight std dst (changeRuleIs start) (changeRuleIs end) k o a b i, rules-back, omega arith)
 
-    pub standard-behind : la < lb → Behinds f o u from std s
+    pub standard-behind : la < lb → StaysFrom f o u from std s
     standard-behind i = let k = (rw e at fits) in rw e (rules-standard std dst (changeRuleIs start) (changeRuleIs end) k o a b i, rules-back, omega arith)
 
 -- ---- how far it stays

@@ -3,6 +3,13 @@ use mathlib.Core.Path.{_≡_}
 use mathlib.Core.Bool.{Bool, true, false}
 use mathlib.Core.List.{List}
 use Prim.Native.Nat.{ℕ, zero, suc, _+_, _-_, _≤_, _<_}
+use Rattle.model.specs.Tzif as model
+use Rattle.model.specs.Zone.{steady}
+use Rattle.laws_zone.specs.Sound.{dawn}
+use Rattle.instant.specs.Instant.{yearsEnd}
+use Rattle.zone.specs.Zones.{ZoneOk}
+use Rattle.zone.specs.declared.Zone.{Zone}
+use Rattle.zone_steady.specs.declared.OffsetSince.{OffsetSince}
 use Rattle.zone_tzif.specs.declared.Layout.{Layout}
 use Rattle.zone_tzif.specs.Places.{timeAt}
 
@@ -16,7 +23,19 @@ pub record Back (off : ℕ → ℕ) (u s : ℕ) : Type 0 where
   pub to : s ≤ u
   pub same : (v : ℕ) → s ≤ v → v ≤ u → off v ≡ off u
 
--- where the k-th piece of a table begins: at the transition before it
+-- r has the offset at u, and a second from which it stays
+abbrev pub IsOffsetSince : (ℕ → ℕ) → ℕ → OffsetSince → Type 0
+IsOffsetSince off u r = (r .offset ≡ off u) × Back off u (r .since)
+
+-- the same, and that second is not before `from`
+abbrev pub IsOffsetFrom : (ℕ → ℕ) → ℕ → ℕ → OffsetSince → Type 0
+IsOffsetFrom off u from r = (r .offset ≡ off u) × Back off u (r .since) × (from ≤ r .since)
+
+-- an open zone is asked for a span of the calendar's years
+abbrev pub AskedSpan : List ℕ → Zone → ℕ → ℕ → Type 0
+AskedSpan f z lo hi = ZoneOk f z × (dawn ≤ lo) × (lo ≤ hi) × (hi < yearsEnd)
+
+-- where the k-th part of a table begins: at the transition before it
 unfoldable pub sinceAt : List ℕ → Layout → ℕ → ℕ
 sinceAt f l zero = 0
 sinceAt f l (suc k) = timeAt f l k
@@ -29,3 +48,7 @@ low false a e = a
 abbrev pub high : Bool → ℕ → ℕ → ℕ
 high true b e = b
 high false b e = b + e
+
+-- how far one offset is kept beyond the span from lo to hi
+abbrev pub RoomBeyond : model.Zone → Bool → ℕ → ℕ → ℕ → Type 0
+RoomBeyond z back lo hi r = Room (λ e. steady z (low back lo e) (high back hi e)) r

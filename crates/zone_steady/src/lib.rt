@@ -1,13 +1,14 @@
 // How long a zone keeps its offset beyond a span, on from its end or back from its start. f is the zone's file. Seconds are counted from
 // -10400-01-01T00:00:00Z.
 ghost use mathlib.Core.Path.{_≡_};
-ghost use Prim.Native.Nat.{ℕ, _+_, _-_, _≤_, _<_, max};
+ghost use Prim.Native.Nat.{_+_, _-_, _≤_, _<_};
 ghost use Rattle.model.specs.Zone as model;
 ghost use Rattle.laws_zone.specs.Grammar.{FooterFits};
 ghost use Rattle.zone_changes.specs.Meaning.{theFooter};
+ghost use Rattle.instant.specs.Instant.{yearsEnd};
 ghost use Rattle.zone_tzif.specs.Opened.{Opened};
-ghost use Rattle.zone.specs.Zones.{meant, ZoneOk};
-ghost use Rattle.zone_steady.specs.Steady.{Room, Back, sinceAt, low, high};
+ghost use Rattle.zone.specs.Zones.{meant, Asked, zoneOffset};
+ghost use Rattle.zone_steady.specs.Steady.{Room, IsOffsetSince, IsOffsetFrom, AskedSpan, RoomBeyond, sinceAt};
 use zone::Zone;
 use zone_footer::Footer;
 use zone_tzif::Layout;
@@ -31,8 +32,8 @@ fn table_since(f: &[u8], table: Layout, k: usize) -> u64
 
 // The offset at u where the footer counts from `from` on; `last` is the table's last offset, which an empty footer leaves.
 fn footer_behind(footer: Footer, last: u32, u: u64, from: u64) -> OffsetSince
-    requires { ⌜ FooterFits (theFooter footer) × (u < 656384601600) × (from ≤ u) ⌝ }
-    ensures { λ r. ⌜ (r .offset ≡ model.ruledAt (theFooter footer) last u) × Back (model.ruledAt (theFooter footer) last) u (r .since) × (from ≤ r .since) ⌝ }
+    requires { ⌜ FooterFits (theFooter footer) × (u < yearsEnd) × (from ≤ u) ⌝ }
+    ensures { λ r. ⌜ IsOffsetFrom (model.ruledAt (theFooter footer) last) u from r ⌝ }
 {
     match footer {
         Footer::Empty => OffsetSince {
@@ -61,8 +62,8 @@ fn footer_behind(footer: Footer, last: u32, u: u64, from: u64) -> OffsetSince
 
 // The offset at u, and a second from which it stays.
 pub fn run_behind(f: &[u8], z: Zone, u: u64) -> OffsetSince
-    requires { ⌜ ZoneOk (now f) z × (u < 656384601600) ⌝ }
-    ensures { λ r. ⌜ (r .offset ≡ model.offsetAt (meant (now (f .entry)) z) u) × Back (model.offsetAt (meant (now (f .entry)) z)) u (r .since) ⌝ }
+    requires { ⌜ Asked (now f) z u ⌝ }
+    ensures { λ r. ⌜ IsOffsetSince (zoneOffset (now (f .entry)) z) u r ⌝ }
 {
     let table = z.table;
     let k = zone_tzif::count_at(f, table, u);
@@ -77,7 +78,7 @@ pub fn run_behind(f: &[u8], z: Zone, u: u64) -> OffsetSince
 
 // How far behind hi the offset stays: 0 if it changes from lo to hi.
 fn room_on(f: &[u8], z: Zone, lo: u64, hi: u64) -> u64
-    requires { ⌜ ZoneOk (now f) z × (12622780800 ≤ lo) × (lo ≤ hi) × (hi < 656384601600) ⌝ }
+    requires { ⌜ AskedSpan (now f) z lo hi ⌝ }
     ensures { λ r. ⌜ Room (λ e. model.steady (meant (now (f .entry)) z) lo (hi + e)) r ⌝ }
 {
     let r = zone::run_at(f, z, lo);
@@ -94,7 +95,7 @@ fn room_on(f: &[u8], z: Zone, lo: u64, hi: u64) -> u64
 
 // How far before lo the offset stays: 0 if it changes from lo to hi.
 fn room_back(f: &[u8], z: Zone, lo: u64, hi: u64) -> u64
-    requires { ⌜ ZoneOk (now f) z × (12622780800 ≤ lo) × (lo ≤ hi) × (hi < 656384601600) ⌝ }
+    requires { ⌜ AskedSpan (now f) z lo hi ⌝ }
     ensures { λ r. ⌜ Room (λ e. model.steady (meant (now (f .entry)) z) (lo - e) hi) r ⌝ }
 {
     let r = run_behind(f, z, hi);
@@ -111,8 +112,8 @@ fn room_back(f: &[u8], z: Zone, lo: u64, hi: u64) -> u64
 
 // How far beyond the span from lo to hi the offset stays, one more than the last second that is sure: 0 if it changes from lo to hi.
 pub fn room(f: &[u8], z: Zone, back: bool, lo: u64, hi: u64) -> u64
-    requires { ⌜ ZoneOk (now f) z × (12622780800 ≤ lo) × (lo ≤ hi) × (hi < 656384601600) ⌝ }
-    ensures { λ r. ⌜ Room (λ e. model.steady (meant (now (f .entry)) z) (low back lo e) (high back hi e)) r ⌝ }
+    requires { ⌜ AskedSpan (now f) z lo hi ⌝ }
+    ensures { λ r. ⌜ RoomBeyond (meant (now (f .entry)) z) back lo hi r ⌝ }
 {
     if back {
         return room_back(f, z, lo, hi);

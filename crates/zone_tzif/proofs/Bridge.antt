@@ -17,29 +17,28 @@ use Rattle.model.specs.Basic.{_>>=_, given, need, isIn, all, sameList}
 use Rattle.model.specs.Bytes.{be, words, pieces, lifted}
 use Rattle.model.specs.Instant.{epoch}
 use Rattle.model.specs.Tzif as M
-use Rattle.model.specs.Tzif.{Header, headerOf, sizeOf, offsetIn, typeOk, countsOk, changesOf, lineOf}
+use Rattle.model.specs.Tzif.{Header, headerOf, sizeOf, offsetIn, typeOk, countsOk, changesOf, lineOf, Table, tableIn, tableOf, headerSize, typeSize, newline}
 use Rattle.laws_base.specs.Test.{by-test, and-both}
 use Rattle.big_endian.specs.Be.{be32}
 use Rattle.big_endian.specs.Walk.{allFrom, rising}
 use Rattle.big_endian.proofs.Lists.{at-4, at-8, word-at, piece-at, words-length, pieces-length, all-index}
 use Rattle.big_endian.proofs.Walk.{all-at}
 use Rattle.zone_tzif_head.specs.declared.Head.{Head}
-use Rattle.zone_tzif.specs.Table.{Table, tableIn, tableOf}
 use Rattle.zone_tzif_head.specs.Heads.{meant, headOk, headAt, secondAt}
 use Rattle.zone_tzif_block.specs.Parts.{keyAt, byteBelow, offsetIs, typeFits, kindsAt, typesAt, marksAt, tailAt, tailOk, timesRise, tablesOk, blockOk}
 use Rattle.zone_tzif.specs.Places.{layoutAt, usable, layoutOf, timeAt, offsetAfter, changesFrom, changesAt, tableAt}
 
 -- ---- headers
 
-room : (a n : ℕ) → leb 44 (n - a) ≡ leb (a + 44) n
+room : (a n : ℕ) → leb headerSize (n - a) ≡ leb (a + headerSize) n
 room a n =
-    by-test (leb (a + 44) n)
-    (λ e. let h : a + 44 ≤ n = leb-true _ _ e in le-leb 44 (n - a) (omega arith) ∙ sym e)
-    (λ e. let h : n < a + 44 = leb-false _ _ e in lt-leb 44 (n - a) (omega arith) ∙ sym e)
+    by-test (leb (a + headerSize) n)
+    (λ e. let h : a + headerSize ≤ n = leb-true _ _ e in le-leb headerSize (n - a) (omega arith) ∙ sym e)
+    (λ e. let h : n < a + headerSize = leb-false _ _ e in lt-leb headerSize (n - a) (omega arith) ∙ sym e)
 
 module _ (f : List ℕ) (a : ℕ) where
   -- count k of the header at a
-  count-is : (k : ℕ) → k < 6 → a + 44 ≤ length f → getD (words 4 6 (drop 20 (drop a f))) k 0 ≡ be32 f (a + (20 + 4 * k))
+  count-is : (k : ℕ) → k < 6 → a + headerSize ≤ length f → getD (words 4 6 (drop 20 (drop a f))) k 0 ≡ be32 f (a + (20 + 4 * k))
   count-is k h i =
       word-at 4 6 (drop 20 (drop a f)) k h
       ∙ ap (be 4) (drop-drop (4 * k) 20 (drop a f) ∙ drop-drop (20 + 4 * k) a f)
@@ -49,18 +48,18 @@ module _ (f : List ℕ) (a : ℕ) where
   unfolding headerOf headOk headAt
   head-is =
       rw (length-drop, room a (length f))
-      (by-test (leb (a + 44) (length f))
-      (λ e. let i : a + 44 ≤ length f = leb-true _ _ e in
+      (by-test (leb (a + headerSize) (length f))
+      (λ e. let i : a + headerSize ≤ length f = leb-true _ _ e in
       rw (e, ← at-4 f a (omega arith), getD-drop a f 4 0, count-is 0 (omega arith) i, count-is 1 (omega arith) i, count-is 2 (omega arith) i, count-is 3 (omega arith) i, count-is 4 (omega arith) i, count-is 5 (omega arith) i))
       (λ e. rw e))
 
 -- ---- the footer's line
 
-same-one : (x : ℕ) → sameList (x ∷ []) (10 ∷ []) ≡ eqb x 10
+same-one : (x : ℕ) → sameList (x ∷ []) (newline ∷ []) ≡ eqb x newline
 unfolding sameList
-same-one x = by-test (eqb x 10) (λ e. rw e) (λ e. rw e)
+same-one x = by-test (eqb x newline) (λ e. rw e) (λ e. rw e)
 
-same-none : sameList [] (10 ∷ []) ≡ false
+same-none : sameList [] (newline ∷ []) ≡ false
 unfolding sameList
 same-none = refl
 
@@ -76,7 +75,7 @@ last-one f h =
 
 module _ (f : List ℕ) (t : ℕ) where
   -- a line needs two bytes
-  line-in : t + 1 < length f → lineOf (drop t f) ≡ given (eqb (getD f t 0) 10 && eqb (getD f (length f - 1) 0) 10) (take (length f - (t + 2)) (drop (t + 1) f))
+  line-in : t + 1 < length f → lineOf (drop t f) ≡ given (eqb (getD f t 0) newline && eqb (getD f (length f - 1) 0) newline) (take (length f - (t + 2)) (drop (t + 1) f))
   unfolding lineOf
   line-in h =
       let n : length f - (t + 1) - 1 ≡ length f - (t + 2) = omega arith in
@@ -178,7 +177,7 @@ module _ (f : List ℕ) (b : ℕ) (h : Head) (fits : tailAt b h + 1 < length f) 
       ∙ ap (allFrom (byteBelow f (b + a) m) 0) e
 
   -- type i's six bytes
-  type-bytes : (i : ℕ) → i < h .types → getD (pieces 6 (h .types) (drop (n * 9) (drop b f))) i [] ≡ take 6 (drop (typesAt b n + 6 * i) f)
+  type-bytes : (i : ℕ) → i < h .types → getD (pieces typeSize (h .types) (drop (n * 9) (drop b f))) i [] ≡ take 6 (drop (typesAt b n + 6 * i) f)
   type-bytes i l =
       piece-at 6 (h .types) (drop (n * 9) (drop b f)) i l ∙ rw (drop-drop (6 * i) (n * 9) (drop b f), drop-drop (n * 9 + 6 * i) b f, add-assoc b (n * 9) (6 * i))
 
@@ -188,7 +187,7 @@ module _ (f : List ℕ) (b : ℕ) (h : Head) (fits : tailAt b h + 1 < length f) 
       let e : take 4 (take 6 (drop (typesAt b n + 6 * i) f)) ≡ take 4 (drop (typesAt b n + 6 * i) f) = take-take 4 6 (drop (typesAt b n + 6 * i) f) (omega arith) in
       rw (e, ← at-4 f (typesAt b n + 6 * i) (omega arith))
 
-  type-is : (i : ℕ) → i < h .types → typeFits f (typesAt b n) (h .chars) i ≡ typeOk (h .chars) (getD (pieces 6 (h .types) (drop (n * 9) (drop b f))) i [])
+  type-is : (i : ℕ) → i < h .types → typeFits f (typesAt b n) (h .chars) i ≡ typeOk (h .chars) (getD (pieces typeSize (h .types) (drop (n * 9) (drop b f))) i [])
   unfolding typeOk typeFits
   type-is i l =
       let g = drop (typesAt b n + 6 * i) f in
@@ -196,27 +195,27 @@ module _ (f : List ℕ) (b : ℕ) (h : Head) (fits : tailAt b h + 1 < length f) 
       let d : getD (take 6 g) 5 0 ≡ getD f (typesAt b n + 6 * i + 5) 0 = getD-take 6 g 5 0 (omega arith) ∙ getD-drop (typesAt b n + 6 * i) f 5 0 in
       rw (type-bytes i l, c, d, type-offset i l)
 
-  types-are : all (typeOk (h .chars)) (pieces 6 (h .types) (drop (n * 9) (drop b f))) ≡ allFrom (typeFits f (typesAt b n) (h .chars)) 0 (h .types)
+  types-are : all (typeOk (h .chars)) (pieces typeSize (h .types) (drop (n * 9) (drop b f))) ≡ allFrom (typeFits f (typesAt b n) (h .chars)) 0 (h .types)
   types-are =
       let e = pieces-length 6 (h .types) (drop (n * 9) (drop b f)) in
-      sym (all-index (typeOk (h .chars)) [] (typeFits f (typesAt b n) (h .chars)) (pieces 6 (h .types) (drop (n * 9) (drop b f))) 0
+      sym (all-index (typeOk (h .chars)) [] (typeFits f (typesAt b n) (h .chars)) (pieces typeSize (h .types) (drop (n * 9) (drop b f))) 0
       (λ j q. ap (typeFits f (typesAt b n) (h .chars)) (omega arith) ∙ type-is j (omega arith)))
       ∙ ap (allFrom (typeFits f (typesAt b n) (h .chars)) 0) e
 
   -- type i's offset
-  offset-is : (i : ℕ) → i < h .types → getD (map offsetIn (pieces 6 (h .types) (drop (n * 9) (drop b f)))) i 0 ≡ offsetIs (be32 f (typesAt b n + 6 * i))
+  offset-is : (i : ℕ) → i < h .types → getD (map offsetIn (pieces typeSize (h .types) (drop (n * 9) (drop b f)))) i 0 ≡ offsetIs (be32 f (typesAt b n + 6 * i))
   offset-is i l =
-      map-at offsetIn (pieces 6 (h .types) (drop (n * 9) (drop b f))) i [] (omega (arith, pieces-length 6 (h .types) (drop (n * 9) (drop b f))))
+      map-at offsetIn (pieces typeSize (h .types) (drop (n * 9) (drop b f))) i [] (omega (arith, pieces-length 6 (h .types) (drop (n * 9) (drop b f))))
       ∙ ap offsetIn (type-bytes i l) ∙ type-offset i l
 
   -- the changes, where each type number is one
   block-changes : ((i : ℕ) → i < n → getD f (kindsAt b n + i) 0 < h .types)
-      → changesOf (map offsetIn (pieces 6 (h .types) (drop (n * 9) (drop b f)))) (map (lifted 8) (words 8 n (drop b f))) (take n (drop (n * 8) (drop b f)))
+      → changesOf (map offsetIn (pieces typeSize (h .types) (drop (n * 9) (drop b f)))) (map (lifted 8) (words 8 n (drop b f))) (take n (drop (n * 8) (drop b f)))
       ≡ changesAt f (layoutAt f b h)
   unfolding timeAt offsetAfter layoutAt
   block-changes k =
       let l = layoutAt f b h in
-      let offs = map offsetIn (pieces 6 (h .types) (drop (n * 9) (drop b f))) in
+      let offs = map offsetIn (pieces typeSize (h .types) (drop (n * 9) (drop b f))) in
       let ks = take n (drop (n * 8) (drop b f)) in
       let e = times-long in
       changes-are (timeAt f l) (offsetAfter f l) offs (map (lifted 8) (words 8 n (drop b f))) ks 0
@@ -233,7 +232,7 @@ module _ (f : List ℕ) (b : ℕ) (h : Head) (fits : tailAt b h + 1 < length f) 
   -- the four tests of the tables
   tests-are : (M.rising (map (lifted 8) (words 8 n (drop b f)))
       && (all (λ k. ltb k (h .types)) (take n (drop (n * 8) (drop b f)))
-      && (all (typeOk (h .chars)) (pieces 6 (h .types) (drop (n * 9) (drop b f)))
+      && (all (typeOk (h .chars)) (pieces typeSize (h .types) (drop (n * 9) (drop b f)))
       && all (λ m. ltb m 2) (take (h .stds + h .uts) (drop (n * 9 + h .types * 6 + h .chars) (drop b f))))))
       ≡ tablesOk f b h
   unfolding tablesOk
@@ -254,8 +253,8 @@ module _ (f : List ℕ) (b : ℕ) (h : Head) (fits : tailAt b h + 1 < length f) 
   -- the table of a block whose counts are right
   block-table : tablesOk f b h ≡ true → 1 ≤ h .types →
       _≡_ {A = Table} (record {
-        initial = getD (map offsetIn (pieces 6 (h .types) (drop (n * 9) (drop b f)))) 0 0;
-        changes = changesOf (map offsetIn (pieces 6 (h .types) (drop (n * 9) (drop b f)))) (map (lifted 8) (words 8 n (drop b f))) (take n (drop (n * 8) (drop b f)));
+        initial = getD (map offsetIn (pieces typeSize (h .types) (drop (n * 9) (drop b f)))) 0 0;
+        changes = changesOf (map offsetIn (pieces typeSize (h .types) (drop (n * 9) (drop b f)))) (map (lifted 8) (words 8 n (drop b f))) (take n (drop (n * 8) (drop b f)));
         line = take (length f - (tailAt b h + 2)) (drop (tailAt b h + 1) f);
       }) (tableAt f (layoutAt f b h))
   unfolding layoutAt
@@ -271,7 +270,7 @@ has-types h e =
 
 tail-in : (f : List ℕ) (t : ℕ) → tailOk f t ≡ true → t + 1 < length f
 unfolding tailOk
-tail-in f t e = ltb-true _ _ (and-both (ltb (t + 1) (length f)) (eqb (getD f t 0) 10 && eqb (getD f (length f - 1) 0) 10) e .0)
+tail-in f t e = ltb-true _ _ (and-both (ltb (t + 1) (length f)) (eqb (getD f t 0) newline && eqb (getD f (length f - 1) 0) newline) e .0)
 
 block-is : (f : List ℕ) (b : ℕ) (h : Head) → tableIn (meant h) (drop b f) ≡ given (blockOk f b h) (tableAt f (layoutAt f b h))
 unfolding tableIn blockOk

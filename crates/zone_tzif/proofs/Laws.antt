@@ -3,25 +3,24 @@ use mathlib.Core.Path.{_≡_, sym, ap, _∙_, subst}
 use mathlib.Core.Bool.{true, false, _&&_}
 use mathlib.Core.Option.{none, some}
 use mathlib.Core.List.{List}
-use Prim.Native.Nat.{ℕ, zero, suc, _+_, _*_, _-_, _/_, _≤_, _<_}
+use Prim.Native.Nat.{ℕ, zero, suc, _+_, _*_, _-_, _≤_, _<_}
 use native.Mathlib.Omega.{arith}
 use native.Mathlib.Decide.{decLe, decLt}
 use lib.Dec.{leb, ltb, eqb}
 use lib.ListN.{length, getD}
 use borrow.Author.Tests.{lt-ltb, le-ltb, le-leb, lt-leb, leb-true, ltb-true, ltb-false}
-use Rattle.model.specs.Basic.{if_then_else_, _>>=_, given, isIn}
+use Rattle.model.specs.Basic.{if_then_else_, _>>=_, isIn}
 use Rattle.model.specs.Footer.{Footer, footerOf}
-use Rattle.model.specs.Tzif.{countsOk, zeroOr, zoneOf}
+use Rattle.model.specs.Tzif.{countsOk, zeroOr, tableOf, zoneOf, greatestOffset, mostTypes, mostTransitions}
 use Rattle.model.specs.Zone.{offsetFrom, offsetAt, ruledAt}
 use Rattle.laws_base.specs.Test.{by-test, and-both}
 use Rattle.laws_zone.specs.Runs.{Run}
 use Rattle.big_endian.specs.Be.{be32}
-use Rattle.big_endian.specs.Walk.{allFrom, countOf, upTo}
+use Rattle.big_endian.specs.Walk.{allFrom, upTo}
 use Rattle.big_endian.proofs.Walk.{all-at, rises, Rises, count-in, count-out, count-le}
 use Rattle.zone_tzif_head.specs.declared.Head.{Head}
 use Rattle.zone_tzif.specs.declared.Layout.{Layout}
 use Rattle.zone_tzif.specs.declared.TzifRead.the-variants as R
-use Rattle.zone_tzif.specs.Table.{tableOf, zone-splits}
 use Rattle.zone_tzif_head.specs.Heads.{meant, headOk, headAt, secondAt}
 use Rattle.zone_tzif_block.specs.Parts.{keyAt, byteBelow, offsetIs, typeFits, kindsAt, typesAt, marksAt, tailAt, tailOk, timesRise, tablesOk, blockOk}
 use Rattle.zone_tzif.specs.Places.{layoutAt, usable, layoutOf, readOf, timeAt, offsetAfter, changesFrom, lineAt, tableAt}
@@ -33,19 +32,19 @@ use Rattle.zone_tzif.proofs.Bridge.{table-is, block-in}
 -- the parts of a block that passes
 record Passed (f : List ℕ) (b : ℕ) (h : Head) : Type 0 where
   types : 1 ≤ h .types
-  few : h .times ≤ 2048
+  few : h .times ≤ mostTransitions
   room : tailAt b h + 1 < length f
   rise : timesRise f b (h .times) ≡ true
   kinds : allFrom (byteBelow f (kindsAt b (h .times)) (h .types)) 0 (h .times) ≡ true
   fit : allFrom (typeFits f (typesAt b (h .times)) (h .chars)) 0 (h .types) ≡ true
 
-counts : (h : Head) → countsOk (meant h) ≡ true → (1 ≤ h .types) × (h .times ≤ 2048)
+counts : (h : Head) → countsOk (meant h) ≡ true → (1 ≤ h .types) × (h .times ≤ mostTransitions)
 unfolding countsOk
 counts h e =
     let rest = leb 1 (h .chars) && (eqb (h .leaps) 0 && (zeroOr (h .types) (h .stds) && zeroOr (h .types) (h .uts))) in
-    let p = and-both (isIn 1 256 (h .types)) (leb (h .times) 2048 && rest) e in
-    let q = and-both (leb (h .times) 2048) rest (p .1) in
-    (leb-true _ _ (and-both (leb 1 (h .types)) (leb (h .types) 256) (p .0) .0), leb-true _ _ (q .0))
+    let p = and-both (isIn 1 mostTypes (h .types)) (leb (h .times) mostTransitions && rest) e in
+    let q = and-both (leb (h .times) mostTransitions) rest (p .1) in
+    (leb-true _ _ (and-both (leb 1 (h .types)) (leb (h .types) mostTypes) (p .0) .0), leb-true _ _ (q .0))
 
 passed : (f : List ℕ) (b : ℕ) (h : Head) → blockOk f b h ≡ true → Passed f b h
 unfolding blockOk tablesOk
@@ -65,16 +64,16 @@ module _ (f : List ℕ) (b : ℕ) (h : Head) (p : Passed f b h) where
   unfolding byteBelow
   kind-below i l = ltb-true _ _ (all-at (byteBelow f (kindsAt b (h .times)) (h .types)) (h .times) i (p .kinds) l)
 
-  offset-fits : (k : ℕ) → k < h .types → (1 ≤ offsetIs (be32 f (typesAt b (h .times) + 6 * k))) × (offsetIs (be32 f (typesAt b (h .times) + 6 * k)) ≤ 187199)
+  offset-fits : (k : ℕ) → k < h .types → (1 ≤ offsetIs (be32 f (typesAt b (h .times) + 6 * k))) × (offsetIs (be32 f (typesAt b (h .times) + 6 * k)) ≤ greatestOffset)
   unfolding typeFits
   offset-fits k l =
       let o = offsetIs (be32 f (typesAt b (h .times) + 6 * k)) in
       let a = typesAt b (h .times) + 6 * k in
-      let t = and-both (isIn 1 187199 o) (ltb (getD f (a + 4) 0) 2 && ltb (getD f (a + 5) 0) (h .chars)) (all-at (typeFits f (typesAt b (h .times)) (h .chars)) (h .types) k (p .fit) l) in
-      let s = and-both (leb 1 o) (leb o 187199) (t .0) in
+      let t = and-both (isIn 1 greatestOffset o) (ltb (getD f (a + 4) 0) 2 && ltb (getD f (a + 5) 0) (h .chars)) (all-at (typeFits f (typesAt b (h .times)) (h .chars)) (h .types) k (p .fit) l) in
+      let s = and-both (leb 1 o) (leb o greatestOffset) (t .0) in
       (leb-true _ _ (s .0), leb-true _ _ (s .1))
 
-  passed-fits : (k : ℕ) → k ≤ h .times → (1 ≤ offsetAfter f (layoutAt f b h) k) × (offsetAfter f (layoutAt f b h) k ≤ 187199)
+  passed-fits : (k : ℕ) → k ≤ h .times → (1 ≤ offsetAfter f (layoutAt f b h) k) × (offsetAfter f (layoutAt f b h) k ≤ greatestOffset)
   unfolding offsetAfter layoutAt
   passed-fits zero l =
       let z : typesAt b (h .times) + 6 * 0 ≡ typesAt b (h .times) = omega arith in
@@ -141,10 +140,12 @@ module _ (f : List ℕ) where
 
   -- the zone of a file that `read` takes, given what its footer's line spells
   pub zone-read : (l : Layout) → readOf f ≡ R.Table l → zoneOf f ≡ (footerOf (lineAt f l) >>= λ foot. some (zoneAt f l foot))
-  zone-read l q = zone-splits f ∙ rw (table-read l q)
+  unfolding zoneOf
+  zone-read l q = rw (table-read l q)
 
   pub zone-unusable : readOf f ≡ R.Unusable → zoneOf f ≡ none
-  zone-unusable q = zone-splits f ∙ rw (table-unusable q)
+  unfolding zoneOf
+  zone-unusable q = rw (table-unusable q)
 
 -- ---- the table at a second
 
@@ -278,7 +279,7 @@ module _ {f : List ℕ} {l : Layout} {u j x : ℕ} (o : Opened f l) (k : j < l .
 
 -- what `table_offset` gives
 abbrev Gives : List ℕ → Layout → ℕ → ℕ → Type 0
-Gives f l k r = (r ≡ offsetAfter f l k) × (1 ≤ r) × (r ≤ 187199)
+Gives f l k r = (r ≡ offsetAfter f l k) × (1 ≤ r) × (r ≤ greatestOffset)
 
 module _ (f : List ℕ) (l : Layout) (o : Opened f l) where
   gives : (k r : ℕ) → k ≤ l .count → r ≡ offsetAfter f l k → Gives f l k r

@@ -7,26 +7,26 @@ use Prim.Native.Nat.{ℕ, zero, suc, _+_, _*_, _≤_, _<_}
 use native.Mathlib.Omega.{arith}
 use lib.ListN.{length, getD}
 use Rattle.model.specs.Footer.{Footer, empty}
-use Rattle.model.specs.Tzif.{Zone}
+use Rattle.model.specs.Tzif.{Zone, zoneWith, offsetBias, greatestOffset, typeSize, mostTransitions}
 use Rattle.model.specs.Zone.{utc}
 use Rattle.big_endian.specs.Walk.{allFrom, countOf, upTo}
 use Rattle.zone_tzif.specs.declared.Layout.{Layout}
-use Rattle.zone_tzif.specs.Table.{ruledBy}
 use Rattle.zone_tzif_block.specs.Parts.{kindsAt, typesAt, timesRise}
 use Rattle.zone_tzif.specs.Places.{timeAt, offsetAfter, changesFrom, tableAt}
 
+-- the layout l is one of the file f
 pub record Opened (f : List ℕ) (l : Layout) : Type 0 where
-  pub few : l .count ≤ 2048
+  pub few : l .count ≤ mostTransitions
   -- times and type numbers lie inside the file, and so does the type of each
   pub inside : typesAt (l .times) (l .count) ≤ length f
-  pub types-inside : (i : ℕ) → i < l .count → typesAt (l .times) (l .count) + 6 * getD f (kindsAt (l .times) (l .count) + i) 0 < length f
+  pub types-inside : (i : ℕ) → i < l .count → typesAt (l .times) (l .count) + typeSize * getD f (kindsAt (l .times) (l .count) + i) 0 < length f
   pub rise : timesRise f (l .times) (l .count) ≡ true
   -- each offset is one that a zone may have
-  pub fit : (k : ℕ) → k ≤ l .count → (1 ≤ offsetAfter f l k) × (offsetAfter f l k ≤ 187199)
+  pub fit : (k : ℕ) → k ≤ l .count → (1 ≤ offsetAfter f l k) × (offsetAfter f l k ≤ greatestOffset)
 
 -- the zone of a layout, given what the footer spells
 abbrev pub zoneAt : List ℕ → Layout → Footer → Zone
-zoneAt f l foot = ruledBy (tableAt f l) foot
+zoneAt f l foot = zoneWith (tableAt f l) foot
 
 -- how many transitions are at or before the second u
 unfoldable pub countAt : List ℕ → Layout → ℕ → ℕ
@@ -34,8 +34,9 @@ countAt f l u = countOf (upTo (timeAt f l) u) (l .count)
 
 -- ---- UTC, without a file
 
+-- its layout: no transition, and offset 0
 abbrev pub utcLayout : Layout
-utcLayout = record { count = 0; times = 0; initial = 93600; line = 0; len = 0 }
+utcLayout = record { count = 0; times = 0; initial = offsetBias; line = 0; len = 0 }
 
 pub utc-opened : (f : List ℕ) → Opened f utcLayout
 unfolding allFrom offsetAfter
@@ -47,7 +48,7 @@ utc-opened f = record {
   fit = fits;
 }
   where
-    fits : (k : ℕ) → k ≤ 0 → (1 ≤ offsetAfter f utcLayout k) × (offsetAfter f utcLayout k ≤ 187199)
+    fits : (k : ℕ) → k ≤ 0 → (1 ≤ offsetAfter f utcLayout k) × (offsetAfter f utcLayout k ≤ greatestOffset)
     fits zero h = (omega arith, omega arith)
     fits (suc k) h = absurd (omega arith)
 

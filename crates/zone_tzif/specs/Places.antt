@@ -1,5 +1,5 @@
 -- A zone file read by place: what makes it usable, and the table's layout, as the code reads them. Its headers and its second data block are those of
--- the crates tzif_head and tzif_block. proofs/Bridge.antt shows that this is the crate `model`'s reading. A place past the end reads as 0.
+-- the crates zone_tzif_head and zone_tzif_block. proofs/Bridge.antt shows that this is the crate `model`'s reading. A place past the end reads as 0.
 use mathlib.Core.Bool.{Bool, _&&_}
 use mathlib.Core.List.{List, [], _∷_}
 use Prim.Native.Nat.{ℕ, zero, suc, _+_, _*_, _-_, _^_}
@@ -7,18 +7,18 @@ use lib.Dec.{eqb}
 use lib.ListN.{length, getD, take, drop}
 use Rattle.model.specs.Basic.{if_then_else_}
 use Rattle.model.specs.Instant.{epoch}
-use Rattle.model.specs.Tzif.{Change}
+use Rattle.model.specs.Tzif.{Change, Table, typeSize, headerSize}
 use Rattle.big_endian.specs.Be.{be32}
 use Rattle.zone_tzif_head.specs.Heads.{headOk, headAt, secondAt}
 use Rattle.zone_tzif_head.specs.declared.Head.{Head}
 use Rattle.zone_tzif_block.specs.Parts.{keyAt, offsetIs, kindsAt, typesAt, tailAt, blockOk}
-use Rattle.zone_tzif.specs.Table.{Table}
 use Rattle.zone_tzif.specs.declared.Layout.{Layout}
 use Rattle.zone_tzif.specs.declared.TzifRead.{TzifRead}
 use Rattle.zone_tzif.specs.declared.TzifRead.the-variants as R
 
 -- ---- the file
 
+-- the layout of the block that starts at b and has the header h
 unfoldable pub layoutAt : List ℕ → ℕ → Head → Layout
 layoutAt f b h = record {
   count = h .times;
@@ -28,13 +28,15 @@ layoutAt f b h = record {
   len = length f - (tailAt b h + 2);
 }
 
+-- the file is usable, but for its footer's text
 unfoldable pub usable : List ℕ → Bool
 usable f =
     let s = secondAt f in
-    headOk f 0 && (headOk f s && (eqb (getD f 4 0) (headAt f s .version) && blockOk f (s + 44) (headAt f s)))
+    headOk f 0 && (headOk f s && (eqb (getD f 4 0) (headAt f s .version) && blockOk f (s + headerSize) (headAt f s)))
 
+-- the layout of a usable file
 unfoldable pub layoutOf : List ℕ → Layout
-layoutOf f = layoutAt f (secondAt f + 44) (headAt f (secondAt f))
+layoutOf f = layoutAt f (secondAt f + headerSize) (headAt f (secondAt f))
 
 -- what the code answers
 unfoldable pub readOf : List ℕ → TzifRead
@@ -46,21 +48,24 @@ readOf f = if usable f then R.Table (layoutOf f) else R.Unusable
 unfoldable pub timeAt : List ℕ → Layout → ℕ → ℕ
 timeAt f l i = keyAt f (l .times) i - (2 ^ 63 - epoch)
 
--- the offset after k transitions, with 93,600 added
+-- the offset after k transitions
 unfoldable pub offsetAfter : List ℕ → Layout → ℕ → ℕ
 offsetAfter f l zero = l .initial
-offsetAfter f l (suc i) = offsetIs (be32 f (typesAt (l .times) (l .count) + 6 * getD f (kindsAt (l .times) (l .count) + i) 0))
+offsetAfter f l (suc i) = offsetIs (be32 f (typesAt (l .times) (l .count) + typeSize * getD f (kindsAt (l .times) (l .count) + i) 0))
 
 -- n changes from the one of index i on, whose times and offsets are given
 unfoldable pub changesFrom : (ℕ → ℕ) → (ℕ → ℕ) → ℕ → ℕ → List Change
 changesFrom time off i zero = []
 changesFrom time off i (suc n) = record { time = time i; offset = off (suc i) } ∷ changesFrom time off (suc i) n
 
+-- the table's changes
 abbrev pub changesAt : List ℕ → Layout → List Change
 changesAt f l = changesFrom (timeAt f l) (offsetAfter f l) 0 (l .count)
 
+-- the footer's bytes
 abbrev pub lineAt : List ℕ → Layout → List ℕ
 lineAt f l = take (l .len) (drop (l .line) f)
 
+-- the table of a layout
 abbrev pub tableAt : List ℕ → Layout → Table
 tableAt f l = record { initial = l .initial; changes = changesAt f l; line = lineAt f l }

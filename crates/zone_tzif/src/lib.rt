@@ -2,16 +2,22 @@
 // `read` decides once whether a file is usable and answers where its table and its footer stand; the lookups then read the file by place.
 // The footer's text is not read here: a caller parses it. What `read` and the lookups mean is in specs/, that it is the definitions' meaning in proofs/Bridge.antt.
 ghost use mathlib.Core.Path.{_≡_};
-ghost use mathlib.Core.Bool.{true};
 ghost use Prim.Native.Nat.{_+_, _*_, _≤_, _<_};
 ghost use lib.ListN.{length};
+ghost use Rattle.model.specs.Tzif.{greatestOffset};
 ghost use Rattle.zone_tzif_head.specs.Heads.{Small};
-ghost use Rattle.zone_tzif_block.specs.Parts.{tailAt};
+ghost use Rattle.zone_tzif_block.specs.Parts.{blocksEnd, tailAt};
 ghost use Rattle.zone_tzif.specs.Places.{layoutAt, readOf, timeAt, offsetAfter};
 ghost use Rattle.zone_tzif.specs.Opened.{Opened, countAt, utcLayout};
 use zone_tzif_head::Head;
 
-// Where a usable file's table stands: the number of transitions, the place of their times, the offset before the first (with 93,600 added), and
+// Where a file's version stands.
+const VERSION_AT: usize = 4;
+
+// The key of second 0, -10400-01-01T00:00:00Z: 2^63 less the second of 1970.
+const FIRST_KEY: u64 = 9223371646495255808;
+
+// Where a usable file's table stands: the number of transitions, the place of their times, the offset before the first, and
 // the place and the length of the footer.
 pub struct Layout {
     pub count: usize,
@@ -21,20 +27,25 @@ pub struct Layout {
     pub len: usize,
 }
 
+// What `read` answers.
 pub enum TzifRead {
     Table(Layout),
     Unusable,
 }
 
+// The layout of the block that starts at b and has the header h.
 fn layout_at(f: &[u8], b: usize, h: Head) -> Layout
-    requires { ⌜ (b < 1099511627820) × Small h × (tailAt b h + 1 < length (now f)) ⌝ }
+    requires { ⌜ (b < blocksEnd) × Small h × (tailAt b h + 1 < length (now f)) ⌝ }
     ensures { λ r. ⌜ r ≡ layoutAt (now (f .entry)) b h ⌝ }
 {
     let t = zone_tzif_block::tail_at(b, h);
     Layout {
         count: h.times,
         times: b,
-        initial: zone_tzif_block::offset_is(big_endian::be32_at(f, b + h.times * 9)),
+        initial: zone_tzif_block::offset_is(big_endian::be32_at(
+            f,
+            b + h.times * zone_tzif_block::TRANSITION_SIZE,
+        )),
         line: t + 1,
         len: f.len() - (t + 2),
     }
@@ -52,13 +63,13 @@ pub fn read(f: &[u8]) -> TzifRead
         return TzifRead::Unusable;
     }
     let h = zone_tzif_head::head_at(f, s);
-    if big_endian::small_at(f, 4) != h.version {
+    if big_endian::small_at(f, VERSION_AT) != h.version {
         return TzifRead::Unusable;
     }
-    if !zone_tzif_block::block_ok(f, s + 44, h) {
+    if !zone_tzif_block::block_ok(f, s + zone_tzif_head::HEADER_SIZE, h) {
         return TzifRead::Unusable;
     }
-    TzifRead::Table(layout_at(f, s + 44, h))
+    TzifRead::Table(layout_at(f, s + zone_tzif_head::HEADER_SIZE, h))
 }
 
 // UTC has a table without a file.
@@ -68,7 +79,7 @@ pub fn utc() -> Layout
     Layout {
         count: 0,
         times: 0,
-        initial: 93600,
+        initial: zone_offset::BIAS,
         line: 0,
         len: 0,
     }
@@ -81,12 +92,12 @@ pub fn time_at(f: &[u8], l: Layout, i: usize) -> u64
     requires { ⌜ Opened (now f) l × (i < l .count) ⌝ }
     ensures { λ r. ⌜ r ≡ timeAt (now (f .entry)) l i ⌝ }
 {
-    let v = big_endian::eight_at(f, l.times + 8 * i);
+    let v = big_endian::eight_at(f, l.times + zone_tzif_block::TIME_SIZE * i);
     let k = zone_tzif_block::key_of(v);
-    if k < 9223371646495255808 {
+    if k < FIRST_KEY {
         return 0;
     }
-    k - 9223371646495255808
+    k - FIRST_KEY
 }
 
 // How many transitions are at or before the second u: a search that halves what is left. Its steps do not depend on u, only what they read.
@@ -126,14 +137,16 @@ pub fn count_at(f: &[u8], l: Layout, u: u64) -> usize
     count_by_halves(f, l, u)
 }
 
-// The offset after k transitions, with 93,600 added.
+// The offset after k transitions.
 pub fn table_offset(f: &[u8], l: Layout, k: usize) -> u32
     requires { ⌜ Opened (now f) l × (k ≤ l .count) ⌝ }
-    ensures { λ r. ⌜ (r ≡ offsetAfter (now (f .entry)) l k) × (1 ≤ r) × (r ≤ 187199) ⌝ }
+    ensures { λ r. ⌜ (r ≡ offsetAfter (now (f .entry)) l k) × (1 ≤ r) × (r ≤ greatestOffset) ⌝ }
 {
     if k == 0 {
         return l.initial;
     }
-    let kind = big_endian::small_at(f, l.times + l.count * 8 + (k - 1));
-    zone_tzif_block::offset_is(big_endian::be32_at(f, l.times + l.count * 9 + 6 * kind))
+    let kinds = l.times + l.count * zone_tzif_block::TIME_SIZE;
+    let types = l.times + l.count * zone_tzif_block::TRANSITION_SIZE;
+    let kind = big_endian::small_at(f, kinds + (k - 1));
+    zone_tzif_block::offset_is(big_endian::be32_at(f, types + zone_tzif_head::TYPE_SIZE * kind))
 }

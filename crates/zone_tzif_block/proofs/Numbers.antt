@@ -6,12 +6,13 @@ use native.Mathlib.Omega.{arith}
 use Rattle.model.specs.Bytes.{lifted}
 use Rattle.big_endian.specs.Be.{be64}
 use Rattle.zone_tzif_block.specs.Parts.{keyAt, offsetIs}
+use Rattle.model.specs.Tzif.{offsetBias}
 
 pub key-is : (f : List ℕ) (b i : ℕ) {v r : ℕ} → v ≡ be64 f (b + 8 * i) → r ≡ lifted 8 v → r ≡ keyAt f b i
 unfolding keyAt
 key-is f b i e h = omega arith
 
-pub offset-east : (v : ℕ) → v < 2147483648 → v + 93600 ≡ offsetIs v
+pub offset-east : (v : ℕ) → v < 2147483648 → v + offsetBias ≡ offsetIs v
 unfolding offsetIs
 offset-east v h = omega arith
 

@@ -5,9 +5,17 @@ use Prim.Native.Nat.{ℕ, _+_, _<_}
 use lib.Dec.{leb, eqb}
 use lib.ListN.{length, getD}
 use Rattle.model.specs.Basic.{isIn}
-use Rattle.model.specs.Tzif.{Header, sizeOf}
+use Rattle.model.specs.Tzif.{Header, sizeOf, headerSize, magic}
 use Rattle.big_endian.specs.Be.{be32}
 use Rattle.zone_tzif_head.specs.declared.Head.{Head}
+
+-- the bound of a number of four bytes
+abbrev pub wordsEnd : ℕ
+wordsEnd = 4294967296
+
+-- a bound above the places of both headers, 2^40
+abbrev pub headersEnd : ℕ
+headersEnd = 1099511627776
 
 -- the header that the code's numbers stand for
 abbrev pub meant : Head → Header
@@ -21,9 +29,9 @@ meant h = record {
   chars = h .chars;
 }
 
--- a header stands at a: "TZif", the version '2' or '3', and room for 44 bytes
+-- a header stands at a: "TZif", the version '2' or '3', and room for all of it
 unfoldable pub headOk : List ℕ → ℕ → Bool
-headOk f a = leb (a + 44) (length f) && (eqb (be32 f a) 0x545A6966 && isIn 50 51 (getD f (a + 4) 0))
+headOk f a = leb (a + headerSize) (length f) && (eqb (be32 f a) magic && isIn 50 51 (getD f (a + 4) 0))
 
 -- the header at a
 unfoldable pub headAt : List ℕ → ℕ → Head
@@ -39,13 +47,13 @@ headAt f a = record {
 
 -- where the second header stands
 unfoldable pub secondAt : List ℕ → ℕ
-secondAt f = 44 + sizeOf 4 (meant (headAt f 0))
+secondAt f = headerSize + sizeOf 4 (meant (headAt f 0))
 
 -- what four-byte numbers allow: no sum of them wraps
 pub record Small (h : Head) : Type 0 where
-  pub uts : h .uts < 4294967296
-  pub stds : h .stds < 4294967296
-  pub leaps : h .leaps < 4294967296
-  pub times : h .times < 4294967296
-  pub types : h .types < 4294967296
-  pub chars : h .chars < 4294967296
+  pub uts : h .uts < wordsEnd
+  pub stds : h .stds < wordsEnd
+  pub leaps : h .leaps < wordsEnd
+  pub times : h .times < wordsEnd
+  pub types : h .types < wordsEnd
+  pub chars : h .chars < wordsEnd

@@ -2,7 +2,25 @@
 ghost use mathlib.Core.Path.{_≡_};
 ghost use Prim.Native.Nat.{_<_};
 ghost use Rattle.model.specs.Tzif.{countsOk, zeroOr};
-ghost use Rattle.zone_tzif_head.specs.Heads.{meant, Small, headOk, headAt, secondAt};
+ghost use Rattle.zone_tzif_head.specs.Heads.{headersEnd, meant, Small, headOk, headAt, secondAt};
+
+// The bytes of a header and of a type.
+pub const HEADER_SIZE: usize = 44;
+
+pub const TYPE_SIZE: usize = 6;
+
+// The bytes of a transition and of a leap record in the first data block, whose times have four bytes.
+const TRANSITION_SIZE: usize = 5;
+
+const LEAP_SIZE: usize = 8;
+
+// The bytes "TZif" as one number.
+const MAGIC: u32 = 0x545A6966;
+
+// The most types and transitions that a file may have.
+const MOST_TYPES: usize = 256;
+
+const MOST_TRANSITIONS: usize = 2048;
 
 // A header's version and counts.
 pub struct Head {
@@ -17,24 +35,25 @@ pub struct Head {
 
 // Does a header stand at `at`?
 pub fn head_ok(f: &[u8], at: usize) -> bool
-    requires { ⌜ at < 1099511627776 ⌝ }
+    requires { ⌜ at < headersEnd ⌝ }
     ensures { λ r. ⌜ r ≡ headOk (now (f .entry)) at ⌝ }
 {
-    if f.len() < at + 44 {
+    if f.len() < at + HEADER_SIZE {
         return false;
     }
-    if big_endian::be32_at(f, at) != 0x545A6966 {
+    if big_endian::be32_at(f, at) != MAGIC {
         return false;
     }
     let v = big_endian::byte_at(f, at + 4);
-    if v < 50 {
+    if v < b'2' {
         return false;
     }
-    v <= 51
+    v <= b'3'
 }
 
+// The header at `at`.
 pub fn head_at(f: &[u8], at: usize) -> Head
-    requires { ⌜ at < 1099511627776 ⌝ }
+    requires { ⌜ at < headersEnd ⌝ }
     ensures { λ r. ⌜ (r ≡ headAt (now (f .entry)) at) × Small r ⌝ }
 {
     Head {
@@ -50,12 +69,19 @@ pub fn head_at(f: &[u8], at: usize) -> Head
 
 // The place of the second header: the first data block is skipped by its own counts.
 pub fn second_at(f: &[u8]) -> usize
-    ensures { λ r. ⌜ (r ≡ secondAt (now (f .entry))) × (r < 1099511627776) ⌝ }
+    ensures { λ r. ⌜ (r ≡ secondAt (now (f .entry))) × (r < headersEnd) ⌝ }
 {
     let h = head_at(f, 0);
-    44 + (h.times * 5 + h.types * 6 + h.chars + h.leaps * 8 + h.stds + h.uts)
+    HEADER_SIZE
+        + (h.times * TRANSITION_SIZE
+            + h.types * TYPE_SIZE
+            + h.chars
+            + h.leaps * LEAP_SIZE
+            + h.stds
+            + h.uts)
 }
 
+// Is n 0 or k?
 fn zero_or(k: usize, n: usize) -> bool
     ensures { λ r. ⌜ r ≡ zeroOr k n ⌝ }
 {
@@ -65,16 +91,17 @@ fn zero_or(k: usize, n: usize) -> bool
     n == k
 }
 
+// Are a header's counts allowed?
 pub fn counts_ok(h: Head) -> bool
     ensures { λ r. ⌜ r ≡ countsOk (meant h) ⌝ }
 {
     if h.types < 1 {
         return false;
     }
-    if h.types > 256 {
+    if h.types > MOST_TYPES {
         return false;
     }
-    if h.times > 2048 {
+    if h.times > MOST_TRANSITIONS {
         return false;
     }
     if h.chars < 1 {

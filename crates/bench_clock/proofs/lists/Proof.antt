@@ -1,8 +1,7 @@
 -- `lists` makes one listing after the other.
 use mir.Val.{toZ}
 use mir.Syntax.{w64}
-use Prim.Native.Nat.{ℕ}
-use mathlib.Core.Path.{_≡_, refl, sym, _∙_, ap}
+use mathlib.Core.Path.{_≡_, refl, sym, _∙_}
 use lib.ListN.{length}
 use native.Mathlib.Omega.{arith}
 use borrow.Author.Needs.{needs}

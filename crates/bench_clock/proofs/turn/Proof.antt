@@ -1,5 +1,4 @@
 -- `turn` answers in place.
-use mathlib.Core.Path.{_∙_}
 use Rattle.bench_clock.proofs.Steps.{turn-is}
 use borrow.Author.Needs.{needs}
 use Rattle.bench_clock.proofs.turn.Statement.{statement}

@@ -1,22 +1,23 @@
 -- `weeks` fills in place: the first i are done.
+use mathlib.Core.Path.{_≡_, refl, _∙_}
+use Prim.Native.Nat.{_≤_, _-_}
+use native.Mathlib.Omega.{arith}
+use lib.ListN.{length, length-set}
+use borrow.Author.Needs.{needs}
 use Rattle.rule.specs.Rules.{scheduleIs}
 use Rattle.bench_week.specs.Weeks.{weekIn}
-use lib.ListN.{length, length-set}
-use Prim.Native.Nat.{_≤_, _-_}
-use borrow.Author.Needs.{needs}
-use native.Mathlib.Omega.{arith}
 use Rattle.bench_week.proofs.Steps.{Done, none-done, one-done, all-done}
 use Rattle.bench_week.proofs.weeks.Statement.{statement}
 use Rattle.bench_week.proofs.weeks.Tie as tie
 
 abbrev Inv-loop : tie.InvT-loop
-Inv-loop book pack s xs₀ i₀ xs i = Done (weekIn (scheduleIs book pack s)) xs₀ xs i × (i ≤ length xs)
+Inv-loop book pack s xs₀ on₀ off₀ out₀ i₀ xs on off out i = Done (weekIn (scheduleIs book pack s)) xs₀ xs i × (i ≤ length xs) × (length on ≡ length on₀) × (length off ≡ length off₀) × (length out ≡ length out₀)
 
 abbrev μ-loop : tie.MeasureT-loop
-μ-loop book pack s xs₀ i₀ xs i = length xs - i
+μ-loop book pack s xs₀ on₀ off₀ out₀ i₀ xs on off out i = length xs - i
 
 loop-holds : tie.Need-loop-holds Inv-loop μ-loop
-loop-holds c = (none-done _ _, omega arith)
+loop-holds c = (none-done _ _, omega arith, refl, refl, refl)
 
 mul-week : tie.Need-mul-week Inv-loop μ-loop
 mul-week c = search needs
@@ -25,7 +26,7 @@ slice-read-week : tie.Need-slice-read-week Inv-loop μ-loop
 slice-read-week c = search needs
 
 week-requires : tie.Need-week-requires Inv-loop μ-loop
-week-requires c κs = search needs
+week-requires c κs = ((c .before .before .before .before .before .before .before .before .before .before .before .before .pre .0), (omega (arith, (c .before .before .before .before .before .before .before .before .before .before .before .before .pre .1 .0), (c .before .before .before .before .before .loop .inv .2)), omega (arith, (c .before .before .before .before .before .before .before .before .before .before .before .before .pre .1 .1), (c .before .before .before .before .before .loop .inv .3)), omega (arith, (c .before .before .before .before .before .before .before .before .before .before .before .before .pre .1 .2), (c .before .before .before .before .before .loop .inv .4))))
 
 mul-xs : tie.Need-mul-xs Inv-loop μ-loop
 mul-xs c = search needs
@@ -40,10 +41,19 @@ loop-less : tie.Need-loop-less Inv-loop μ-loop
 loop-less c = simp length-set (omega arith)
 
 loop-again : tie.Need-loop-again Inv-loop μ-loop
-loop-again c = (one-done _ _ (c .before .before .before .loop .inv .0) (omega arith) (c .week .ensures), simp length-set (omega arith))
+loop-again c = (one-done _ _ (c .before .before .before .before .before .before .before .before .before .before .before .before .loop .inv .0) (omega arith) (c .before .before .before .before .before .before .week .ensures), simp length-set (omega arith), (c .before .before .before .before .before .on .given) ∙ (c .before .before .before .before .before .before .before .before .before .before .before .before .loop .inv .2), (c .before .before .before .off .given) ∙ (c .before .before .before .before .before .before .before .before .before .before .before .before .loop .inv .3), (c .before .out .given) ∙ (c .before .before .before .before .before .before .before .before .before .before .before .before .loop .inv .4))
 
 same-length : tie.Need-same-length Inv-loop μ-loop
-same-length c = c .before .loop .inv .0 .long
+same-length c = (c .before .loop .inv .0 .long)
+
+same-length-2 : tie.Need-same-length-2 Inv-loop μ-loop
+same-length-2 c = (c .before .loop .inv .2)
+
+same-length-3 : tie.Need-same-length-3 Inv-loop μ-loop
+same-length-3 c = (c .before .loop .inv .3)
+
+same-length-4 : tie.Need-same-length-4 Inv-loop μ-loop
+same-length-4 c = (c .before .loop .inv .4)
 
 returns : tie.Need-returns Inv-loop μ-loop
 returns c = all-done _ _ (c .before .loop .inv .0) (omega arith)
@@ -64,4 +74,7 @@ weeks-spec =
     loop-less
     loop-again
     same-length
+    same-length-2
+    same-length-3
+    same-length-4
     returns)

@@ -1,10 +1,8 @@
 -- `block_pairs::add` meets its contract. Assumes nothing.
 use native.Mathlib.Omega.{arith}
-use Prim.Native.Nat.{suc, _+_, _*_, _-_, _≤_, _<_}
-use lib.ListN.{length, getD, length-set}
-use mathlib.Core.Path.{_≡_, refl, sym, _∙_, ap}
+use Prim.Native.Nat.{_-_}
+use mathlib.Core.Path.{refl, sym, _∙_}
 use Rattle.block_pairs.proofs.Adding.{add-none, add-apart, add-touch}
-use Rattle.block_pairs.specs.Pairs.{EndsFrom}
 use borrow.Author.Needs.{needs}
 use Rattle.block_pairs.proofs.add.Statement.{statement}
 use Rattle.block_pairs.proofs.add.Tie as tie

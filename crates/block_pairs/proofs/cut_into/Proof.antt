@@ -1,9 +1,8 @@
 -- `block_pairs::cut_into` meets its contract. Assumes nothing.
 use borrow.Author.Needs.{needs}
 use native.Mathlib.Omega.{arith}
-use Prim.Native.Nat.{suc, _+_, _*_, _-_, _≤_, _<_}
-use lib.ListN.{length, getD, length-set}
-use mathlib.Core.Path.{_≡_, refl, sym, _∙_, ap}
+use Prim.Native.Nat.{_-_}
+use mathlib.Core.Path.{_∙_}
 use Rattle.block_pairs.proofs.Cutting.{Cutting, cut-starts, cut-runs-out, cut-past, cut-stops, cut-ends, cut-on}
 use Rattle.block_pairs.proofs.cut_into.Statement.{statement}
 use Rattle.block_pairs.proofs.cut_into.Tie as tie

@@ -1,8 +1,7 @@
 -- `block_pairs::ended` meets its contract. Assumes nothing.
 use borrow.Author.Needs.{needs}
 use native.Mathlib.Omega.{arith}
-use Prim.Native.Nat.{suc, _+_, _*_, _-_, _≤_, _<_}
-use lib.ListN.{length, getD, length-set}
+use Prim.Native.Nat.{_-_, _≤_}
 use Rattle.block_pairs.specs.Pairs.{part, Reach}
 use Rattle.block_pairs.proofs.Adding.{end-holds, end-turn}
 use Rattle.block_pairs.proofs.ended.Statement.{statement}

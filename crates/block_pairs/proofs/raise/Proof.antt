@@ -1,8 +1,7 @@
 -- `block_pairs::raise` meets its contract. Assumes nothing.
 use borrow.Author.Needs.{needs}
 use native.Mathlib.Omega.{arith}
-use Prim.Native.Nat.{suc, _+_, _*_, _-_, _≤_, _<_}
-use lib.ListN.{length, getD, length-set}
+use Prim.Native.Nat.{_-_, _≤_}
 use Rattle.block_pairs.proofs.Moving.{Raising, raise-starts, raise-turn, raise-done}
 use Rattle.block_pairs.proofs.raise.Statement.{statement}
 use Rattle.block_pairs.proofs.raise.Tie as tie

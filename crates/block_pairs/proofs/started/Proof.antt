@@ -1,10 +1,6 @@
 -- `block_pairs::started` meets its contract: a search by halves. Assumes nothing.
 use native.Mathlib.Omega.{arith}
-use mathlib.Core.Path.{_≡_, ap}
-use Prim.Native.Nat.{ℕ, suc, _+_, _*_, _-_, _/_, _≤_, _<_}
-use lib.ListN.{length, getD}
-use Rattle.laws_blocks.specs.Members.{From}
-use Rattle.block_pairs.specs.Pairs.{part}
+use Prim.Native.Nat.{_-_}
 use Rattle.block_pairs.proofs.Adding.{Halving, all-started, half-starts, half-low, half-high, half-done}
 use Rattle.block_pairs.proofs.started.Statement.{statement}
 use Rattle.block_pairs.proofs.started.Tie as tie

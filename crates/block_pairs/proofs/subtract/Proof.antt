@@ -1,9 +1,7 @@
 -- `block_pairs::subtract` meets its contract. Assumes nothing.
 use borrow.Author.Needs.{needs}
 use native.Mathlib.Omega.{arith}
-use Prim.Native.Nat.{suc, _+_, _*_, _-_, _≤_, _<_}
-use lib.ListN.{length, getD, length-set}
-use mathlib.Core.Path.{_≡_, refl, sym, _∙_, ap}
+use Prim.Native.Nat.{_-_}
 use Rattle.block_pairs.proofs.Cutting.{Subtracting, subtract-starts, subtract-order, subtract-turn, subtract-done}
 use Rattle.block_pairs.proofs.subtract.Statement.{statement}
 use Rattle.block_pairs.proofs.subtract.Tie as tie

@@ -1,9 +1,7 @@
 -- `block_pairs::total` meets its contract. Assumes nothing.
 use borrow.Author.Needs.{needs}
 use native.Mathlib.Omega.{arith}
-use Prim.Native.Nat.{suc, _+_, _*_, _-_, _≤_, _<_}
-use lib.ListN.{length, getD, length-set}
-use mathlib.Core.Path.{_≡_, refl, sym, _∙_, ap}
+use Prim.Native.Nat.{_-_}
 use Rattle.block_pairs.proofs.Cutting.{Summing, sum-starts, sum-order, sum-below, sum-turn, sum-done}
 use Rattle.block_pairs.proofs.total.Statement.{statement}
 use Rattle.block_pairs.proofs.total.Tie as tie

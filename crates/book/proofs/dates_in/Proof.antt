@@ -30,7 +30,7 @@ cast-result : tie.Need-cast-result
 cast-result c = search needs
 
 returns : tie.Need-returns
-returns c = (dates-read _ _ ((c .before .before .before .before .pre) .0) ((c .before .before .before .before .pre) .2) ((c .before .small-at .ensures .0) ∙ ap (λ (k : ℕ). getD ((c .before .before .before .before .args .book) .now) (k + 1) 0) ((c .before .before .start-at .ensures .0))) ((c .be16-at .ensures .0) ∙ ap (λ (k : ℕ). be16 ((c .before .before .before .before .args .book) .now) (k + 2 + (c .before .small-at .result))) ((c .before .before .start-at .ensures .0))), (c .be16-at .ensures .1))
+returns c = (dates-read _ _ ((c .before .before .before .before .pre) .0 .0) ((c .before .before .before .before .pre) .1) ((c .before .small-at .ensures .0) ∙ ap (λ (k : ℕ). getD ((c .before .before .before .before .args .book) .now) (k + 1) 0) ((c .before .before .start-at .ensures .0))) ((c .be16-at .ensures .0) ∙ ap (λ (k : ℕ). be16 ((c .before .before .before .before .args .book) .now) (k + 2 + (c .before .small-at .result))) ((c .before .before .start-at .ensures .0))), (c .be16-at .ensures .1))
 
 pub dates-in-spec : {M : Type 1} → statement M
 dates-in-spec =

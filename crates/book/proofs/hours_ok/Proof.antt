@@ -2,7 +2,7 @@
 use native.Mathlib.Omega.{arith}
 use borrow.Author.Tests.{not-true, not-false}
 use borrow.Author.Needs.{needs}
-use Rattle.book.proofs.Walks.{hours-length, hours-days, hours-start, hours-end}
+use Rattle.book.proofs.Times.{hours-length, hours-days, hours-start, hours-end}
 use Rattle.book.proofs.hours_ok.Statement.{statement}
 use Rattle.book.proofs.hours_ok.Tie as tie
 

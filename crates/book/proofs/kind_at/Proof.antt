@@ -1,6 +1,5 @@
 -- `book::kind_at` meets its contract.
 use mathlib.Core.Path.{_∙_, ap}
-use mathlib.Core.List.{List}
 use Prim.Native.Nat.{ℕ}
 use lib.ListN.{getD}
 use Rattle.book.proofs.Entries.{kind-read}

@@ -44,7 +44,7 @@ add-holidays : tie.Need-add-holidays Inv-loop μ-loop
 add-holidays c = omega (arith, (c .before .before .before .before .before .loop .inv))
 
 dates-in-requires : tie.Need-dates-in-requires Inv-loop μ-loop
-dates-in-requires c κs = (omega arith, omega arith, sym (c .before .before .before .kind-at .ensures) ∙ (c .if3 .taken))
+dates-in-requires c κs = ((omega arith, omega arith), sym (c .before .before .before .kind-at .ensures) ∙ (c .if3 .taken))
 
 add-dates : tie.Need-add-dates Inv-loop μ-loop
 add-dates c = omega (arith, (c .before .before .before .before .before .before .loop .inv), (c .dates-in .ensures))

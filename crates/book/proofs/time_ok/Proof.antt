@@ -1,7 +1,7 @@
 -- `book::time_ok` meets its contract.
 use native.Mathlib.Omega.{arith}
 use borrow.Author.Needs.{needs}
-use Rattle.book.proofs.Walks.{time-late, time-left}
+use Rattle.book.proofs.Times.{time-late, time-left}
 use Rattle.book.proofs.time_ok.Statement.{statement}
 use Rattle.book.proofs.time_ok.Tie as tie
 

@@ -3,7 +3,7 @@ use mathlib.Core.Path.{sym, _∙_}
 use native.Mathlib.Omega.{arith}
 use borrow.Author.Tests.{not-true, not-false}
 use Rattle.laws_calendar.specs.Dates.{IsDate, date-facts, is-had}
-use Rattle.book_dates.proofs.Turns.{no-day, day-number}
+use Rattle.book_dates.proofs.Dates.{no-day, day-number}
 use borrow.Author.Needs.{needs}
 use Rattle.book_dates.proofs.date_at.Statement.{statement}
 use Rattle.book_dates.proofs.date_at.Tie as tie

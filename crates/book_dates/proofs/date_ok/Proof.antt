@@ -1,6 +1,6 @@
 -- `book_dates::date_ok` meets its contract.
 use Rattle.book_dates.proofs.Reading.{day-says}
-use Rattle.book_dates.proofs.Turns.{date-told}
+use Rattle.book_dates.proofs.Dates.{date-told}
 use borrow.Author.Needs.{needs}
 use Rattle.book_dates.proofs.date_ok.Statement.{statement}
 use Rattle.book_dates.proofs.date_ok.Tie as tie

@@ -5,7 +5,7 @@ use native.Mathlib.Omega.{arith}
 use lib.ListN.{length}
 use borrow.Author.Tests.{not-true, not-false}
 use Rattle.book_dates.proofs.Reading.{datesTest, days-says}
-use Rattle.book_dates.proofs.Turns.{days-no, days-yes, days-end}
+use Rattle.book_dates.proofs.Dates.{days-no, days-yes, days-end}
 use Rattle.book_dates.proofs.dates_ok.Statement.{statement}
 use Rattle.book_dates.proofs.dates_ok.Tie as tie
 

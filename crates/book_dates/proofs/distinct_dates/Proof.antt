@@ -1,26 +1,23 @@
 -- `book_dates::distinct_dates` meets its contract.
+use native.Mathlib.Omega.{arith}
 use Prim.Native.Nat.{ℕ}
-use Rattle.book_dates.proofs.Same.{counted}
 use borrow.Author.Needs.{needs}
+use Rattle.book_dates.proofs.Same.{counted}
+use Rattle.book_dates.proofs.Words.{all-differ}
 use Rattle.book_dates.proofs.distinct_dates.Statement.{statement}
 use Rattle.book_dates.proofs.distinct_dates.Tie as tie
 
-dates-ok-requires : tie.Need-dates-ok-requires
-dates-ok-requires c κs = search needs
-
-distinct-words-requires : tie.Need-distinct-words-requires
-distinct-words-requires c κs = search needs
+ascend-requires : tie.Need-ascend-requires
+ascend-requires c κs = search needs
 
 returns : tie.Need-returns
-returns c = (counted _ (λ (k : ℕ). (c .before .before .before .shared-slice-known .given) k .fits) _ _ (search needs) (c .before .before .dates-ok .ensures) (c .before .if1 .taken) ((c .distinct-words .ensures) .0), (c .distinct-words .ensures) .1)
+returns c = (counted _ (λ (k : ℕ). (c .before .before .shared-slice-known .given) k .fits) _ _ (c .before .before .before .pre) (all-differ _ _ _ (c .before .ascend .ensures) (c .if1 .taken)), omega arith)
 
-plain-count-requires : tie.Need-plain-count-requires
-plain-count-requires c κs = search needs
+marked-count-requires : tie.Need-marked-count-requires
+marked-count-requires c κs = search needs
 
 returns-2 : tie.Need-returns-2
-returns-2 c = search needs
+returns-2 c = (counted _ (λ (k : ℕ). (c .before .before .before .shared-slice-known .given) k .fits) _ _ (c .before .before .before .before .pre) (c .marked-count .ensures .0), (c .marked-count .ensures .1))
 
 pub distinct-dates-spec : {M : Type 1} → statement M
-distinct-dates-spec =
-    tie.close
-    (tie.spec dates-ok-requires distinct-words-requires returns plain-count-requires returns-2)
+distinct-dates-spec = tie.close (tie.spec ascend-requires returns marked-count-requires returns-2)

@@ -1,5 +1,5 @@
 -- `book_dates::written_at` meets its contract.
-use Rattle.book_dates.proofs.Turns.{year-is}
+use Rattle.book_dates.proofs.Dates.{year-is}
 use borrow.Author.Needs.{needs}
 use Rattle.book_dates.proofs.written_at.Statement.{statement}
 use Rattle.book_dates.proofs.written_at.Tie as tie

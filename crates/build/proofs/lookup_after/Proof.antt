@@ -1,9 +1,6 @@
 -- `build::lookup_after` meets its contract. Assumes nothing.
 use native.Mathlib.Omega.{arith}
-use Prim.Native.Nat.{_+_, _*_, _-_, _≤_, _<_}
-use lib.ListN.{length}
-use borrow.Author.Needs.{needs}
-use mathlib.Core.Path.{_≡_, refl, sym, _∙_}
+use Prim.Native.Nat.{_-_}
 use Rattle.build.proofs.Lookups.{after-default, after-own, after-named}
 use Rattle.build.proofs.lookup_after.Statement.{statement}
 use Rattle.build.proofs.lookup_after.Tie as tie

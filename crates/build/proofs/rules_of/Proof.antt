@@ -1,7 +1,7 @@
 -- `build::rules_of` meets its contract.
 use mathlib.Core.Path.{sym, _∙_}
 use borrow.Author.Tests.{not-true, not-false}
-use Rattle.build.proofs.Whole.{no-book, no-limits, no-pack, no-default, open-is, reads-all}
+use Rattle.build.proofs.Refusals.{no-book, no-limits, no-pack, no-default, open-is, reads-all}
 use borrow.Author.Needs.{needs}
 use Rattle.build.proofs.rules_of.Statement.{statement}
 use Rattle.build.proofs.rules_of.Tie as tie
@@ -34,13 +34,13 @@ returns-3 : tie.Need-returns-3
 returns-3 c = no-pack _ _ (sym (c .before .before .before .before .before .before .book-ok .ensures) ∙ not-false _ (c .before .before .before .before .before .if1 .left)) (sym (c .before .before .before .before .limits-ok .ensures) ∙ not-false _ (c .before .before .before .if2 .left)) _ (c .before .before .pack-ok .ensures) (not-true _ (c .before .if3 .taken)) (c .refused3 .ensures)
 
 default-zone-requires : tie.Need-default-zone-requires
-default-zone-requires c κs = ((sym (c .before .before .before .before .before .book-ok .ensures) ∙ not-false _ (c .before .before .before .before .if1 .left)), (sym (c .before .pack-ok .ensures) ∙ not-false _ (c .if3 .left)))
+default-zone-requires c κs = ((sym (c .before .before .before .before .before .book-ok .ensures) ∙ not-false _ (c .before .before .before .before .if1 .left)), (sym (c .before .before .before .limits-ok .ensures) ∙ not-false _ (c .before .before .if2 .left)), (sym (c .before .pack-ok .ensures) ∙ not-false _ (c .if3 .left)))
 
 enum-known-d : tie.Need-enum-known-d
 enum-known-d c = search needs
 
 read-rules-requires : tie.Need-read-rules-requires
-read-rules-requires c κs = ((sym (c .before .before .before .before .before .before .before .before .before .book-ok .ensures) ∙ not-false _ (c .before .before .before .before .before .before .before .before .if1 .left)), (sym (c .before .before .before .before .before .before .before .limits-ok .ensures) ∙ not-false _ (c .before .before .before .before .before .before .if2 .left)), (sym (c .before .before .before .before .before .pack-ok .ensures) ∙ not-false _ (c .before .before .before .before .if3 .left)), open-is _ _ (sym (c .before .before .before .before .before .before .before .before .before .book-ok .ensures) ∙ not-false _ (c .before .before .before .before .before .before .before .before .if1 .left)) (sym (c .before .before .before .before .before .before .before .limits-ok .ensures) ∙ not-false _ (c .before .before .before .before .before .before .if2 .left)) (sym (c .before .before .before .before .before .pack-ok .ensures) ∙ not-false _ (c .before .before .before .before .if3 .left)) (c .before .before .before .default-zone .result) ((c .before .before .before .default-zone .ensures) .0) (c .before .d .given .1) ((c .before .before .before .default-zone .ensures) .1))
+read-rules-requires c κs = (((sym (c .before .before .before .before .before .before .before .before .before .book-ok .ensures) ∙ not-false _ (c .before .before .before .before .before .before .before .before .if1 .left)), (sym (c .before .before .before .before .before .before .before .limits-ok .ensures) ∙ not-false _ (c .before .before .before .before .before .before .if2 .left)), (sym (c .before .before .before .before .before .pack-ok .ensures) ∙ not-false _ (c .before .before .before .before .if3 .left))), open-is _ _ (sym (c .before .before .before .before .before .before .before .before .before .book-ok .ensures) ∙ not-false _ (c .before .before .before .before .before .before .before .before .if1 .left)) (sym (c .before .before .before .before .before .before .before .limits-ok .ensures) ∙ not-false _ (c .before .before .before .before .before .before .if2 .left)) (sym (c .before .before .before .before .before .pack-ok .ensures) ∙ not-false _ (c .before .before .before .before .if3 .left)) (c .before .before .before .default-zone .result) ((c .before .before .before .default-zone .ensures) .0) (c .before .d .given .1) ((c .before .before .before .default-zone .ensures) .1))
 
 returns-4 : tie.Need-returns-4
 returns-4 c = reads-all _ _ (sym (c .before .before .before .before .before .before .before .before .before .before .book-ok .ensures) ∙ not-false _ (c .before .before .before .before .before .before .before .before .before .if1 .left)) (sym (c .before .before .before .before .before .before .before .before .limits-ok .ensures) ∙ not-false _ (c .before .before .before .before .before .before .before .if2 .left)) (sym (c .before .before .before .before .before .before .pack-ok .ensures) ∙ not-false _ (c .before .before .before .before .before .if3 .left)) (c .before .before .before .before .default-zone .result) ((c .before .before .before .before .default-zone .ensures) .0) _ _ (c .before .before .d .given .1) (c .read-rules .ensures)

@@ -2,7 +2,7 @@
 use Rattle.rule.specs.Rules.{ruleIs}
 use Rattle.instant.specs.Instant.{nanos}
 use Rattle.model.specs.Walk.{onward}
-use Rattle.window_rule.proofs.Frames.{shown-inside}
+use Rattle.window_piece.proofs.Frames.{shown-inside}
 use native.Mathlib.Omega.{arith}
 use mathlib.Core.Path.{refl, _∙_, ap}
 use Rattle.build_blocks.proofs.Pieces.{piece-plain}
@@ -35,7 +35,7 @@ add-clipped : tie.Need-add-clipped
 add-clipped c = search needs
 
 add-clipped-2 : tie.Need-add-clipped-2
-add-clipped-2 c = omega (arith, (c .before .before .before .before .before .before .before .before .before .pre .2 .soon), (c .before .before .before .before .before .before .before .before .before .pre .2 .framed .near), (c .before .before .before .before .before .before .before .before .before .pre .2 .dates .few))
+add-clipped-2 c = omega (arith, (c .before .before .before .before .before .before .before .before .before .pre .2 .soon), (c .before .before .before .before .before .before .before .before .before .pre .2 .framed .close), (c .before .before .before .before .before .before .before .before .before .pre .2 .dates .few))
 
 clipped-requires : tie.Need-clipped-requires
 clipped-requires c κs = search needs

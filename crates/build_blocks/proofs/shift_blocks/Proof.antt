@@ -41,8 +41,8 @@ shifts-of-requires c κs = (all-front (RuleFits _) _ _ _ _ (c .before .loop-test
 loop2-holds : tie.Need-loop2-holds Inv-loop2 μ-loop2 Inv-loop μ-loop
 loop2-holds c = dating-starts _ _ _ _ _ _ _ (c .before .before .before .before .loop .inv .long)
 
-shows-requires : tie.Need-shows-requires Inv-loop2 μ-loop2 Inv-loop μ-loop
-shows-requires c κs = search needs
+applies-requires : tie.Need-applies-requires Inv-loop2 μ-loop2 Inv-loop μ-loop
+applies-requires c κs = search needs
 
 piece-at-requires : tie.Need-piece-at-requires Inv-loop2 μ-loop2 Inv-loop μ-loop
 piece-at-requires c κs = (all-front (RuleFits _) _ _ _ _ (c .before .before .before .before .before .before .before .loop-test .taken) (c .before .before .before .before .before .before .before .before .loop .inv .fits) (c .before .before .before .before .before .before .before .before .before .before .before .pre .1), (c .before .before .before .before .before .before .before .before .before .before .before .pre .2), (c .before .before .before .before .before .shifts-of .ensures), (c .before .before .before .loop2 .inv .1), (omega (arith, c .before .before .loop2-test .taken)))
@@ -63,7 +63,7 @@ loop2-less : tie.Need-loop2-less Inv-loop2 μ-loop2 Inv-loop μ-loop
 loop2-less c = omega (arith, (c .before .before .before .before .loop2-test .taken))
 
 loop2-again : tie.Need-loop2-again Inv-loop2 μ-loop2 Inv-loop μ-loop
-loop2-again c = (dating-on _ _ _ _ _ _ _ _ _ (c .before .before .before .before .before .loop2 .inv .0) (ruling-room _ _ _ _ _ _ _ _ (c .before .before .before .before .before .before .before .before .before .before .loop .inv) _ _ (c .before .before .before .before .before .before .before .shifts-of .ensures .dates .few) (c .before .before .before .before .before .before .before .before .before .before .before .before .before .pre .0) (c .before .before .before .before .before .before .before .before .before .loop-test .taken)) (omega (arith, c .before .before .before .before .loop2-test .taken)) (sym (c .before .before .before .shows .ensures) ∙ (c .before .before .if1 .taken)) _ (c .before .piece-at .ensures) _ (c .past .ensures), omega (arith, (c .before .before .before .before .before .loop2 .inv .1)))
+loop2-again c = (dating-on _ _ _ _ _ _ _ _ _ (c .before .before .before .before .before .loop2 .inv .0) (ruling-room _ _ _ _ _ _ _ _ (c .before .before .before .before .before .before .before .before .before .before .loop .inv) _ _ (c .before .before .before .before .before .before .before .shifts-of .ensures .dates .few) (c .before .before .before .before .before .before .before .before .before .before .before .before .before .pre .0) (c .before .before .before .before .before .before .before .before .before .loop-test .taken)) (omega (arith, c .before .before .before .before .loop2-test .taken)) (sym (c .before .before .before .applies .ensures) ∙ (c .before .before .if1 .taken)) _ (c .before .piece-at .ensures) _ (c .past .ensures), omega (arith, (c .before .before .before .before .before .loop2 .inv .1)))
 
 add-d-2 : tie.Need-add-d-2 Inv-loop2 μ-loop2 Inv-loop μ-loop
 add-d-2 c = omega (arith, (c .before .before .before .before .before .shifts-of .ensures .dates .high), (c .before .before .loop2-test .taken))
@@ -72,7 +72,7 @@ loop2-less-2 : tie.Need-loop2-less-2 Inv-loop2 μ-loop2 Inv-loop μ-loop
 loop2-less-2 c = omega (arith, (c .before .before .loop2-test .taken))
 
 loop2-again-2 : tie.Need-loop2-again-2 Inv-loop2 μ-loop2 Inv-loop μ-loop
-loop2-again-2 c = (dating-off _ _ _ _ _ _ _ _ _ (c .before .before .before .loop2 .inv .0) (omega (arith, c .before .before .loop2-test .taken)) (sym (c .before .shows .ensures) ∙ (c .if1 .left)), omega (arith, (c .before .before .before .loop2 .inv .1)))
+loop2-again-2 c = (dating-off _ _ _ _ _ _ _ _ _ (c .before .before .before .loop2 .inv .0) (omega (arith, c .before .before .loop2-test .taken)) (sym (c .before .applies .ensures) ∙ (c .if1 .left)), omega (arith, (c .before .before .before .loop2 .inv .1)))
 
 add-i : tie.Need-add-i Inv-loop2 μ-loop2 Inv-loop μ-loop
 add-i c = omega (arith, (c .before .before .before .before .before .before .before .before .before .pre .0), (c .before .before .before .before .before .loop-test .taken))
@@ -100,7 +100,7 @@ shift-blocks-spec =
     array-copy-out-r
     shifts-of-requires
     loop2-holds
-    shows-requires
+    applies-requires
     piece-at-requires
     mul-y
     element-set-from-y

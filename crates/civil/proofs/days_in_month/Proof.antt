@@ -1,6 +1,6 @@
 -- `civil::days_in_month` meets its contract.
 use native.Mathlib.Omega.{arith}
-use borrow.Author.Tests.{eq-eqb, ne-eqb}
+use borrow.Author.Tests.{ne-eqb}
 use Rattle.model.specs.Calendar.{daysInMonth}
 use borrow.Author.Needs.{needs}
 use Rattle.civil.proofs.days_in_month.Statement.{statement}

@@ -3,7 +3,7 @@ use Rattle.model.specs.Calendar.{daysInMonth}
 use mathlib.Core.Bool.{Bool}
 use mathlib.Core.Path.{sym, ap}
 use native.Mathlib.Omega.{arith}
-use Rattle.laws_calendar.specs.Dates.{date-test, no-date, IsDate}
+use Rattle.laws_calendar.specs.Dates.{date-test, no-date}
 use borrow.Author.Needs.{needs}
 use Rattle.civil.specs.DateLaws.{in-28}
 use Rattle.civil.proofs.is_date.Statement.{statement}

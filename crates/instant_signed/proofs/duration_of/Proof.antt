@@ -1,6 +1,5 @@
 -- `instant_signed::duration_of` meets its contract.
 use native.Mathlib.Omega.{arith}
-use mir.Syntax.{w64}
 use mir.Facts.{toZ-ofZ}
 use Rattle.instant_signed.specs.DurationLaws.{span-low, span-high, span-down, span-up, span-neg, span-rest, span-nat}
 use borrow.Author.Needs.{needs}

@@ -1,7 +1,7 @@
 -- `instant_signed::instant_of` meets its contract.
 use native.Mathlib.Omega.{arith}
 use mir.Facts.{toZ-ofZ}
-use Rattle.instant_signed.specs.ReadLaws.{read-out, read-at, Offsets}
+use Rattle.instant_signed.specs.ReadLaws.{read-out, read-at}
 use borrow.Author.Needs.{needs}
 use Rattle.instant_signed.proofs.instant_of.Statement.{statement}
 use Rattle.instant_signed.proofs.instant_of.Tie as tie

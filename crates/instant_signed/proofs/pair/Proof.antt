@@ -1,9 +1,10 @@
 -- `instant_signed::pair` meets its contract.
 use native.Mathlib.Omega.{arith}
-use mathlib.Core.Path.{sym, ap, _∙_}
+use mathlib.Core.Path.{_∙_}
 use mir.Syntax.{w64}
 use mir.Facts.{toZ-ofZ}
-use Rattle.instant_signed.specs.DurationLaws.{unbiased-less, unbiased-more, same-pair}
+use Rattle.instant_signed.specs.DurationLaws.{same-pair}
+use Rattle.instant_signed.specs.Signed.{unbiased-less, unbiased-more}
 use borrow.Author.Needs.{needs}
 use Rattle.instant_signed.proofs.pair.Statement.{statement}
 use Rattle.instant_signed.proofs.pair.Tie as tie

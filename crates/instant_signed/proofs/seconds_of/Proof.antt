@@ -1,5 +1,5 @@
 -- `instant_signed::seconds_of` meets its contract.
-use mathlib.Core.Path.{sym, ap, _∙_}
+use mathlib.Core.Path.{_∙_}
 use mir.Syntax.{w64}
 use mir.Facts.{toZ-ofZ}
 use Rattle.instant_signed.specs.DurationLaws.{seconds-is}

@@ -1,9 +1,10 @@
 -- `query_stream::feed` meets its contract.
 use Prim.Native.Nat.{_-_}
 use lib.ListN.{length}
+use mathlib.Core.Path.{refl}
 use native.Mathlib.Omega.{arith}
 use Rattle.model.specs.Build.{build}
-use Rattle.query_stream.proofs.Feeding.{Going, bytes-at, going-first, going-on, going-full, going-done}
+use Rattle.query_stream.proofs.Feeding.{Going, bytes-at, going-first, going-on, going-line, going-full, going-done}
 use Rattle.query_stream.proofs.feed.Statement.{statement}
 use Rattle.query_stream.proofs.feed.Tie as tie
 
@@ -25,20 +26,44 @@ same-length c = (c .before .before .before .loop .inv .kept)
 returns : tie.Need-returns Inv-loop μ-loop
 returns c = going-full _ _ _ _ _ _ _ (c .if1 .taken) (c .before .before .before .loop .inv)
 
-shared-slice-read-turn : tie.Need-shared-slice-read-turn Inv-loop μ-loop
-shared-slice-read-turn c = omega arith
-
-turn-requires : tie.Need-turn-requires Inv-loop μ-loop
-turn-requires c κs = ((c .before .before .before .before .before .before .before .before .before .before .pre .0), (omega (arith, (c .before .before .if1 .left), (c .before .before .before .before .before .loop .inv .used), (c .before .before .before .before .before .loop .inv .kept)), omega (arith, (c .before .before .before .before .before .loop .inv .here))))
+shared-slice-read-byte : tie.Need-shared-slice-read-byte Inv-loop μ-loop
+shared-slice-read-byte c = omega arith
 
 add-i : tie.Need-add-i Inv-loop μ-loop
 add-i c = omega arith
+
+end-line-requires : tie.Need-end-line-requires Inv-loop μ-loop
+end-line-requires c κs = ((c .before .before .before .before .before .before .before .before .before .before .before .pre .0), (omega (arith, (c .before .before .before .if1 .left), (c .before .before .before .before .before .before .loop .inv .used), (c .before .before .before .before .before .before .loop .inv .kept)), omega (arith, (c .before .before .before .before .before .before .loop .inv .here))))
 
 loop-less : tie.Need-loop-less Inv-loop μ-loop
 loop-less c = omega arith
 
 loop-again : tie.Need-loop-again Inv-loop μ-loop
-loop-again c = going-on _ _ _ _ _ _ _ _ _ (c .before .before .before .before .before .before .before .before .before .before .before .before .before .pre .1 .0) (bytes-at (c .before .before .before .before .before .before .before .before .before .before .before .before .before .args .input .now) (λ k. (c .before .before .before .before .before .before .before .before .before .before .shared-slice-known3 .given) k .fits)) (omega arith) (omega (arith, (c .before .before .before .before .before .if1 .left), (c .before .before .before .before .before .before .before .before .loop .inv .used), (c .before .before .before .before .before .before .before .before .loop .inv .kept))) (c .before .before .before .before .before .before .before .before .loop .inv) (c .before .before .turn .ensures) (c .before .before .turn .kept .1 .1 .1 .1 .1 .0)
+loop-again c =
+    going-line _ _ _ _ _ _ _ _ _ (c .before .before .before .before .before .before .before .before .before .before .before .before .before .before .pre .1 .0)
+    (bytes-at (c .before .before .before .before .before .before .before .before .before .before .before .before .before .before .args .input .now) (λ k. (c .before .before .before .before .before .before .before .before .before .before .before .shared-slice-known3 .given) k .fits))
+    (omega arith)
+    (omega (arith, (c .before .before .before .before .before .before .if1 .left), (c .before .before .before .before .before .before .before .before .before .loop .inv .used), (c .before .before .before .before .before .before .before .before .before .loop .inv .kept)))
+    (c .before .before .before .before .before .before .before .before .before .loop .inv)
+    (c .before .before .before .before .if2 .taken)
+    (c .before .before .end-line .ensures)
+    (c .before .before .end-line .kept .1 .1 .1 .1 .0)
+
+read-byte-requires : tie.Need-read-byte-requires Inv-loop μ-loop
+read-byte-requires c κs = (c .if2 .left, omega (arith, (c .before .before .before .before .before .loop .inv .here)))
+
+loop-less-2 : tie.Need-loop-less-2 Inv-loop μ-loop
+loop-less-2 c = omega arith
+
+loop-again-2 : tie.Need-loop-again-2 Inv-loop μ-loop
+loop-again-2 c =
+    going-on _ _ _ _ _ _ _ _ _ (c .before .before .before .before .before .before .before .before .before .before .before .pre .1 .0)
+    (bytes-at (c .before .before .before .before .before .before .before .before .before .before .before .args .input .now) (λ k. (c .before .before .before .before .before .before .before .before .shared-slice-known3 .given) k .fits))
+    (omega arith)
+    (omega (arith, (c .before .before .before .if1 .left), (c .before .before .before .before .before .before .loop .inv .used), (c .before .before .before .before .before .before .loop .inv .kept)))
+    (c .before .before .before .before .before .before .loop .inv)
+    (c .read-byte .ensures _ _)
+    refl
 
 same-length-2 : tie.Need-same-length-2 Inv-loop μ-loop
 same-length-2 c = (c .before .loop .inv .kept)
@@ -56,10 +81,13 @@ feed-spec =
     sub-if1
     same-length
     returns
-    shared-slice-read-turn
-    turn-requires
+    shared-slice-read-byte
     add-i
+    end-line-requires
     loop-less
     loop-again
+    read-byte-requires
+    loop-less-2
+    loop-again-2
     same-length-2
     returns-2)

@@ -2,7 +2,8 @@
 use borrow.Author.Tests.{not-true, not-false}
 use borrow.Author.Needs.{needs}
 use Rattle.schedule.proofs.Replies.{no-instant, no-duration, this-way, other-way, no-way}
-use Rattle.schedule.proofs.Numbers.{instant-no, instant-yes, span-no, span-yes, span-most, negated-yes, negated-no, negated-well}
+use Rattle.schedule.proofs.Numbers.{span-no, span-yes, span-most, negated-yes, negated-no, negated-well}
+use Rattle.instant_signed.specs.InstantLaws.{instant-no, instant-yes}
 use Rattle.schedule.proofs.move_in.Statement.{statement}
 use Rattle.schedule.proofs.move_in.Tie as tie
 

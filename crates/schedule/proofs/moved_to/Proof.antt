@@ -4,7 +4,7 @@ use native.Mathlib.Omega.{arith}
 use mir.Facts.{toZ-ofZ, toZ-pos}
 use mir.Syntax.{w64}
 use borrow.Author.Needs.{needs}
-use Rattle.schedule.proofs.Numbers.{instant-shown}
+use Rattle.instant_signed.specs.InstantLaws.{instant-written}
 use Rattle.model.specs.Instant.{instant}
 use Rattle.model.specs.Answer.{gives}
 use Rattle.schedule.proofs.moved_to.Statement.{statement}
@@ -20,7 +20,7 @@ cast-t7 : tie.Need-cast-t7
 cast-t7 c = search needs
 
 returns : tie.Need-returns
-returns c = (ap gives (instant-shown (c .before .before .at .result) _ _ (c .before .before .at .ensures .1 .ns) (toZ-ofZ {w = w64} (record { sfits = (c .before .seconds-of .ok) }) ∙ (c .before .seconds-of .ensures)) (toZ-pos w64 (let h = (c .before .before .at .ensures .1 .ns) in omega arith)) ∙ ap instant (c .before .before .at .ensures .0)), refl)
+returns c = (ap gives (instant-written (c .before .before .at .result) _ (c .before .before .at .ensures .1 .ns) (c .before .before .at .ensures .0) (toZ-ofZ {w = w64} (record { sfits = (c .before .seconds-of .ok) }) ∙ (c .before .seconds-of .ensures)) (toZ-pos w64 (let h = (c .before .before .at .ensures .1 .ns) in omega arith))), refl)
 
 pub moved-to-spec : {M : Type 1} → statement M
 moved-to-spec = tie.close (tie.spec at-requires seconds-of-requires cast-t7 returns)

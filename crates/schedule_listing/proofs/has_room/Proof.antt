@@ -20,7 +20,7 @@ returns : tie.Need-returns
 returns c = (room-sure _ _ _ (listing-few _ _ _ ((c .before .before .before .before .before .before .pre) .0) _ _ _ (c .before .at-most .ensures)) (c .if1 .taken), refl)
 
 walk-requires : tie.Need-walk-requires
-walk-requires c κs = ((c .before .before .before .before .before .before .before .pre) .0, (c .before .before .before .before .before .before .before .pre) .1, (c .before .before .before .before .before .before .before .pre) .2, λ f. clash false f refl)
+walk-requires c κs = record { fits = (c .before .before .before .before .before .before .before .pre) .0; start = (c .before .before .before .before .before .before .before .pre) .1; end = (c .before .before .before .before .before .before .before .pre) .2; space = λ f. clash false f refl }
 
 same-length : tie.Need-same-length
 same-length c = search needs

@@ -2,7 +2,8 @@
 use mir.Facts.{toZ-ofZ}
 use mathlib.Core.Path.{refl, sym, _∙_}
 use Rattle.walk_period.specs.Found.{period-fits}
-use Rattle.schedule_periods.proofs.Answers.{read-fits, call-out, call-refused, call-found, near-short, far-short}
+use Rattle.instant_signed.specs.InstantLaws.{instant-read}
+use Rattle.schedule_periods.proofs.Answers.{call-out, call-refused, call-found, near-short, far-short}
 use borrow.Author.Needs.{needs}
 use Rattle.schedule_periods.proofs.period_in.Statement.{statement}
 use Rattle.schedule_periods.proofs.period_in.Tie as tie
@@ -20,7 +21,7 @@ returns : tie.Need-returns
 returns c = let u = toZ-ofZ (c .before .before .before .before .before .fits .sec) in let v = toZ-ofZ (c .before .before .before .before .before .fits .ns) in let e = rw (u, v) at (c .before .before .instant-of .ensures) in call-out _ _ _ _ (sym e ∙ (c .enum-told .given .1))
 
 period-walk-requires : tie.Need-period-walk-requires
-period-walk-requires c κs = let u = toZ-ofZ (c .before .before .before .before .before .before .fits .sec) in let v = toZ-ofZ (c .before .before .before .before .before .before .fits .ns) in let e = rw (u, v) at (c .before .before .before .instant-of .ensures) in ((c .before .before .before .before .before .before .pre), read-fits _ _ _ (sym e ∙ (c .before .t .given .1)))
+period-walk-requires c κs = let u = toZ-ofZ (c .before .before .before .before .before .before .fits .sec) in let v = toZ-ofZ (c .before .before .before .before .before .before .fits .ns) in let e = rw (u, v) at (c .before .before .before .instant-of .ensures) in ((c .before .before .before .before .before .before .pre), instant-read _ _ _ (sym e ∙ (c .before .t .given .1)) .in-range)
 
 enum-told-2 : tie.Need-enum-told-2
 enum-told-2 c = search needs
@@ -32,7 +33,7 @@ enum-known-f : tie.Need-enum-known-f
 enum-known-f c = search needs
 
 period-at-requires : tie.Need-period-at-requires
-period-at-requires c κs = let u = toZ-ofZ (c .before .before .before .before .before .before .before .before .before .before .fits .sec) in let v = toZ-ofZ (c .before .before .before .before .before .before .before .before .before .before .fits .ns) in let e = rw (u, v) at (c .before .before .before .before .before .before .before .instant-of .ensures) in let i = read-fits _ _ _ (sym e ∙ (c .before .before .before .before .before .t .given .1)) in let p = period-fits (c .before .before .before .period-walk .ensures .1) (c .before .f .given .1) in (i, near-short _ i p, far-short _ i p)
+period-at-requires c κs = let u = toZ-ofZ (c .before .before .before .before .before .before .before .before .before .before .fits .sec) in let v = toZ-ofZ (c .before .before .before .before .before .before .before .before .before .before .fits .ns) in let e = rw (u, v) at (c .before .before .before .before .before .before .before .instant-of .ensures) in let i = instant-read _ _ _ (sym e ∙ (c .before .before .before .before .before .t .given .1)) .in-range in let p = period-fits (c .before .before .before .period-walk .ensures .1) (c .before .f .given .1) in (i, near-short _ i p, far-short _ i p)
 
 returns-2 : tie.Need-returns-2
 returns-2 c = let u = toZ-ofZ (c .before .before .before .before .before .before .before .before .before .fits .sec) in let v = toZ-ofZ (c .before .before .before .before .before .before .before .before .before .fits .ns) in let e = rw (u, v) at (c .before .before .before .before .before .before .instant-of .ensures) in call-refused _ _ _ _ _ (sym e ∙ (c .before .before .before .before .t .given .1)) (c .enum-told2 .given .1) (c .before .before .period-walk .ensures .0) 6 refl

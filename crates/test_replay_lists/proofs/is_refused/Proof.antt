@@ -1,5 +1,4 @@
 -- `test_replay_lists::is_refused` meets its contract. Assumes nothing.
-use borrow.Author.Needs.{needs}
 use Rattle.test_replay_lists.proofs.is_refused.Statement.{statement}
 use Rattle.test_replay_lists.proofs.is_refused.Tie as tie
 

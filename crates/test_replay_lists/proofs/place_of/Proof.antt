@@ -1,5 +1,4 @@
 -- `test_replay_lists::place_of` meets its contract. Assumes nothing.
-use borrow.Author.Needs.{needs}
 use Prim.Native.Nat.{_+_, _*_, _-_, _≤_}
 use native.Mathlib.Omega.{arith}
 use Rattle.test_replay_lists.proofs.place_of.Statement.{statement}

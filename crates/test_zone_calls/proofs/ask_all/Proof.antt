@@ -1,4 +1,4 @@
--- `ask_all` ends: a question is asked at each turn.
+-- `ask_all` ends: a question is asked at each step.
 use borrow.Author.Needs.{needs}
 use native.Mathlib.Omega.{arith}
 use Prim.Native.Nat.{_≤_, _-_}

@@ -14,11 +14,11 @@ returns c = early _ _ _ _ (c .before .local-at .ensures) (omega arith)
 answer-at-requires : tie.Need-answer-at-requires
 answer-at-requires c κs = search needs
 
-turns-at-requires : tie.Need-turns-at-requires
-turns-at-requires c κs = search needs
+changes-at-requires : tie.Need-changes-at-requires
+changes-at-requires c κs = search needs
 
 returns-2 : tie.Need-returns-2
-returns-2 c = beyond _ _ _ _ (c .before .before .before .before .local-at .ensures) (omega arith) (omega arith) (c .before .answer-at .ensures) (c .turns-at .ensures)
+returns-2 c = beyond _ _ _ _ (c .before .before .before .before .local-at .ensures) (omega arith) (omega arith) (c .before .answer-at .ensures) (c .changes-at .ensures)
 
 second-of-requires : tie.Need-second-of-requires
 second-of-requires c κs = search needs
@@ -36,7 +36,7 @@ agrees-at-spec =
     local-at-requires
     returns
     answer-at-requires
-    turns-at-requires
+    changes-at-requires
     returns-2
     second-of-requires
     answer-at-requires-2

@@ -1,4 +1,4 @@
--- `lines` ends: a zone is passed at each turn.
+-- `lines` ends: a zone is passed at each step.
 use borrow.Author.Needs.{needs}
 use native.Mathlib.Omega.{arith}
 use Prim.Native.Nat.{_≤_, _-_}

@@ -12,14 +12,11 @@ use Rattle.walk_list_week.proofs.rest.Tie as tie
 cast-result : tie.Need-cast-result
 cast-result c = search needs
 
-returns : tie.Need-returns
-returns c = let h : ((c .before .before .before .args .t .ns)) < 2 ^ 63 = omega arith in toZ-pos w64 h ∙ ap pos (omega arith)
-
 cast-result-2 : tie.Need-cast-result-2
 cast-result-2 c = search needs
 
-returns-2 : tie.Need-returns-2
-returns-2 c = let h : ((c .before .before .before .args .t .ns)) % 1000000000 < 2 ^ 63 = omega arith in toZ-pos w64 h ∙ ap pos (omega arith)
+returns : tie.Need-returns
+returns c = let h : (c .before .args .t .ns) % 1000000000 < 2 ^ 63 = omega arith in toZ-pos w64 h ∙ ap pos (omega arith)
 
 pub rest-spec : {M : Type 1} → statement M
-rest-spec = tie.close (tie.spec cast-result returns cast-result-2 returns-2)
+rest-spec = tie.close (tie.spec cast-result cast-result-2 returns)

@@ -8,31 +8,17 @@ use borrow.Author.Needs.{needs}
 use Rattle.walk_list_week.proofs.seconds.Statement.{statement}
 use Rattle.walk_list_week.proofs.seconds.Tie as tie
 
-seconds-of-requires : tie.Need-seconds-of-requires
-seconds-of-requires c κs = search needs
-
-returns : tie.Need-returns
-returns c = toZ-ofZ {w = w64} (record { sfits = (c .seconds-of .ok) }) ∙ (c .seconds-of .ensures) ∙ ap secondsFrom (omega arith)
-
 cast-seconds-of : tie.Need-cast-seconds-of
 cast-seconds-of c = search needs
 
 add-seconds-of : tie.Need-add-seconds-of
 add-seconds-of c = search needs
 
-seconds-of-requires-2 : tie.Need-seconds-of-requires-2
-seconds-of-requires-2 c κs = search needs
+seconds-of-requires : tie.Need-seconds-of-requires
+seconds-of-requires c κs = search needs
 
-returns-2 : tie.Need-returns-2
-returns-2 c = toZ-ofZ {w = w64} (record { sfits = (c .seconds-of2 .ok) }) ∙ (c .seconds-of2 .ensures) ∙ ap secondsFrom (omega arith)
+returns : tie.Need-returns
+returns c = toZ-ofZ {w = w64} (record { sfits = (c .seconds-of .ok) }) ∙ (c .seconds-of .ensures) ∙ ap secondsFrom (omega arith)
 
 pub seconds-spec : {M : Type 1} → statement M
-seconds-spec =
-    tie.close
-    (tie.spec
-    seconds-of-requires
-    returns
-    cast-seconds-of
-    add-seconds-of
-    seconds-of-requires-2
-    returns-2)
+seconds-spec = tie.close (tie.spec cast-seconds-of add-seconds-of seconds-of-requires returns)

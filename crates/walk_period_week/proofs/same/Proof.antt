@@ -1,5 +1,4 @@
 -- `walk_period_week::same` meets its contract: by its test. Assumes nothing.
-use borrow.Author.Needs.{needs}
 use Rattle.walk_period_week.proofs.Finding.{same-seconds, other-nanos}
 use Rattle.walk_period_week.proofs.same.Statement.{statement}
 use Rattle.walk_period_week.proofs.same.Tie as tie

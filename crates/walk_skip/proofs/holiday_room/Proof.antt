@@ -15,23 +15,23 @@ first-date-requires c κs = (zone-at ((c .part .ensures)) ((c .before .before .b
 last-date-requires : tie.Need-last-date-requires
 last-date-requires c κs = (zone-at ((c .before .part .ensures)) ((c .before .before .before .before .before .pre .0 .opened)), (c .before .before .before .before .before .pre .2))
 
-previous-day-requires : tie.Need-previous-day-requires
-previous-day-requires c κs = search needs
+nearest-date-requires : tie.Need-nearest-date-requires
+nearest-date-requires c κs = search needs
 
 days-behind-requires : tie.Need-days-behind-requires
 days-behind-requires c κs = search needs
 
 returns : tie.Need-returns
-returns c = closed-behind _ _ ((c .before .before .before .before .before .before .before .before .before .args .h)) ((c .before .before .before .before .before .before .before .before .before .args .a)) ((c .before .before .before .before .before .before .before .before .before .args .b)) ((c .before .before .before .before .before .before .before .before .before .pre .0)) ((c .before .before .before .before .before .before .before .before .before .pre .1)) ((c .before .before .before .before .before .before .before .before .before .pre .2)) ((c .before .before .before .before .before .part .ensures)) ((c .before .before .before .before .first-date .ensures)) ((c .before .before .before .last-date .ensures)) ((c .before .before .if1 .taken)) ((c .before .previous-day .ensures)) ((c .days-behind .ensures))
+returns c = closed-behind _ _ ((c .before .before .before .before .before .before .before .before .before .args .h)) ((c .before .before .before .before .before .before .before .before .before .args .a)) ((c .before .before .before .before .before .before .before .before .before .args .b)) ((c .before .before .before .before .before .before .before .before .before .pre .0)) ((c .before .before .before .before .before .before .before .before .before .pre .1)) ((c .before .before .before .before .before .before .before .before .before .pre .2)) ((c .before .before .before .before .before .part .ensures)) ((c .before .before .before .before .first-date .ensures)) ((c .before .before .before .last-date .ensures)) ((c .before .before .if1 .taken)) ((c .before .nearest-date .ensures)) ((c .days-behind .ensures))
 
-next-day-requires : tie.Need-next-day-requires
-next-day-requires c κs = search needs
+nearest-date-requires-2 : tie.Need-nearest-date-requires-2
+nearest-date-requires-2 c κs = search needs
 
 days-ahead-requires : tie.Need-days-ahead-requires
 days-ahead-requires c κs = search needs
 
 returns-2 : tie.Need-returns-2
-returns-2 c = closed-ahead _ _ ((c .before .before .before .before .before .before .before .before .before .args .h)) ((c .before .before .before .before .before .before .before .before .before .args .a)) ((c .before .before .before .before .before .before .before .before .before .args .b)) ((c .before .before .before .before .before .before .before .before .before .pre .0)) ((c .before .before .before .before .before .before .before .before .before .pre .1)) ((c .before .before .before .before .before .before .before .before .before .pre .2)) ((c .before .before .before .before .before .part .ensures)) ((c .before .before .before .before .first-date .ensures)) ((c .before .before .before .last-date .ensures)) ((c .before .before .if1 .left)) ((c .before .next-day .ensures)) (omega arith) ((c .days-ahead .ensures))
+returns-2 c = closed-ahead _ _ ((c .before .before .before .before .before .before .before .before .before .args .h)) ((c .before .before .before .before .before .before .before .before .before .args .a)) ((c .before .before .before .before .before .before .before .before .before .args .b)) ((c .before .before .before .before .before .before .before .before .before .pre .0)) ((c .before .before .before .before .before .before .before .before .before .pre .1)) ((c .before .before .before .before .before .before .before .before .before .pre .2)) ((c .before .before .before .before .before .part .ensures)) ((c .before .before .before .before .first-date .ensures)) ((c .before .before .before .last-date .ensures)) ((c .before .before .if1 .left)) ((c .before .nearest-date2 .ensures)) (omega arith) ((c .days-ahead .ensures))
 
 pub holiday-room-spec : {M : Type 1} → statement M
 holiday-room-spec =
@@ -40,9 +40,9 @@ holiday-room-spec =
     part-requires
     first-date-requires
     last-date-requires
-    previous-day-requires
+    nearest-date-requires
     days-behind-requires
     returns
-    next-day-requires
+    nearest-date-requires-2
     days-ahead-requires
     returns-2)

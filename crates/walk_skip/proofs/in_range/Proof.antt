@@ -11,17 +11,17 @@ returns c = (range-early _ _ (omega arith), (λ h. absurd (omega arith)), omega 
 returns-2 : tie.Need-returns-2
 returns-2 c = (range-late _ _ (omega arith) (omega (arith, (c .before .before .before .before .pre .ns))), (λ h. absurd (omega arith)), omega arith)
 
-sub-result : tie.Need-sub-result
-sub-result c = omega arith
+add-result : tie.Need-add-result
+add-result c = omega arith
 
 returns-3 : tie.Need-returns-3
 returns-3 c = (range-back _ ((c .before .before .before .before .before .before .args .t .sec)) ((c .before .before .before .before .before .before .args .t .ns)) ((c .before .if3 .taken)) refl (omega arith) (omega (arith, (c .before .before .before .before .before .before .pre .ns))), (λ h. (omega arith, omega arith)), omega arith)
 
-sub-result-2 : tie.Need-sub-result-2
-sub-result-2 c = omega arith
+add-result-2 : tie.Need-add-result-2
+add-result-2 c = omega arith
 
 returns-4 : tie.Need-returns-4
 returns-4 c = (range-on _ ((c .before .before .before .before .before .before .args .t .sec)) ((c .before .before .before .before .before .before .args .t .ns)) ((c .before .if3 .left)) refl ((c .before .before .before .before .before .before .pre .ns)) (omega arith) (omega arith), (λ h. (omega arith, omega arith)), omega arith)
 
 pub in-range-spec : {M : Type 1} → statement M
-in-range-spec = tie.close (tie.spec returns returns-2 sub-result returns-3 sub-result-2 returns-4)
+in-range-spec = tie.close (tie.spec returns returns-2 add-result returns-3 add-result-2 returns-4)

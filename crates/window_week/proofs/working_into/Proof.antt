@@ -7,7 +7,7 @@ use mathlib.Core.Path.{_≡_, refl, sym, _∙_, ap, ap₂}
 use lib.ListN.{length-map, take}
 use Rattle.instant.specs.Instant.{nanos}
 use Rattle.window_week.proofs.Whole.{ruleBlocks, rule-from, closedBlocks, closed-from, closed-are, rules-are, none-normal, window-is}
-use Rattle.window_rule.proofs.Fills.{Ruling, ruling-starts, ruling-ready, ruling-roomy, ruling-turn, ruling-done}
+use Rattle.window_piece.proofs.Fills.{Ruling, ruling-starts, ruling-ready, ruling-roomy, ruling-turn, ruling-done}
 use Rattle.window_dates.proofs.Fill.{all-front}
 use Rattle.rule.specs.Rules.{ruleIs, scheduleIs, RuleFits, HolidaysFit}
 use Rattle.window_week.proofs.working_into.Statement.{statement}
@@ -43,7 +43,7 @@ element-copy-out-r c = omega (arith, (c .before .before .before .before .before 
 
 rule-into-requires :
     tie.Need-rule-into-requires Inv-loop μ-loop Inv-loop2 μ-loop2 Inv-loop3 μ-loop3
-rule-into-requires c κs = (all-front (RuleFits (c .before .before .before .before .before .before .before .before .before .args .pack .now)) _ _ _ _ (c .before .before .loop-test .taken) (c .before .before .before .loop .inv .fits) (c .before .before .before .before .before .before .before .before .before .pre .0 .work-fits), (c .before .before .before .before .before .before .before .before .before .pre .1), ruling-ready _ _ _ _ _ _ _ _ _ _ _ (c .before .before .before .loop .inv) (c .before .before .loop-test .taken) (omega (arith, (c .before .before .before .before .before .before .before .before .before .pre .2))))
+rule-into-requires c κs = (all-front (RuleFits (c .before .before .before .before .before .before .before .before .before .args .pack .now)) _ _ _ _ (c .before .before .loop-test .taken) (c .before .before .before .loop .inv .fits) (c .before .before .before .before .before .before .before .before .before .pre .0 .work-fits), (c .before .before .before .before .before .before .before .before .before .pre .1), ruling-ready _ _ _ _ _ _ _ _ _ _ _ (c .before .before .before .loop .inv) (c .before .before .loop-test .taken) (omega (arith, (c .before .before .before .before .before .before .before .before .before .pre .2 .0))))
 
 add-i : tie.Need-add-i Inv-loop μ-loop Inv-loop2 μ-loop2 Inv-loop3 μ-loop3
 add-i c = omega (arith, (c .before .before .before .before .before .before .before .before .before .before .before .before .pre .0 .works), (c .before .before .before .before .before .loop-test .taken))
@@ -66,7 +66,7 @@ element-copy-out-r-2 c = omega (arith, (c .before .before .before .before .befor
 
 rule-into-requires-2 :
     tie.Need-rule-into-requires-2 Inv-loop μ-loop Inv-loop2 μ-loop2 Inv-loop3 μ-loop3
-rule-into-requires-2 c κs = (all-front (RuleFits (c .before .before .before .before .before .before .before .before .before .before .before .args .pack .now)) _ _ _ _ (c .before .before .loop2-test .taken) (c .before .before .before .loop2 .inv .fits) (c .before .before .before .before .before .before .before .before .before .before .before .pre .0 .breaks-fit), (c .before .before .before .before .before .before .before .before .before .before .before .pre .1), ruling-ready _ _ _ _ _ _ _ _ _ _ _ (c .before .before .before .loop2 .inv) (c .before .before .loop2-test .taken) (omega (arith, (c .before .before .before .before .before .before .before .before .before .before .before .pre .3))))
+rule-into-requires-2 c κs = (all-front (RuleFits (c .before .before .before .before .before .before .before .before .before .before .before .args .pack .now)) _ _ _ _ (c .before .before .loop2-test .taken) (c .before .before .before .loop2 .inv .fits) (c .before .before .before .before .before .before .before .before .before .before .before .pre .0 .breaks-fit), (c .before .before .before .before .before .before .before .before .before .before .before .pre .1), ruling-ready _ _ _ _ _ _ _ _ _ _ _ (c .before .before .before .loop2 .inv) (c .before .before .loop2-test .taken) (omega (arith, (c .before .before .before .before .before .before .before .before .before .before .before .pre .2 .1))))
 
 add-i-2 : tie.Need-add-i-2 Inv-loop μ-loop Inv-loop2 μ-loop2 Inv-loop3 μ-loop3
 add-i-2 c = omega (arith, (c .before .before .before .before .before .before .before .before .before .before .before .before .before .before .pre .0 .pauses), (c .before .before .before .before .before .loop2-test .taken))
@@ -89,7 +89,7 @@ element-copy-out-c c = omega (arith, (c .before .before .before .before .before 
 
 holidays-into-requires :
     tie.Need-holidays-into-requires Inv-loop μ-loop Inv-loop2 μ-loop2 Inv-loop3 μ-loop3
-holidays-into-requires c κs = (all-front (HolidaysFit (c .before .before .before .before .before .before .before .before .before .before .before .before .before .args .book .now) (c .before .before .before .before .before .before .before .before .before .before .before .before .before .args .pack .now)) _ _ _ _ (c .before .before .loop3-test .taken) (c .before .before .before .loop3 .inv .fits) (c .before .before .before .before .before .before .before .before .before .before .before .before .before .pre .0 .closed-fits), (c .before .before .before .before .before .before .before .before .before .before .before .before .before .pre .1), ruling-roomy _ _ _ _ _ _ _ _ _ _ _ (c .before .before .before .loop3 .inv) (c .before .before .loop3-test .taken) (omega (arith, (c .before .before .before .before .before .before .before .before .before .before .before .before .before .pre .3), (c .before .before .before .before .before .loop2 .inv .count), (c .before .before .before .before .before .loop2 .inv .upto), (c .before .before .before .before .before .loop2 .inv .long))))
+holidays-into-requires c κs = (all-front (HolidaysFit (c .before .before .before .before .before .before .before .before .before .before .before .before .before .args .book .now) (c .before .before .before .before .before .before .before .before .before .before .before .before .before .args .pack .now)) _ _ _ _ (c .before .before .loop3-test .taken) (c .before .before .before .loop3 .inv .fits) (c .before .before .before .before .before .before .before .before .before .before .before .before .before .pre .0 .closed-fits), (c .before .before .before .before .before .before .before .before .before .before .before .before .before .pre .1), ruling-roomy _ _ _ _ _ _ _ _ _ _ _ (c .before .before .before .loop3 .inv) (c .before .before .loop3-test .taken) (omega (arith, (c .before .before .before .before .before .before .before .before .before .before .before .before .before .pre .2 .1), (c .before .before .before .before .before .loop2 .inv .count), (c .before .before .before .before .before .loop2 .inv .upto), (c .before .before .before .before .before .loop2 .inv .long))))
 
 add-i-3 : tie.Need-add-i-3 Inv-loop μ-loop Inv-loop2 μ-loop2 Inv-loop3 μ-loop3
 add-i-3 c = omega (arith, (c .before .before .before .before .before .before .before .before .before .before .before .before .before .before .before .before .pre .0 .closings), (c .before .before .before .before .before .loop3-test .taken))
@@ -101,7 +101,7 @@ loop3-again : tie.Need-loop3-again Inv-loop μ-loop Inv-loop2 μ-loop2 Inv-loop3
 loop3-again c = ruling-turn _ _ _ _ _ _ _ _ _ _ _ (c .before .before .before .before .before .before .loop3 .inv) (c .before .before .before .before .before .loop3-test .taken) _ _ _ (c .before .before .holidays-into .ensures)
 
 subtract-requires : tie.Need-subtract-requires Inv-loop μ-loop Inv-loop2 μ-loop2 Inv-loop3 μ-loop3
-subtract-requires c κs = ((c .before .before .before .before .before .before .before .before .loop .inv .normal), omega (arith, (c .before .before .before .before .before .before .before .before .before .before .before .before .before .before .pre .2), (c .before .before .before .before .before .before .before .before .loop .inv .count), (c .before .before .before .before .before .before .before .before .loop .inv .upto), (c .before .before .before .before .before .before .before .before .loop .inv .long)), omega (arith, (c .before .before .before .before .before .before .before .before .before .before .before .before .before .before .pre .3), (c .before .before .before .before .before .before .loop2 .inv .count), (c .before .before .before .before .before .before .loop2 .inv .upto), (c .before .before .before .before .before .before .loop2 .inv .long), (c .before .before .before .before .loop3 .inv .count), (c .before .before .before .before .loop3 .inv .upto), (c .before .before .before .before .loop3 .inv .long)), omega (arith, (c .before .before .before .before .before .before .before .before .before .before .before .before .before .before .pre .4), (c .before .before .before .before .before .before .before .before .loop .inv .count), (c .before .before .before .before .before .before .before .before .loop .inv .upto), (c .before .before .before .before .before .before .loop2 .inv .count), (c .before .before .before .before .before .before .loop2 .inv .upto), (c .before .before .before .before .loop3 .inv .count), (c .before .before .before .before .loop3 .inv .upto)))
+subtract-requires c κs = ((c .before .before .before .before .before .before .before .before .loop .inv .normal), omega (arith, (c .before .before .before .before .before .before .before .before .before .before .before .before .before .before .pre .2 .0), (c .before .before .before .before .before .before .before .before .loop .inv .count), (c .before .before .before .before .before .before .before .before .loop .inv .upto), (c .before .before .before .before .before .before .before .before .loop .inv .long)), omega (arith, (c .before .before .before .before .before .before .before .before .before .before .before .before .before .before .pre .2 .1), (c .before .before .before .before .before .before .loop2 .inv .count), (c .before .before .before .before .before .before .loop2 .inv .upto), (c .before .before .before .before .before .before .loop2 .inv .long), (c .before .before .before .before .loop3 .inv .count), (c .before .before .before .before .loop3 .inv .upto), (c .before .before .before .before .loop3 .inv .long)), omega (arith, (c .before .before .before .before .before .before .before .before .before .before .before .before .before .before .pre .2 .2), (c .before .before .before .before .before .before .before .before .loop .inv .count), (c .before .before .before .before .before .before .before .before .loop .inv .upto), (c .before .before .before .before .before .before .loop2 .inv .count), (c .before .before .before .before .before .before .loop2 .inv .upto), (c .before .before .before .before .loop3 .inv .count), (c .before .before .before .before .loop3 .inv .upto)))
 
 same-length : tie.Need-same-length Inv-loop μ-loop Inv-loop2 μ-loop2 Inv-loop3 μ-loop3
 same-length c = (c .before .before .before .before .before .before .before .before .before .before .before .loop .inv .long)

@@ -4,23 +4,17 @@ use Rattle.zone.specs.Zones.{inRun}
 use borrow.Author.Needs.{needs}
 use Rattle.zone.proofs.in_run.Statement.{statement}
 use Rattle.zone.proofs.in_run.Tie as tie
-use Rattle.zone.proofs.in_run.Reads as reads
-use Rattle.zone.proofs.in_run.Lts as lts
 
--- src/lib.rt:40:8
 add-if1 : tie.Need-add-if1
 add-if1 c = search needs
 
--- src/lib.rt:41:16
 sub-result : tie.Need-sub-result
 sub-result c = search needs
 
--- src/lib.rt:41:9
 returns : tie.Need-returns
 unfolding inRun
 returns c = search tests
 
--- src/lib.rt:36:1
 returns-2 : tie.Need-returns-2
 unfolding inRun
 returns-2 c = search tests

@@ -9,10 +9,6 @@ use Rattle.zone.specs.Zones.{meant}
 use Rattle.zone.proofs.Steps.{in-run-yes, after-found, after-next}
 use Rattle.zone.proofs.read_after.Statement.{statement}
 use Rattle.zone.proofs.read_after.Tie as tie
-use Rattle.zone.proofs.read_after.Reads as reads
-use Rattle.zone.proofs.read_after.Lts as lts
-use Rattle.zone.proofs.in_run.Reads as in-run-reads
-use Rattle.zone.proofs.run_at.Reads as run-at-reads
 
 abbrev Inv-loop : tie.InvT-loop
 Inv-loop f z x from d u₀ u = Past (offsetAt (meant f z)) x u d
@@ -20,43 +16,33 @@ Inv-loop f z x from d u₀ u = Past (offsetAt (meant f z)) x u d
 abbrev μ-loop : tie.MeasureT-loop
 μ-loop f z x from d u₀ u = x - u
 
--- src/lib.rt:52:5
 loop-holds : tie.Need-loop-holds Inv-loop μ-loop
 loop-holds c = (c .before .pre) .2
 
--- src/lib.rt:53:13
 run-at-requires : tie.Need-run-at-requires Inv-loop μ-loop
 run-at-requires c κs = ((c .before .before .before .pre) .0, omega arith)
 
--- src/lib.rt:54:22
 cast-in-run : tie.Need-cast-in-run Inv-loop μ-loop
 cast-in-run c = search needs
 
--- src/lib.rt:54:12
 in-run-requires : tie.Need-in-run-requires Inv-loop μ-loop
 in-run-requires c κs = (omega arith, omega (arith, c .before .run-at .ensures .0, offset-fits _ ((c .before .before .before .before .before .pre) .0 .fits) (c .before .before .before .loop .u)))
 
--- src/lib.rt:55:24
 cast-result : tie.Need-cast-result Inv-loop μ-loop
 cast-result c = search needs
 
--- src/lib.rt:55:20
 sub-result : tie.Need-sub-result Inv-loop μ-loop
 sub-result c = let k = in-run-yes _ _ _ _ (sym (c .before .before .in-run .ensures) ∙ c .before .if1 .taken) in omega arith
 
--- src/lib.rt:55:13
 returns : tie.Need-returns Inv-loop μ-loop
 returns c = after-found (c .before .before .before .before .before .before .loop .inv) (c .before .before .before .before .run-at .ensures .0) (c .before .before .before .before .run-at .ensures .1) (c .before .before .in-run .ensures) (c .before .if1 .taken)
 
--- src/lib.rt:52:5
 loop-less : tie.Need-loop-less Inv-loop μ-loop
 loop-less c = omega (arith, c .before .before .before .run-at .ensures .1 .on)
 
--- src/lib.rt:52:5
 loop-again : tie.Need-loop-again Inv-loop μ-loop
 loop-again c = after-next (c .before .before .before .before .before .loop .inv) (c .before .before .before .run-at .ensures .0) (c .before .before .before .run-at .ensures .1) (c .before .in-run .ensures) (c .if1 .left)
 
--- src/lib.rt:47:1
 returns-2 : tie.Need-returns-2 Inv-loop μ-loop
 returns-2 c = past-done _ (λ u. offset-fits _ ((c .before .before .before .pre) .0 .fits) u .0) (λ u. offset-fits _ ((c .before .before .before .pre) .0 .fits) u .1) _ (c .before .loop .inv) (omega arith)
 

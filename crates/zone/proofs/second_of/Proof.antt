@@ -8,10 +8,6 @@ use Rattle.zone.specs.Zones.{meant}
 use Rattle.zone.proofs.Steps.{At, at-start, at-off, at-found, at-next, at-jump}
 use Rattle.zone.proofs.second_of.Statement.{statement}
 use Rattle.zone.proofs.second_of.Tie as tie
-use Rattle.zone.proofs.second_of.Reads as reads
-use Rattle.zone.proofs.second_of.Lts as lts
-use Rattle.zone.proofs.read_after.Reads as read-after-reads
-use Rattle.zone.proofs.run_at.Reads as run-at-reads
 
 abbrev Inv-loop : tie.InvT-loop
 Inv-loop f z x off₀ until₀ off until = At (offsetAt (meant f z)) x off until

@@ -2,15 +2,10 @@ use Rattle.zone.proofs.Opens.{utc-is}
 use borrow.Author.Needs.{needs}
 use Rattle.zone.proofs.utc.Statement.{statement}
 use Rattle.zone.proofs.utc.Tie as tie
-use Rattle.zone.proofs.utc.Reads as reads
-use Rattle.zone.proofs.utc.Lts as lts
-use Rattle.zone_tzif.proofs.utc.Reads as utc-reads
 
--- src/lib.rt:57:9
 utc-requires : tie.Need-utc-requires
 utc-requires c κs = search needs
 
--- src/lib.rt:54:1
 returns : tie.Need-returns
 returns c = utc-is _ (c .utc .ensures)
 

@@ -1,5 +1,4 @@
 -- `zone_calls::day_given` meets its contract.
-use mathlib.Core.Path.{_∙_}
 use mir.Facts.{toZ-ofZ}
 use Rattle.zone_calls.specs.CallLaws.{day-is}
 use borrow.Author.Needs.{needs}

@@ -1,5 +1,5 @@
 -- `zone_changes::by_all_years` meets its contract.
-use Rattle.zone_changes.proofs.Spans.{by-all-years-daylight, by-all-years-standard}
+use Rattle.zone_changes.proofs.Offsets.{by-all-years-daylight, by-all-years-standard}
 use native.Mathlib.Omega.{arith}
 use borrow.Author.Needs.{needs}
 use Rattle.zone_changes.proofs.by_all_years.Statement.{statement}

@@ -1,5 +1,5 @@
 -- `zone_changes::by_two_changes` meets its contract.
-use Rattle.zone_changes.specs.Meaning.{unclear, between, ahead, behind}
+use Rattle.zone_changes.specs.Meaning.{undecided, between, ahead, behind}
 use native.Mathlib.Omega.{arith}
 use mathlib.Core.Path.{refl}
 use borrow.Author.Needs.{needs}
@@ -13,7 +13,7 @@ returns : tie.Need-returns
 returns c = ahead refl (omega arith) (omega arith)
 
 returns-2 : tie.Need-returns-2
-returns-2 c = unclear (omega arith)
+returns-2 c = undecided (omega arith)
 
 add-if4 : tie.Need-add-if4
 add-if4 c = search needs
@@ -22,7 +22,7 @@ returns-3 : tie.Need-returns-3
 returns-3 c = between refl (omega arith) (omega arith) (omega arith)
 
 returns-4 : tie.Need-returns-4
-returns-4 c = unclear (omega arith)
+returns-4 c = undecided (omega arith)
 
 add-t11 : tie.Need-add-t11
 add-t11 c = search needs

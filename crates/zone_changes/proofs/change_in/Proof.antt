@@ -27,7 +27,7 @@ difference-requires : tie.Need-difference-requires
 difference-requires c κs = search needs
 
 returns : tie.Need-returns
-returns c = change-is (c .before .before .args .offset) (c .before .before .args .year) (changeRuleIs (c .before .before .args .turn)) (c .before .day-in .ensures) (c .difference .ensures)
+returns c = change-is (c .before .before .args .offset) (c .before .before .args .year) (changeRuleIs (c .before .before .args .rule)) (c .before .day-in .ensures) (c .difference .ensures)
 
 pub change-in-spec : {M : Type 1} → statement M
 change-in-spec =

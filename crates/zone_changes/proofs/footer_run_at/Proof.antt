@@ -1,5 +1,5 @@
 -- `zone_changes::footer_run_at` meets its contract.
-use Rattle.zone_changes.proofs.Spans.{empty-spans, broken-spans, fixed-spans, rules-fit, rules-span}
+use Rattle.zone_changes.proofs.Offsets.{empty-stays, broken-stays, fixed-stays, rules-fit, rules-stay}
 use native.Mathlib.Omega.{arith}
 use borrow.Author.Needs.{needs}
 use Rattle.zone_changes.proofs.footer_run_at.Statement.{statement}
@@ -24,22 +24,22 @@ by-one-year-requires : tie.Need-by-one-year-requires
 by-one-year-requires c κs = (rules-fit (c .before .footer2 .given .1) ((c .before .before .before .pre) .0), (c .before .before .before .pre) .1)
 
 returns : tie.Need-returns
-returns c = rules-span (c .before .before .before .before .footer2 .given .1) _ ((c .before .before .by-one-year .ensures) _ (omega arith))
+returns c = rules-stay (c .before .before .before .before .footer2 .given .1) _ ((c .before .before .by-one-year .ensures) _ (omega arith))
 
 by-all-years-requires : tie.Need-by-all-years-requires
 by-all-years-requires c κs = (rules-fit (c .before .before .before .before .footer2 .given .1) ((c .before .before .before .before .before .before .pre) .0), (c .before .before .before .before .before .before .pre) .1)
 
 returns-2 : tie.Need-returns-2
-returns-2 c = empty-spans _ (c .enum-told .given .1) (omega arith)
+returns-2 c = empty-stays _ (c .enum-told .given .1) (omega arith)
 
 returns-3 : tie.Need-returns-3
-returns-3 c = broken-spans _ (c .enum-told2 .given .1) (omega arith)
+returns-3 c = broken-stays _ (c .enum-told2 .given .1) (omega arith)
 
 returns-4 : tie.Need-returns-4
-returns-4 c = fixed-spans _ (c .before .footer .given .1) (omega arith)
+returns-4 c = fixed-stays _ (c .before .footer .given .1) (omega arith)
 
 returns-5 : tie.Need-returns-5
-returns-5 c = rules-span (c .before .before .before .before .before .footer2 .given .1) _ ((c .by-all-years .ensures) _)
+returns-5 c = rules-stay (c .before .before .before .before .before .footer2 .given .1) _ ((c .by-all-years .ensures) _)
 
 pub footer-run-at-spec : {M : Type 1} → statement M
 footer-run-at-spec =

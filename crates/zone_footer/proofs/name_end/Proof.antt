@@ -4,7 +4,7 @@ use lib.ListN.{length}
 use Rattle.model.specs.Footer.{isNameByte}
 use borrow.Author.Tests.{not-true, not-false}
 use borrow.Author.Needs.{needs}
-use Rattle.zone_footer_numbers.proofs.Walks.{Spanning, span-begins, span-end, span-no, span-on}
+use Rattle.zone_footer_numbers.proofs.Loops.{Spanning, span-begins, span-end, span-no, span-on}
 use Rattle.zone_footer.proofs.name_end.Statement.{statement}
 use Rattle.zone_footer.proofs.name_end.Tie as tie
 

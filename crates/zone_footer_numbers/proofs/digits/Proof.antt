@@ -1,7 +1,7 @@
 -- `zone_footer_numbers::digits` meets its contract.
 use native.Mathlib.Omega.{arith}
 use borrow.Author.Needs.{needs}
-use Rattle.zone_footer_numbers.proofs.Walks.{Counting, count-begins, count-small, count-more, count-end, count-full, count-low, count-high, count-on}
+use Rattle.zone_footer_numbers.proofs.Loops.{Counting, count-begins, count-small, count-more, count-end, count-full, count-low, count-high, count-on}
 use Rattle.zone_footer_numbers.proofs.digits.Statement.{statement}
 use Rattle.zone_footer_numbers.proofs.digits.Tie as tie
 

@@ -1,4 +1,4 @@
--- `zone_local::block_on` meets its contract. Assumes nothing.
+-- `zone_local::block_on` meets its contract.
 use Rattle.zone_local.proofs.Facts.{start-is}
 use borrow.Author.Needs.{needs}
 use Rattle.zone_local.proofs.block_on.Statement.{statement}

@@ -1,4 +1,4 @@
--- `zone_local::end_of` meets its contract. Assumes nothing.
+-- `zone_local::end_of` meets its contract.
 use mathlib.Core.Path.{_∙_, sym, refl}
 use Rattle.zone_local.proofs.Facts.{end-same, end-next, end-last}
 use borrow.Author.Needs.{needs}

@@ -1,4 +1,4 @@
--- `zone_local::first_date` meets its contract. Assumes nothing.
+-- `zone_local::first_date` meets its contract.
 use Rattle.zone_local.proofs.Facts.{first-back, first-here}
 use borrow.Author.Needs.{needs}
 use Rattle.zone_local.proofs.first_date.Statement.{statement}

@@ -1,4 +1,4 @@
--- `zone_local::is_before` meets its contract. Assumes nothing.
+-- `zone_local::is_before` meets its contract.
 use Rattle.zone_local.proofs.Facts.{same-second, other-second}
 use Rattle.zone_local.proofs.is_before.Statement.{statement}
 use Rattle.zone_local.proofs.is_before.Tie as tie

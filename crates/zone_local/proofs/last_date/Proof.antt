@@ -1,4 +1,4 @@
--- `zone_local::last_date` meets its contract. Assumes nothing.
+-- `zone_local::last_date` meets its contract.
 use Rattle.zone_local.proofs.Facts.{last-on, last-here}
 use borrow.Author.Needs.{needs}
 use Rattle.zone_local.proofs.last_date.Statement.{statement}

@@ -1,4 +1,4 @@
--- `zone_local::local_day` meets its contract. Assumes nothing.
+-- `zone_local::local_day` meets its contract.
 use Rattle.zone_local.proofs.Facts.{local-is}
 use borrow.Author.Needs.{needs}
 use Rattle.zone_local.proofs.local_day.Statement.{statement}

@@ -1,4 +1,4 @@
--- `zone_local::one_offset` meets its contract. Assumes nothing.
+-- `zone_local::one_offset` meets its contract.
 use Rattle.zone_local.proofs.Facts.{kept-run}
 use borrow.Author.Needs.{needs}
 use Rattle.zone_local.proofs.one_offset.Statement.{statement}

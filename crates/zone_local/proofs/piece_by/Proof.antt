@@ -1,4 +1,4 @@
--- `zone_local::piece_by` meets its contract. Assumes nothing.
+-- `zone_local::piece_by` meets its contract.
 use Prim.Native.Nat.{_<_}
 use native.Mathlib.Omega.{arith}
 use Rattle.zone_local.proofs.Facts.{kept-small, plain-piece}

@@ -1,4 +1,4 @@
--- `zone_local::piece_on` meets its contract. Assumes nothing.
+-- `zone_local::piece_on` meets its contract.
 use Rattle.zone_local.proofs.Facts.{piece-is}
 use borrow.Author.Needs.{needs}
 use Rattle.zone_local.proofs.piece_on.Statement.{statement}

@@ -1,4 +1,4 @@
--- `zone_local::plain_block` meets its contract. Assumes nothing.
+-- `zone_local::plain_block` meets its contract.
 use Rattle.civil.specs.Dates.{timeIn}
 use mathlib.Core.Path.{refl, sym, _∙_}
 use Rattle.zone_local.proofs.Facts.{plain-start, plain-same, plain-next}

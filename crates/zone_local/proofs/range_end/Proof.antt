@@ -1,4 +1,4 @@
--- `zone_local::range_end` meets its contract. Assumes nothing.
+-- `zone_local::range_end` meets its contract.
 use native.Mathlib.Omega.{arith}
 use Rattle.zone_local.proofs.Facts.{end-early, end-late}
 use Rattle.zone_local.proofs.range_end.Statement.{statement}

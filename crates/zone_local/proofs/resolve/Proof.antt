@@ -1,4 +1,4 @@
--- `zone_local::resolve` meets its contract. Assumes nothing.
+-- `zone_local::resolve` meets its contract.
 use mathlib.Core.Path.{_∙_}
 use Rattle.zone_local.proofs.Facts.{resolve-kept, resolve-early, resolve-late}
 use borrow.Author.Needs.{needs}

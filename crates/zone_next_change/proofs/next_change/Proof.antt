@@ -8,12 +8,13 @@ use Prim.Native.Nat.{_+_, _-_}
 use native.Mathlib.Omega.{arith}
 use Rattle.zone_next_change.proofs.next_change.Statement.{statement}
 use Rattle.zone_next_change.proofs.next_change.Tie as tie
+use Rattle.instant.specs.Instant.{lastSecond}
 
 abbrev Inv-loop : tie.InvT-loop
 Inv-loop f z u r until₀ until = Run (offsetAt (meant f z)) u until
 
 abbrev μ-loop : tie.MeasureT-loop
-μ-loop f z u r until₀ until = 643761727201 - until
+μ-loop f z u r until₀ until = lastSecond + 1 - until
 
 returns : tie.Need-returns Inv-loop μ-loop
 returns c = late-never _ _ (omega arith)

@@ -1,6 +1,6 @@
 -- `zone_pack::find_in` meets its contract.
 use borrow.Author.Needs.{needs}
-use Rattle.zone_pack.proofs.Walks.{findFrom, find-none, find-hit, find-miss}
+use Rattle.zone_pack.proofs.Loops.{findFrom, find-none, find-hit, find-miss}
 use Prim.Native.Nat.{_-_, _≤_}
 use mathlib.Core.Path.{_≡_}
 use native.Mathlib.Nat.{sub-zero}

@@ -4,7 +4,7 @@ use mathlib.Core.Path.{_≡_}
 use Prim.Native.Nat.{_≤_, _-_}
 use lib.ListN.{length, drop}
 use Rattle.model.specs.Pack.{sameName}
-use Rattle.zone_pack.proofs.Walks.{name-lengths, name-no, name-yes, name-end}
+use Rattle.zone_pack.proofs.Loops.{name-lengths, name-no, name-yes, name-end}
 use Rattle.zone_pack.proofs.same_name.Statement.{statement}
 use Rattle.zone_pack.proofs.same_name.Tie as tie
 

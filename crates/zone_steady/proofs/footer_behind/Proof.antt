@@ -1,4 +1,4 @@
--- `zone_steady::footer_behind` meets its contract: by the kind of footer. Assumes nothing.
+-- `zone_steady::footer_behind` meets its contract: by the kind of footer.
 use native.Mathlib.Omega.{arith}
 use Rattle.zone_steady.proofs.Steps.{empty-behind, broken-behind, fixed-behind, start-fits, end-fits, daylight-behind, standard-behind}
 use borrow.Author.Needs.{needs}

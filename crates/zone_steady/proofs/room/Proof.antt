@@ -1,4 +1,4 @@
--- `zone_steady::room` meets its contract: by its two ways. Assumes nothing.
+-- `zone_steady::room` meets its contract: by its two ways.
 use Rattle.zone_steady.proofs.Steps.{room-back, room-on}
 use borrow.Author.Needs.{needs}
 use Rattle.zone_steady.proofs.room.Statement.{statement}

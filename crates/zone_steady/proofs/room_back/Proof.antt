@@ -1,4 +1,4 @@
--- `zone_steady::room_back` meets its contract: the loop keeps a run back from hi. Assumes nothing.
+-- `zone_steady::room_back` meets its contract: the loop keeps a run back from hi.
 use Rattle.zone_steady.proofs.Steps.{back-changes, back-stays, back-on}
 use Rattle.zone_steady.specs.Steady.{Back}
 use Rattle.zone.specs.Zones.{meant}

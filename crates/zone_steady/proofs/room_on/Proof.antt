@@ -1,4 +1,4 @@
--- `zone_steady::room_on` meets its contract: the loop keeps a run from lo. Assumes nothing.
+-- `zone_steady::room_on` meets its contract: the loop keeps a run from lo.
 use Rattle.zone_steady.proofs.Steps.{on-changes, on-stays}
 use Rattle.zone.specs.Zones.{meant}
 use Rattle.laws_zone.specs.Zones.{fits-sound}

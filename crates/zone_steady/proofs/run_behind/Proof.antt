@@ -1,4 +1,4 @@
--- `zone_steady::run_behind` meets its contract: before the last transition the table counts, then the footer. Assumes nothing.
+-- `zone_steady::run_behind` meets its contract: before the last transition the table counts, then the footer.
 use native.Mathlib.Omega.{arith}
 use Rattle.zone_steady.proofs.Steps.{since-le, early-back, late-back}
 use Rattle.zone.proofs.Steps.{early-offset, late-offset}

@@ -1,4 +1,4 @@
--- `zone_steady::table_since` meets its contract: by its test. Assumes nothing.
+-- `zone_steady::table_since` meets its contract: by its test.
 use Rattle.zone_steady.proofs.Steps.{since-first, since-next}
 use borrow.Author.Needs.{needs}
 use Rattle.zone_steady.proofs.table_since.Statement.{statement}

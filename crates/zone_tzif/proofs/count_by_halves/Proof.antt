@@ -1,7 +1,6 @@
 -- `zone_tzif::count_by_halves` meets its contract.
 use borrow.Author.Needs.{needs}
-use Prim.Native.Nat.{_+_, _≤_, _<_}
-use mathlib.Core.Path.{_≡_}
+use Prim.Native.Nat.{_+_, _≤_}
 use Rattle.zone_tzif.proofs.Laws.{past-time, before-time, count-most}
 use Rattle.zone_tzif.specs.Opened.{countAt}
 use native.Mathlib.Omega.{arith}

@@ -1,4 +1,4 @@
--- `zone_tzif_block::types_fit` meets its contract. The loop walks `allFrom`, one index a turn.
+-- `zone_tzif_block::types_fit` meets its contract. The loop goes along `allFrom`, one index a step.
 use borrow.Author.Tests.{not-true, not-false}
 use native.Mathlib.Nat.{sub-zero}
 use Prim.Native.Nat.{_≤_, _-_}

@@ -1,0 +1,55 @@
+-- The number of a date, and the loop over dates: one step, and its end.
+use mathlib.Core.Path.{_≡_, refl, sym, ap, _∙_}
+use mathlib.Core.Bool.{Bool, true, false, _&&_}
+use mathlib.Core.List.{List}
+use Prim.Native.Nat.{ℕ, zero, suc, _+_, _*_, _-_, _≤_, _<_}
+use native.Mathlib.Omega.{arith}
+use lib.ListN.{length, getD}
+use Rattle.big_endian.specs.Be.{be16}
+use Rattle.civil.specs.declared.Date.{Date}
+use Rattle.model.specs.Calendar.{isDate, dayNumber}
+use Rattle.book_dates.specs.Days.{yearOf, writtenYear, IsWritten, dayAt, datesAt, isDay}
+use Rattle.book_dates.proofs.Reading.{dateTest, datesTest}
+
+-- ---- a date
+
+-- the year, from its two bytes
+pub year-is : (b : List ℕ) (p : ℕ) {x y r : ℕ} → r ≡ yearOf (x * 256 + y) → x ≡ getD b p 0 → y ≡ getD b (p + 1) 0 → r ≡ writtenYear b p
+unfolding writtenYear be16
+year-is b p e ex ey = e ∙ rw (ex, ey)
+
+module _ (b : List ℕ) (p : ℕ) {d : Date} {r : Bool} (w : IsWritten b p d) (er : r ≡ isDate (d .year) (d .month) (d .day)) where
+  pub date-told : r ≡ dateTest b p
+  unfolding dateTest
+  date-told = er ∙ rw (w .year, w .month, w .day)
+
+  pub no-day : r ≡ false → 0 ≡ dayAt b p
+  unfolding dayAt dateTest
+  no-day q = let e : isDate (writtenYear b p) (getD b (p + 2) 0) (getD b (p + 3) 0) ≡ false = sym date-told ∙ q in rw e
+
+  pub day-number : {n : ℕ} → r ≡ true → n ≡ dayNumber (d .year) (d .month) (d .day) → n ≡ dayAt b p
+  unfolding dayAt dateTest
+  day-number q h = let e : isDate (writtenYear b p) (getD b (p + 2) 0) (getD b (p + 3) 0) ≡ true = sym date-told ∙ q in rw e (h ∙ rw (w .year, w .month, w .day))
+
+-- ---- the dates of a record, each a date
+
+pub length-dates : (l : List ℕ) (p n : ℕ) → length (datesAt l p n) ≡ n
+unfolding datesAt
+length-dates l p zero = refl
+length-dates l p (suc n) = ap suc (length-dates l (p + 4) n)
+
+days-more : (l : List ℕ) (p n : ℕ) → 0 < n → datesTest l p n ≡ (isDay l p && datesTest l (p + 4) (n - 1))
+unfolding datesTest
+days-more l p zero h = absurd (omega arith)
+days-more l p (suc n) h = let e : suc n - 1 ≡ n = omega arith in rw e
+
+pub days-end : (l : List ℕ) (p : ℕ) {n : ℕ} {d : Bool} → n ≤ 0 → datesTest l p n ≡ d → true ≡ d
+unfolding datesTest
+days-end l p {n} h inv = let e : n ≡ 0 = omega arith in (rw e at inv)
+
+module _ (l : List ℕ) (p : ℕ) {n : ℕ} {r d : Bool} (h : 0 < n) (inv : datesTest l p n ≡ d) (er : r ≡ isDay l p) where
+  pub days-no : r ≡ false → false ≡ d
+  days-no q = cc (days-more l p n h)
+
+  pub days-yes : r ≡ true → datesTest l (p + 4) (n - 1) ≡ d
+  days-yes q = cc (days-more l p n h)

@@ -1,4 +1,0 @@
-pub mod Sums
-pub mod Seeks
-pub mod Steps
-pub mod Sights

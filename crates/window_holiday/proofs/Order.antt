@@ -1,0 +1,117 @@
+-- The ranks of dates grow with their days: a date of a lesser or a greater rank than a window's dates have is not in it. Assumes nothing.
+use mathlib.Core.Path.{_≡_, refl, sym, _∙_, ap, ap₂}
+use mathlib.Core.Bool.{Bool, true, false}
+use mathlib.Core.List.{List}
+use mathlib.Core.Logic.{_⊎_, inl, inr, ⊎-elim}
+use Prim.Native.Nat.{ℕ, zero, suc, _+_, _-_, _/_, _%_, _≤_, _<_}
+use native.Mathlib.Nat.{eq-or-lt-of-le}
+use native.Mathlib.Omega.{arith}
+use borrow.Author.Tests.{leb-false, le-leb, lt-leb}
+use lib.Dec.{leb}
+use lib.ListN.{getD}
+use Rattle.big_endian.specs.Be.{be16, be32}
+use Rattle.model.specs.Basic.{isIn}
+use Rattle.model.specs.Calendar.{isLeap, isDate, dayNumber, dateOf, daysInMonth, daysBeforeMonth, daysBeforeYear}
+use Rattle.laws_calendar.specs.Dates.{Has, IsDate, date-has, day-of-date, has-within, is-had, date-facts, year-mono, at-most-31}
+use Rattle.laws_base.specs.Test.{by-test, both-and, clash}
+use Rattle.book.specs.Meaning.{writtenYear, dayAt}
+use Rattle.window_holiday.specs.Ranks.{yearShift, rank, rankOf, rankAt, dayOfRank}
+
+-- ---- the order of dates
+
+month-mono : (l : Bool) (m k : ℕ) → daysBeforeMonth l m ≤ daysBeforeMonth l (k + m)
+unfolding daysBeforeMonth
+month-mono l m zero = let e : 0 + m ≡ m = omega arith in rw e (omega arith)
+month-mono l m (suc k) = let h = month-mono l m k in let e : suc k + m ≡ suc (k + m) = omega arith in rw e (omega arith)
+
+-- a month ends before a later one begins
+month-ends : (l : Bool) (m n : ℕ) → m < n → daysBeforeMonth l m + daysInMonth l m ≤ daysBeforeMonth l n
+unfolding daysBeforeMonth
+month-ends l m n h = let e : (n - suc m) + suc m ≡ n = omega arith in rw e at (month-mono l (suc m) (n - suc m))
+
+module _ (y m d z n e : ℕ) (a : Has y m d) (b : Has z n e) where
+  by-year : y < z → dayNumber y m d < dayNumber z n e
+  by-year h =
+      let p = has-within a in let q = has-within b in let k = year-mono {a = y + 1} {b = z} (omega arith) in
+      let r = p .to in let s = q .from in omega arith
+
+  by-month : y ≡ z → m < n → dayNumber y m d < dayNumber z n e
+  unfolding dayNumber
+  by-month h k =
+      let x = ap daysBeforeYear h in let w = ap (λ (i : ℕ). daysBeforeMonth (isLeap i) n) h in
+      let p = month-ends (isLeap y) m n k in let q = a .day-low in let r = a .day-high in omega arith
+
+  by-day : y ≡ z → m ≡ n → d < e → dayNumber y m d < dayNumber z n e
+  unfolding dayNumber
+  by-day h k o =
+      let x = ap daysBeforeYear h in let w = ap (λ (i : ℕ). daysBeforeMonth (isLeap i) m) h in let v = ap (daysBeforeMonth (isLeap z)) k in
+      let q = a .day-low in omega arith
+
+  ranks : rank (y + yearShift) m d < rank (z + yearShift) n e → dayNumber y m d < dayNumber z n e
+  ranks h =
+      let p = at-most-31 (isLeap y) m (a .month-high) in let q = at-most-31 (isLeap z) n (b .month-high) in
+      let r = a .day-high in let s = b .day-high in let t = a .month-high in let u = b .month-high in
+      let g : y ≤ z = omega arith in
+      ⊎-elim (λ i. let k : m ≤ n = omega arith in ⊎-elim (λ j. by-day i j (omega arith)) (λ j. by-month i j) (eq-or-lt-of-le k)) (λ i. by-year i) (eq-or-lt-of-le g)
+
+-- ---- the dates of a window
+
+-- the rank of a date that is written
+rank-is : (b : List ℕ) (p : ℕ) → 0 < writtenYear b p → rankAt b p ≡ rank (writtenYear b p + yearShift) (getD b (p + 2) 0) (getD b (p + 3) 0)
+unfolding rankAt writtenYear
+rank-is b p h = omega arith
+
+-- a date of another rank is not in the window
+rank-out : (b : List ℕ) (p first last from : ℕ) → 0 < first → from ≤ rankOf first → isIn from (rankOf last) (rankAt b p) ≡ false → (dayAt b p < first) ⊎ (last < dayAt b p)
+unfolding dayAt rankOf
+rank-out b p first last from z h e =
+    let y : ℕ = writtenYear b p in let m : ℕ = getD b (p + 2) 0 in let d : ℕ = getD b (p + 3) 0 in
+    by-test (isDate y m d)
+    (λ t.
+    let i : IsDate y m d = date-facts t in let v : Has y m d = is-had i in
+    let g = rank-is b p (let x = i .year-low in omega arith) in
+    let f = day-of-date first in let l = day-of-date last in
+    by-test (leb from (rankAt b p))
+    (λ u. by-test (leb (rankAt b p) (rankOf last))
+    (λ w. clash true refl (sym (both-and (leb from (rankAt b p)) (leb (rankAt b p) (rankOf last)) u w) ∙ e))
+    (λ w. let k = ranks (dateOf last .year) (dateOf last .month) (dateOf last .day) y m d (date-has last) v (let x = leb-false (rankAt b p) (rankOf last) w in omega arith) in rw t (inr (omega arith))))
+    (λ u. let k = ranks y m d (dateOf first .year) (dateOf first .month) (dateOf first .day) v (date-has first) (let x = leb-false from (rankAt b p) u in omega arith) in rw t (inl (omega arith))))
+    (λ t. rw t (inl z))
+
+-- the same by the code's test
+pub rank-not : (b : List ℕ) (p first last from to k : ℕ) (r : Bool) → 0 < first → from ≤ rankOf first → to ≡ rankOf last → k ≡ rankAt b p → r ≡ isIn from to k → r ≡ false
+    → (dayAt b p < first) ⊎ (last < dayAt b p)
+rank-not b p first last from to k r z h e g q t = rank-out b p first last from z h (sym (ap₂ (λ (i j : ℕ). isIn from i j) e g) ∙ sym q ∙ t)
+
+-- ---- the code
+
+pub in-low : (from to k : ℕ) → k < from → false ≡ isIn from to k
+in-low from to k h = rw (lt-leb from k h)
+
+pub in-high : (from to k : ℕ) → from ≤ k → leb k to ≡ isIn from to k
+in-high from to k h = rw (le-leb from k h)
+
+-- the day by a rank is that of the date which is written
+pub day-of-rank-is : (b : List ℕ) (p k : ℕ) → k ≡ rankAt b p → getD b (p + 2) 0 < 256 → getD b (p + 3) 0 < 256 → dayOfRank k ≡ dayAt b p
+unfolding dayOfRank dayAt writtenYear rankAt
+day-of-rank-is b p k e h g =
+    let x : k / 65536 ≡ (be16 b p + 32768) % 65536 = omega arith in let m : k / 256 % 256 ≡ getD b (p + 2) 0 = omega arith in let d : k % 256 ≡ getD b (p + 3) 0 = omega arith in
+    rw (x, m, d)
+
+-- the same of the four bytes as one number
+pub rank-read : (b : List ℕ) (p n r : ℕ) → ((k : ℕ) → getD b k 0 < 256) → n ≡ be32 b p → r ≡ (n + 2147483648) % 4294967296 → (r ≡ rankAt b p) × (dayOfRank r ≡ dayAt b p)
+unfolding rankAt be16 be32
+rank-read b p n r h e q =
+    let x = h p in let y = h (p + 1) in let m = h (p + 2) in let d = h (p + 3) in
+    let g : r ≡ rankAt b p = omega arith in (g, day-of-rank-is b p r g m d)
+
+abbrev hasDate : ℕ → Bool
+hasDate k = isDate (k / 65536 - yearShift) (k / 256 % 256) (k % 256)
+
+pub no-day : (k : ℕ) → hasDate k ≡ false → 0 ≡ dayOfRank k
+unfolding dayOfRank
+no-day k e = rw e
+
+pub a-day : (k n : ℕ) → hasDate k ≡ true → n ≡ dayNumber (k / 65536 - yearShift) (k / 256 % 256) (k % 256) → n ≡ dayOfRank k
+unfolding dayOfRank
+a-day k n e h = rw e h

@@ -1,0 +1,32 @@
+-- What the functions on a holiday record are asked and answer.
+use mathlib.Core.List.{List}
+use Prim.Native.Nat.{ℕ, _≤_}
+use Rattle.model.specs.Tzif.{Zone}
+use Rattle.model.specs.Working.{blocksOf, holidayRule}
+use Rattle.instant.specs.Instant.{nanos}
+use Rattle.instant.specs.declared.Instant.{Instant}
+use Rattle.zone.specs.Zones.{meant, ZoneOk}
+use Rattle.rule.specs.Rules.{fileAt, holidaysIs}
+use Rattle.rule.specs.declared.HolidayDates.{HolidayDates}
+use Rattle.zone_local.specs.Dates.{pieceOf, during}
+use Rattle.window_dates.specs.Windows.{Window, IsLocalDates}
+use Rattle.window_dates.specs.declared.LocalDates.{LocalDates}
+use Rattle.window_piece.specs.Filled.{Filled, IsFrame}
+use Rattle.window_piece.specs.declared.Frame.{Frame}
+
+-- the zone of a record
+abbrev pub zoneOf : List ℕ → HolidayDates → Zone
+zoneOf pack c = meant (fileAt pack (c .at) (c .len)) (c .zone)
+
+-- a date that a window of at most 14 days has in the record's zone, and the frame of the window's dates
+abbrev pub FreeDate : List ℕ → HolidayDates → LocalDates → Frame → ℕ → Instant → Instant → Type 0
+FreeDate pack c days f d lo hi =
+    ZoneOk (fileAt pack (c .at) (c .len)) (c .zone) × Window 14 lo hi × IsLocalDates (zoneOf pack c) lo hi days × IsFrame days lo hi f × (days .first ≤ d) × (d ≤ days .last)
+
+-- the whole of a date was added to the first w blocks of the memory, which are now n
+abbrev pub DateAdded : List ℕ → HolidayDates → Instant → Instant → ℕ → List ℕ → ℕ → List ℕ → ℕ → Type 0
+DateAdded pack c lo hi d old w new n = Filled (nanos lo) old w (pieceOf (during (zoneOf pack c) 0 0) (nanos lo) (nanos hi) d) 1 new n
+
+-- the record's dates were added, at most 14 blocks
+abbrev pub Closed : List ℕ → List ℕ → HolidayDates → Instant → Instant → List ℕ → ℕ → List ℕ → ℕ → Type 0
+Closed book pack c lo hi old w new n = Filled (nanos lo) old w (blocksOf (nanos lo) (nanos hi) (holidayRule (holidaysIs book pack c))) 14 new n

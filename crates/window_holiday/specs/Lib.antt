@@ -1,0 +1,2 @@
+pub mod Holiday
+pub mod Ranks

@@ -1,0 +1,153 @@
+// The dates of a holiday record in a window of at most seven days, as pairs of numbers in lent memory: the blocks' borders in nanoseconds from the
+// window's start.
+ghost use mathlib.Core.Path.{_≡_};
+ghost use Prim.Native.Nat.{_+_, _≤_, _<_};
+ghost use lib.ListN.{length};
+ghost use Rattle.model.specs.Basic.{isIn};
+ghost use Rattle.book.specs.Meaning.{dayAt};
+ghost use Rattle.rule.specs.Rules.{HolidaysFit};
+ghost use Rattle.window_dates.specs.Windows.{Window};
+ghost use Rattle.window_piece.specs.Filled.{Ready};
+ghost use Rattle.window_holiday.specs.Holiday.{FreeDate, DateAdded, Closed};
+ghost use Rattle.window_holiday.specs.Ranks.{calendarDays, rankAt, rankOf, dayOfRank};
+use civil::Time;
+use instant::Instant;
+use rule::HolidayDates;
+use window_dates::LocalDates;
+use window_piece::Frame;
+
+// Half as many numbers as four bytes say.
+const HALF: u64 = 2147483648;
+
+// How many numbers four bytes say.
+const WHOLE: u64 = 4294967296;
+
+// Years are counted from -10400, those of ranks from -32768: so many years before.
+const YEAR_SHIFT: u32 = 22368;
+
+// How many days the calendar has.
+const CALENDAR_DAYS: u32 = 7597044;
+
+// Adds the whole of a date of the window.
+fn free_into(
+    pack: &[u8],
+    c: HolidayDates,
+    days: LocalDates,
+    f: Frame,
+    day: u32,
+    lo: Instant,
+    hi: Instant,
+    out: &mut [u64],
+    w: usize,
+) -> usize
+    requires { ⌜ FreeDate (now pack) c days f day lo hi × Ready (now out) w 1 ⌝ }
+    ensures { λ n. ⌜ DateAdded (now (pack .entry)) c lo hi day (now (out .entry)) w (now (out .exit)) n ⌝ }
+{
+    if f.first == 0 {
+        let z = c.zone;
+        let midnight = Time {
+            seconds: 0,
+            nanos: 0,
+        };
+        let file = big_endian::part(pack, c.at, c.len);
+        let x = zone_local::piece_by(file, z, days.offset, midnight, midnight, day, lo, hi);
+        return window_piece::piece_into(x, lo, out, w);
+    }
+    let k = f.first + (day - days.first) as u64 * window_piece::DAY_NANOS;
+    window_piece::span_into(k, k + window_piece::DAY_NANOS, f.lo, f.hi, out, w)
+}
+
+// The rank of what is written at p: its four bytes as one number, in which the years before 0 come first.
+fn rank_at(b: &[u8], p: usize) -> u32
+    requires { ⌜ p + 4 ≤ length (now b) ⌝ }
+    ensures { λ r. ⌜ (r ≡ rankAt (now (b .entry)) p) × (dayOfRank r ≡ dayAt (now (b .entry)) p) ⌝ }
+{
+    let n = number::u32_to_u64(big_endian::four_at(b, p));
+    ((n + HALF) % WHOLE) as u32
+}
+
+// Whether k is one of the ranks from `from` to `to`.
+fn in_ranks(k: u32, from: u64, to: u64) -> bool
+    ensures { λ r. ⌜ r ≡ isIn from to k ⌝ }
+{
+    let n = k as u64;
+    if n < from {
+        return false;
+    }
+    n <= to
+}
+
+// The day of the date that has the rank k, 0 where it is no date's.
+fn day_of_rank(k: u32) -> u32
+    ensures { λ r. ⌜ r ≡ dayOfRank k ⌝ }
+{
+    if k / 65536 < YEAR_SHIFT {
+        return 0;
+    }
+    let year = k / 65536 - YEAR_SHIFT;
+    let month = k / 256 % 256;
+    let day = k % 256;
+    if !civil::is_date(year, month, day) {
+        return 0;
+    }
+    civil::day_number(year, month, day)
+}
+
+// The rank of a day's date.
+fn rank_of(day: u32) -> u64
+    requires { ⌜ day < calendarDays ⌝ }
+    ensures { λ r. ⌜ r ≡ rankOf day ⌝ }
+{
+    let d = civil::date_of(day);
+    (d.year as u64 + YEAR_SHIFT as u64) * 65536 + d.month as u64 * 256 + d.day as u64
+}
+
+// The same; 0 for a day behind those that the calendar has.
+fn rank_from(day: u32) -> u64
+    ensures { λ r. ⌜ r ≤ rankOf day ⌝ }
+{
+    if day < CALENDAR_DAYS {
+        return rank_of(day);
+    }
+    0
+}
+
+// Adds the dates of a holiday record that the window has, by one pass over the record's dates, from the last to the first. The day is
+// counted only of a date whose rank is that of a date of the window.
+pub fn holidays_into(
+    book: &[u8],
+    pack: &[u8],
+    c: HolidayDates,
+    lo: Instant,
+    hi: Instant,
+    out: &mut [u64],
+    w: usize,
+) -> usize
+    requires { ⌜ HolidaysFit (now book) (now pack) c × Window 7 lo hi × Ready (now out) w 15 ⌝ }
+    ensures { λ n. ⌜ Closed (now (book .entry)) (now (pack .entry)) c lo hi (now (out .entry)) w (now (out .exit)) n ⌝ }
+{
+    let z = c.zone;
+    let days = window_dates::local_dates(pack, c.at, c.len, z, lo, hi);
+    let f = window_piece::frame_of(days, lo, hi);
+    let first = days.first;
+    let last = days.last;
+    let from = rank_from(first);
+    let to = rank_of(last);
+    let mut n = w;
+    let mut left = c.count;
+    let mut at = c.dates + 4 * c.count;
+    while 0 < left {
+        left -= 1;
+        at -= 4;
+        let k = rank_at(book, at);
+        if in_ranks(k, from, to) {
+            let d = day_of_rank(k);
+            if first <= d {
+                if d <= last {
+                    n = free_into(pack, c, days, f, d, lo, hi, out, n);
+                }
+            }
+        }
+    }
+    n
+}
