@@ -19,7 +19,7 @@ WINGS = [
     "meaning", "laws", "base", "block", "zone", "book", "window", "walk", "build", "schedule", "query", "clock", "test", "bench",
 ]  # fmt: skip
 WING = {
-    "model": "meaning", "number": "base", "big_endian": "base", "instant": "base", "instant_signed": "base", "civil": "base",
+    "model": "meaning", "number": "base", "refusal": "base", "big_endian": "base", "instant": "base", "instant_signed": "base", "civil": "base",
     "directory": "base", "rule": "book", "answer_line": "query",
 }  # fmt: skip
 COLOURS = ["#4e79a7", "#b07aa1", "#59a14f", "#d37222", "#9c755f", "#2f8f8b", "#c23b52", "#6b6ecf", "#8c8c1a"]

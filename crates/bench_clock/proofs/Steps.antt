@@ -29,9 +29,9 @@ use Rattle.schedule.specs.Answers.{timeIs, moveIs}
 use Rattle.schedule_periods.specs.declared.PeriodAnswer.{PeriodAnswer}
 use Rattle.schedule_periods.specs.declared.PeriodAnswer.the-variants as P
 use Rattle.schedule_periods.specs.Replies.{periodIs}
-use Rattle.bench_clock.specs.declared.Told.{Told}
-use Rattle.bench_clock.specs.declared.Told.the-variants as A
-use Rattle.bench_clock.specs.Asked.{replyIs, asked, written, writtenAt, answered, groupsFrom, groups, groupsOf, limitIn, limitOf, listed, listedOf}
+use Rattle.bench_clock.specs.declared.AnyAnswer.{AnyAnswer}
+use Rattle.bench_clock.specs.declared.AnyAnswer.the-variants as A
+use Rattle.bench_clock.specs.Asked.{replyIs, answerOfKind, written, writtenAt, withAnswer, groupsFrom, groups, groupsOf, limitIn, limitOf, listedOften, listedOf}
 
 -- ---- the calls' answers
 
@@ -60,19 +60,19 @@ two : {k : ℕ} → (k ≡ 0 → ⊥) → k < 3 → (k ≡ 1 → ⊥) → k ≡ 
 two f l g = omega arith
 
 module _ (k : ℕ) (s : Schedule) (a b c d : ℤ) {x : Answer (List ℤ)} where
-  pub as-time : k ≡ 0 → x ≡ said (betweenCall s a b c d) → x ≡ asked k s a b c d
-  unfolding asked
+  pub as-time : k ≡ 0 → x ≡ said (betweenCall s a b c d) → x ≡ answerOfKind k s a b c d
+  unfolding answerOfKind
   as-time h e = rw (eq-eqb k 0 h) e
 
-  pub as-move : (k ≡ 0 → ⊥) → k < 3 → x ≡ said (moveCall (wayOf (not (eqb k 1))) s a b c d) → x ≡ asked k s a b c d
-  unfolding asked
+  pub as-move : (k ≡ 0 → ⊥) → k < 3 → x ≡ said (moveCall (wayOf (not (eqb k 1))) s a b c d) → x ≡ answerOfKind k s a b c d
+  unfolding answerOfKind
   as-move f l e =
       by-test (eqb k 1)
       (λ h. rw (ne-eqb k 0 f, h) (rw h at e))
       (λ h. rw (ne-eqb k 0 f, h, eq-eqb k 2 (two f l (λ i. clash (eqb k 1) (eq-eqb k 1 i) h))) (rw h at e))
 
-  pub as-period : 3 ≤ k → x ≡ said (periodCall (wayOf (not (eqb k 3))) s a b) → x ≡ asked k s a b c d
-  unfolding asked
+  pub as-period : 3 ≤ k → x ≡ said (periodCall (wayOf (not (eqb k 3))) s a b) → x ≡ answerOfKind k s a b c d
+  unfolding answerOfKind
   as-period l e =
       let f : eqb k 0 ≡ false = ne-eqb k 0 (λ h. omega arith) in
       let g : eqb k 1 ≡ false = ne-eqb k 1 (λ h. omega arith) in
@@ -81,7 +81,7 @@ module _ (k : ℕ) (s : Schedule) (a b c d : ℤ) {x : Answer (List ℤ)} where
 
 -- ---- writing
 
-module _ (i : ℕ) (e : List ℤ) {r : Told} where
+module _ (i : ℕ) (e : List ℤ) {r : AnyAnswer} where
   pub two-put : {p q : ℤ} → r ≡ A.Two p q → (a b : ℤ) → a ≡ p → b ≡ q → set (set e i a) (i + 1) b ≡ writtenAt i (replyIs r) e
   unfolding written
   two-put t a b h k = rw (t, h, k)
@@ -95,21 +95,21 @@ module _ (i : ℕ) (e : List ℤ) {r : Told} where
   refused-put t a h = rw (t, h)
 
 -- one question answered, where each number fits
-pub turn-is : (k : ℕ) (s : Schedule) (i : ℕ) (e : List ℤ) (r : Told) {x : List ℤ}
+pub turn-is : (k : ℕ) (s : Schedule) (i : ℕ) (e : List ℤ) (r : AnyAnswer) {x : List ℤ}
     → SFits w64 (getD e i (pos 0)) → SFits w64 (getD e (i + 1) (pos 0)) → SFits w64 (getD e (i + 1 + 1) (pos 0)) → SFits w64 (getD e (i + 1 + 1 + 1) (pos 0))
-    → replyIs r ≡ asked k s (toZ w64 (ofZ w64 (getD e i (pos 0)))) (toZ w64 (ofZ w64 (getD e (i + 1) (pos 0)))) (toZ w64 (ofZ w64 (getD e (i + 1 + 1) (pos 0))))
-    (toZ w64 (ofZ w64 (getD e (i + 1 + 1 + 1) (pos 0)))) → x ≡ writtenAt i (replyIs r) e → x ≡ answered k s i e
-unfolding answered
+    → replyIs r ≡ answerOfKind k s (toZ w64 (ofZ w64 (getD e i (pos 0)))) (toZ w64 (ofZ w64 (getD e (i + 1) (pos 0)))) (toZ w64 (ofZ w64 (getD e (i + 1 + 1) (pos 0))))
+    (toZ w64 (ofZ w64 (getD e (i + 1 + 1 + 1) (pos 0)))) → x ≡ writtenAt i (replyIs r) e → x ≡ withAnswer k s i e
+unfolding withAnswer
 turn-is k s i e r f g h j p q = q ∙ ap (λ l. writtenAt i l e) (rw (toZ-ofZ f, toZ-ofZ g, toZ-ofZ h, toZ-ofZ j) at p)
 
 -- ---- the questions, one after the other
 
-groups-turn : (k : ℕ) (s : Schedule) (n i : ℕ) (e : List ℤ) → 0 < n → groupsFrom k s n i e ≡ groupsFrom k s (n - 1) (i + 4) (answered k s i e)
+groups-turn : (k : ℕ) (s : Schedule) (n i : ℕ) (e : List ℤ) → 0 < n → groupsFrom k s n i e ≡ groupsFrom k s (n - 1) (i + 4) (withAnswer k s i e)
 unfolding groupsFrom
 groups-turn k s zero i e h = absurd (omega arith)
-groups-turn k s (suc n) i e h = let p : n ≡ suc n - 1 = omega arith in ap (λ m. groupsFrom k s m (i + 4) (answered k s i e)) p
+groups-turn k s (suc n) i e h = let p : n ≡ suc n - 1 = omega arith in ap (λ m. groupsFrom k s m (i + 4) (withAnswer k s i e)) p
 
-pub groups-turned : (k : ℕ) (s : Schedule) (n i : ℕ) (e : List ℤ) {x g : List ℤ} → 0 < n → x ≡ answered k s i e → groupsFrom k s n i e ≡ g → groupsFrom k s (n - 1) (i + 4) x ≡ g
+pub groups-turned : (k : ℕ) (s : Schedule) (n i : ℕ) (e : List ℤ) {x g : List ℤ} → 0 < n → x ≡ withAnswer k s i e → groupsFrom k s n i e ≡ g → groupsFrom k s (n - 1) (i + 4) x ≡ g
 groups-turned k s n i e h p q = ap (groupsFrom k s (n - 1) (i + 4)) p ∙ sym (groups-turn k s n i e h) ∙ q
 
 pub groups-none : (k : ℕ) (s : Schedule) (n i : ℕ) (e : List ℤ) → n ≤ 0 → groupsFrom k s n i e ≡ e
@@ -117,16 +117,16 @@ unfolding groupsFrom
 groups-none k s zero i e h = refl
 groups-none k s (suc n) i e h = absurd (omega arith)
 
-lists-turn : (n : ℕ) (s : Schedule) (a b c d : ℤ) (e : List ℤ) → 0 < n → listed n s a b c d e ≡ listed (n - 1) s a b c d (numbersAfter (listCall s a b c d e) e)
-unfolding listed
+lists-turn : (n : ℕ) (s : Schedule) (a b c d : ℤ) (e : List ℤ) → 0 < n → listedOften n s a b c d e ≡ listedOften (n - 1) s a b c d (numbersAfter (listCall s a b c d e) e)
+unfolding listedOften
 lists-turn zero s a b c d e h = absurd (omega arith)
-lists-turn (suc n) s a b c d e h = let p : n ≡ suc n - 1 = omega arith in ap (λ m. listed m s a b c d (numbersAfter (listCall s a b c d e) e)) p
+lists-turn (suc n) s a b c d e h = let p : n ≡ suc n - 1 = omega arith in ap (λ m. listedOften m s a b c d (numbersAfter (listCall s a b c d e) e)) p
 
-pub lists-turned : (n : ℕ) (s : Schedule) (a b c d : ℤ) (e : List ℤ) {x g : List ℤ} → 0 < n → x ≡ numbersAfter (listCall s a b c d e) e → listed n s a b c d e ≡ g → listed (n - 1) s a b c d x ≡ g
-lists-turned n s a b c d e h p q = ap (listed (n - 1) s a b c d) p ∙ sym (lists-turn n s a b c d e h) ∙ q
+pub lists-turned : (n : ℕ) (s : Schedule) (a b c d : ℤ) (e : List ℤ) {x g : List ℤ} → 0 < n → x ≡ numbersAfter (listCall s a b c d e) e → listedOften n s a b c d e ≡ g → listedOften (n - 1) s a b c d x ≡ g
+lists-turned n s a b c d e h p q = ap (listedOften (n - 1) s a b c d) p ∙ sym (lists-turn n s a b c d e h) ∙ q
 
-pub lists-none : (n : ℕ) (s : Schedule) (a b c d : ℤ) (e : List ℤ) → n ≤ 0 → listed n s a b c d e ≡ e
-unfolding listed
+pub lists-none : (n : ℕ) (s : Schedule) (a b c d : ℤ) (e : List ℤ) → n ≤ 0 → listedOften n s a b c d e ≡ e
+unfolding listedOften
 lists-none zero s a b c d e h = refl
 lists-none (suc n) s a b c d e h = absurd (omega arith)
 
@@ -139,7 +139,7 @@ module _ (b p : List ℕ) (r : Built) {d : Answer Schedule} (e : answerIs b p r 
   pub none-answered : (k : ℕ) (x : List ℤ) → (r .number ≡ 0 → ⊥) → x ≡ groupsOf k d x
   none-answered k x z = rw (← e, ne-eqb (r .number) 0 z)
 
-  pub all-listed : (n : ℕ) (a₁ a₂ b₁ b₂ : ℤ) (x : List ℤ) {y : List ℤ} → r .number ≡ 0 → y ≡ listed n (scheduleIs b p (r .schedule)) a₁ a₂ b₁ b₂ x → y ≡ listedOf n d a₁ a₂ b₁ b₂ x
+  pub all-listed : (n : ℕ) (a₁ a₂ b₁ b₂ : ℤ) (x : List ℤ) {y : List ℤ} → r .number ≡ 0 → y ≡ listedOften n (scheduleIs b p (r .schedule)) a₁ a₂ b₁ b₂ x → y ≡ listedOf n d a₁ a₂ b₁ b₂ x
   all-listed n a₁ a₂ b₁ b₂ x z q = rw (← e, eq-eqb (r .number) 0 z) q
 
   pub none-listed : (n : ℕ) (a₁ a₂ b₁ b₂ : ℤ) (x : List ℤ) → (r .number ≡ 0 → ⊥) → x ≡ listedOf n d a₁ a₂ b₁ b₂ x

@@ -16,18 +16,18 @@ use Rattle.model.specs.Working.{Schedule}
 use Rattle.rule.specs.Rules.{scheduleIs}
 use Rattle.rule.specs.declared.Schedule as rule
 use Rattle.walk_distance.specs.Distances.{wayOf}
-use Rattle.bench_clock.specs.declared.Told.{Told}
-use Rattle.bench_clock.specs.declared.Told.the-variants as T
+use Rattle.bench_clock.specs.declared.AnyAnswer.{AnyAnswer}
+use Rattle.bench_clock.specs.declared.AnyAnswer.the-variants as T
 
 -- the numbers of an answer
-abbrev pub replyIs : Told → Answer (List ℤ)
+abbrev pub replyIs : AnyAnswer → Answer (List ℤ)
 replyIs (T.Two a b) = gives (a ∷ b ∷ [])
 replyIs (T.Four a b c d) = gives (a ∷ b ∷ c ∷ d ∷ [])
 replyIs (T.Refused n p) = refuses n p
 
 -- the answer to a question, by its kind
-unfoldable pub asked : ℕ → Schedule → ℤ → ℤ → ℤ → ℤ → Answer (List ℤ)
-asked kind s a b c d =
+unfoldable pub answerOfKind : ℕ → Schedule → ℤ → ℤ → ℤ → ℤ → Answer (List ℤ)
+answerOfKind kind s a b c d =
     if eqb kind 0 then said (betweenCall s a b c d) else
     if eqb kind 1 then said (moveCall on s a b c d) else
     if eqb kind 2 then said (moveCall back s a b c d) else
@@ -44,14 +44,14 @@ writtenAt i (gives l) e = written i l e
 writtenAt i (refuses n p) e = set e i (pos n)
 
 -- the question at i with its answer in its place
-unfoldable pub answered : ℕ → Schedule → ℕ → List ℤ → List ℤ
-answered kind s i e =
-    writtenAt i (asked kind s (getD e i (pos 0)) (getD e (i + 1) (pos 0)) (getD e (i + 1 + 1) (pos 0)) (getD e (i + 1 + 1 + 1) (pos 0))) e
+unfoldable pub withAnswer : ℕ → Schedule → ℕ → List ℤ → List ℤ
+withAnswer kind s i e =
+    writtenAt i (answerOfKind kind s (getD e i (pos 0)) (getD e (i + 1) (pos 0)) (getD e (i + 1 + 1) (pos 0)) (getD e (i + 1 + 1 + 1) (pos 0))) e
 
 -- so many questions from i on, one after the other
 unfoldable pub groupsFrom : ℕ → Schedule → ℕ → ℕ → List ℤ → List ℤ
 groupsFrom kind s zero i e = e
-groupsFrom kind s (suc n) i e = groupsFrom kind s n (i + 4) (answered kind s i e)
+groupsFrom kind s (suc n) i e = groupsFrom kind s n (i + 4) (withAnswer kind s i e)
 
 -- all questions
 abbrev pub groups : ℕ → Schedule → List ℤ → List ℤ
@@ -72,32 +72,32 @@ unfoldable pub limitOf : List ℕ → List ℕ → ℕ → ℕ
 limitOf book pack n = limitIn (build (take n book) pack)
 
 -- the lent numbers after so many listings
-unfoldable pub listed : ℕ → Schedule → ℤ → ℤ → ℤ → ℤ → List ℤ → List ℤ
-listed zero s a b c d e = e
-listed (suc n) s a b c d e = listed n s a b c d (numbersAfter (listCall s a b c d e) e)
+unfoldable pub listedOften : ℕ → Schedule → ℤ → ℤ → ℤ → ℤ → List ℤ → List ℤ
+listedOften zero s a b c d e = e
+listedOften (suc n) s a b c d e = listedOften n s a b c d (numbersAfter (listCall s a b c d e) e)
 
 -- of a book: one that is refused changes nothing
 abbrev pub listedOf : ℕ → Answer Schedule → ℤ → ℤ → ℤ → ℤ → List ℤ → List ℤ
-listedOf n (gives s) a b c d e = listed n s a b c d e
+listedOf n (gives s) a b c d e = listedOften n s a b c d e
 listedOf n (refuses m p) a b c d e = e
 
 -- ---- what each function promises
 
 -- r is the answer of `between`
-abbrev pub IsTime : List ℕ → List ℕ → rule.Schedule → ℤ → ℤ → ℤ → ℤ → Told → Type 0
+abbrev pub IsTime : List ℕ → List ℕ → rule.Schedule → ℤ → ℤ → ℤ → ℤ → AnyAnswer → Type 0
 IsTime book pack s a b c d r = replyIs r ≡ said (betweenCall (scheduleIs book pack s) a b c d)
 
 -- r is the answer of `add` or `sub`
-abbrev pub IsMove : List ℕ → List ℕ → rule.Schedule → Bool → ℤ → ℤ → ℤ → ℤ → Told → Type 0
+abbrev pub IsMove : List ℕ → List ℕ → rule.Schedule → Bool → ℤ → ℤ → ℤ → ℤ → AnyAnswer → Type 0
 IsMove book pack s isBack a b c d r = replyIs r ≡ said (moveCall (wayOf isBack) (scheduleIs book pack s) a b c d)
 
 -- r is the next or the previous period
-abbrev pub IsPeriod : List ℕ → List ℕ → rule.Schedule → Bool → ℤ → ℤ → Told → Type 0
+abbrev pub IsPeriod : List ℕ → List ℕ → rule.Schedule → Bool → ℤ → ℤ → AnyAnswer → Type 0
 IsPeriod book pack s isBack a b r = replyIs r ≡ said (periodCall (wayOf isBack) (scheduleIs book pack s) a b)
 
 -- the question at i has its answer in its place
 abbrev pub AnsweredAt : List ℕ → List ℕ → rule.Schedule → ℕ → ℕ → List ℤ → List ℤ → Type 0
-AnsweredAt book pack s kind i old new = new ≡ answered kind (scheduleIs book pack s) i old
+AnsweredAt book pack s kind i old new = new ≡ withAnswer kind (scheduleIs book pack s) i old
 
 -- all questions have their answers in their places
 abbrev pub AllAnswered : List ℕ → List ℕ → rule.Schedule → ℕ → List ℤ → List ℤ → Type 0
@@ -108,8 +108,8 @@ abbrev pub BookAnswered : List ℕ → List ℕ → ℕ → List ℤ → List �
 BookAnswered book pack kind old new = new ≡ groupsOf kind (build book pack) old
 
 -- the lent numbers hold what so many listings leave in them
-abbrev pub Lists : List ℕ → List ℕ → rule.Schedule → ℕ → ℤ → ℤ → ℤ → ℤ → List ℤ → List ℤ → Type 0
-Lists book pack s times a b c d old new = new ≡ listed times (scheduleIs book pack s) a b c d old
+abbrev pub ListsOften : List ℕ → List ℕ → rule.Schedule → ℕ → ℤ → ℤ → ℤ → ℤ → List ℤ → List ℤ → Type 0
+ListsOften book pack s times a b c d old new = new ≡ listedOften times (scheduleIs book pack s) a b c d old
 
 -- the same from a book and a pack
 abbrev pub ListsOf : List ℕ → List ℕ → ℕ → ℤ → ℤ → ℤ → ℤ → List ℤ → List ℤ → Type 0

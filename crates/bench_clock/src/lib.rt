@@ -4,15 +4,15 @@ ghost use mathlib.Core.Path.{_≡_};
 ghost use Prim.Native.Nat.{_+_, _≤_};
 ghost use lib.ListN.{length};
 ghost use Rattle.rule.specs.Rules.{scheduleIs, ScheduleFits};
-ghost use Rattle.bench_week.specs.Weeks.{Each};
-ghost use Rattle.bench_clock.specs.Asked.{replyIs, asked, writtenAt, limitOf, IsTime, IsMove, IsPeriod, AnsweredAt, AllAnswered, BookAnswered, Lists, ListsOf};
+ghost use Rattle.laws_base.specs.Mapped.{Mapped};
+ghost use Rattle.bench_clock.specs.Asked.{replyIs, answerOfKind, writtenAt, limitOf, IsTime, IsMove, IsPeriod, AnsweredAt, AllAnswered, BookAnswered, ListsOften, ListsOf};
 use rule::Schedule;
 use schedule::MoveAnswer;
 use schedule::TimeAnswer;
 use schedule_periods::PeriodAnswer;
 
 // An answer: two numbers, four, or a refusal's number and place.
-pub enum Told {
+pub enum AnyAnswer {
     Two(i64, i64),
     Four(i64, i64, i64, i64),
     Refused(u32, usize),
@@ -20,40 +20,58 @@ pub enum Told {
 
 // ---- answers
 
-fn time(book: &[u8], pack: &[u8], s: Schedule, a: i64, b: i64, c: i64, d: i64) -> Told
+fn time(book: &[u8], pack: &[u8], s: Schedule, a: i64, b: i64, c: i64, d: i64) -> AnyAnswer
     requires { ⌜ ScheduleFits (now book) (now pack) s ⌝ }
     ensures { λ r. ⌜ IsTime (now (book .entry)) (now (pack .entry)) s a b c d r ⌝ }
 {
     match schedule::between_in(book, pack, s, a, b, c, d) {
-        TimeAnswer::Is(sec, ns, _) => Told::Two(sec, ns),
-        TimeAnswer::Refused(number, place) => Told::Refused(number, place),
+        TimeAnswer::Is(sec, ns, _) => AnyAnswer::Two(sec, ns),
+        TimeAnswer::Refused(number, place) => AnyAnswer::Refused(number, place),
     }
 }
 
-fn moved(book: &[u8], pack: &[u8], s: Schedule, back: bool, a: i64, b: i64, c: i64, d: i64) -> Told
+fn moved(
+    book: &[u8],
+    pack: &[u8],
+    s: Schedule,
+    back: bool,
+    a: i64,
+    b: i64,
+    c: i64,
+    d: i64,
+) -> AnyAnswer
     requires { ⌜ ScheduleFits (now book) (now pack) s ⌝ }
     ensures { λ r. ⌜ IsMove (now (book .entry)) (now (pack .entry)) s back a b c d r ⌝ }
 {
     match schedule::move_in(book, pack, s, back, a, b, c, d) {
-        MoveAnswer::At(sec, ns, _) => Told::Two(sec, ns),
-        MoveAnswer::Refused(number, place) => Told::Refused(number, place),
+        MoveAnswer::At(sec, ns, _) => AnyAnswer::Two(sec, ns),
+        MoveAnswer::Refused(number, place) => AnyAnswer::Refused(number, place),
     }
 }
 
-fn period(book: &[u8], pack: &[u8], s: Schedule, back: bool, a: i64, b: i64) -> Told
+fn period(book: &[u8], pack: &[u8], s: Schedule, back: bool, a: i64, b: i64) -> AnyAnswer
     requires { ⌜ ScheduleFits (now book) (now pack) s ⌝ }
     ensures { λ r. ⌜ IsPeriod (now (book .entry)) (now (pack .entry)) s back a b r ⌝ }
 {
     match schedule_periods::period_in(book, pack, s, back, a, b) {
-        PeriodAnswer::Is(p, q, x, y) => Told::Four(p, q, x, y),
-        PeriodAnswer::Refused(number, place) => Told::Refused(number, place),
+        PeriodAnswer::Is(p, q, x, y) => AnyAnswer::Four(p, q, x, y),
+        PeriodAnswer::Refused(number, place) => AnyAnswer::Refused(number, place),
     }
 }
 
 // The answer to one question: kind 0 is between, 1 add, 2 sub, 3 the next period, any other the previous one. Periods do not look at c and d.
-fn answer(book: &[u8], pack: &[u8], s: Schedule, kind: u8, a: i64, b: i64, c: i64, d: i64) -> Told
+fn answer(
+    book: &[u8],
+    pack: &[u8],
+    s: Schedule,
+    kind: u8,
+    a: i64,
+    b: i64,
+    c: i64,
+    d: i64,
+) -> AnyAnswer
     requires { ⌜ ScheduleFits (now book) (now pack) s ⌝ }
-    ensures { λ r. ⌜ replyIs r ≡ asked kind (scheduleIs (now (book .entry)) (now (pack .entry)) s) «a» «b» «c» «d» ⌝ }
+    ensures { λ r. ⌜ replyIs r ≡ answerOfKind kind (scheduleIs (now (book .entry)) (now (pack .entry)) s) «a» «b» «c» «d» ⌝ }
 {
     if kind == 0 {
         return time(book, pack, s, a, b, c, d);
@@ -65,18 +83,18 @@ fn answer(book: &[u8], pack: &[u8], s: Schedule, kind: u8, a: i64, b: i64, c: i6
 }
 
 // Writes an answer's two or four numbers from i on; of a refusal its number.
-fn put(xs: &mut [i64], i: usize, r: Told)
+fn put(xs: &mut [i64], i: usize, r: AnyAnswer)
     requires { ⌜ i + 4 ≤ length (now xs) ⌝ }
     ensures { λ _. ⌜ now (xs .exit) ≡ writtenAt i (replyIs r) (now (xs .entry)) ⌝ }
 {
     match r {
-        Told::Two(p, q) => {
+        AnyAnswer::Two(p, q) => {
             let j = i + 1;
             xs[i] = p;
             xs[j] = q;
             return;
         }
-        Told::Four(p, q, x, y) => {
+        AnyAnswer::Four(p, q, x, y) => {
             let j = i + 1;
             let k = j + 1;
             let l = k + 1;
@@ -86,14 +104,14 @@ fn put(xs: &mut [i64], i: usize, r: Told)
             xs[l] = y;
             return;
         }
-        Told::Refused(number, _) => {
+        AnyAnswer::Refused(number, _) => {
             xs[i] = number as i64;
         }
     }
 }
 
 // Answers the question whose four numbers begin at i, in their place.
-fn turn(book: &[u8], pack: &[u8], s: Schedule, kind: u8, xs: &mut [i64], i: usize)
+fn answer_one(book: &[u8], pack: &[u8], s: Schedule, kind: u8, xs: &mut [i64], i: usize)
     requires { ⌜ ScheduleFits (now book) (now pack) s × (i + 4 ≤ length (now xs)) ⌝ }
     ensures { λ _. ⌜ AnsweredAt (now (book .entry)) (now (pack .entry)) s kind i (now (xs .entry)) (now (xs .exit)) ⌝ }
 {
@@ -104,14 +122,14 @@ fn turn(book: &[u8], pack: &[u8], s: Schedule, kind: u8, xs: &mut [i64], i: usiz
     put(xs, i, r);
 }
 
-fn turns(book: &[u8], pack: &[u8], s: Schedule, kind: u8, xs: &mut [i64])
+fn answer_all(book: &[u8], pack: &[u8], s: Schedule, kind: u8, xs: &mut [i64])
     requires { ⌜ ScheduleFits (now book) (now pack) s ⌝ }
     ensures { λ _. ⌜ AllAnswered (now (book .entry)) (now (pack .entry)) s kind (now (xs .entry)) (now (xs .exit)) ⌝ }
 {
     let mut i: usize = 0;
     let mut left = xs.len() / 4;
     while 0 < left {
-        turn(book, pack, s, kind, xs, i);
+        answer_one(book, pack, s, kind, xs, i);
         i += 4;
         left -= 1;
     }
@@ -127,7 +145,7 @@ pub extern "C" fn bench_clock_answers(book: &[u8], pack: &[u8], kind: u8, xs: &m
         return;
     }
     let s = b.schedule;
-    turns(book, pack, s, kind, xs);
+    answer_all(book, pack, s, kind, xs);
 }
 
 // ---- builds
@@ -147,7 +165,7 @@ fn limit(book: &[u8], pack: &[u8], n: u64) -> u64
 // Builds once for each of the numbers, which are lengths of the book, and puts the search limits in their place.
 #[no_mangle]
 pub extern "C" fn bench_clock_builds(book: &[u8], pack: &[u8], xs: &mut [u64])
-    ensures { λ _. ⌜ Each (limitOf (now (book .entry)) (now (pack .entry))) (now (xs .entry)) (now (xs .exit)) ⌝ }
+    ensures { λ _. ⌜ Mapped (limitOf (now (book .entry)) (now (pack .entry))) (now (xs .entry)) (now (xs .exit)) ⌝ }
 {
     let mut i: usize = 0;
     while i < xs.len() {
@@ -170,7 +188,7 @@ fn lists(
     out: &mut [i64],
 )
     requires { ⌜ ScheduleFits (now book) (now pack) s ⌝ }
-    ensures { λ _. ⌜ Lists (book .entry .now) (pack .entry .now) s times a b c d (out .entry .now) (out .exit .now) ⌝ }
+    ensures { λ _. ⌜ ListsOften (book .entry .now) (pack .entry .now) s times a b c d (out .entry .now) (out .exit .now) ⌝ }
 {
     let mut left = times;
     while 0 < left {

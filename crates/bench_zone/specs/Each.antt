@@ -11,18 +11,13 @@ use Rattle.model.specs.Zone.{secondOf, offsetAt}
 use Rattle.laws_zone.specs.Sound.{firstLocal}
 use Rattle.instant.specs.Instant.{yearsEnd}
 
--- b has g of each number of a, in its place
-pub record Each (g : ℕ → ℕ) (a b : List ℕ) : Type 0 where
-  pub long : length b ≡ length a
-  pub each : (k : ℕ) → k < length a → getD b k 0 ≡ g (getD a k 0)
-
 -- the second of a local second, and 0 for one that cannot be asked for
 unfoldable pub secondIn : Zone → ℕ → ℕ
 secondIn z x = pickN (leb firstLocal x) (pickN (ltb x yearsEnd) (secondOf z x) 0) 0
 
 -- the offset at a second, and 0 at one that cannot be asked for
-unfoldable pub offsetIn : Zone → ℕ → ℕ
-offsetIn z u = pickN (ltb u yearsEnd) (offsetAt z u) 0
+unfoldable pub offsetAsked : Zone → ℕ → ℕ
+offsetAsked z u = pickN (ltb u yearsEnd) (offsetAt z u) 0
 
 -- of a file: one that is refused changes nothing
 abbrev pub secondsOf : Option Zone → ℕ → ℕ
@@ -30,5 +25,5 @@ secondsOf (some z) x = secondIn z x
 secondsOf none x = x
 
 abbrev pub offsetsOf : Option Zone → ℕ → ℕ
-offsetsOf (some z) u = offsetIn z u
+offsetsOf (some z) u = offsetAsked z u
 offsetsOf none u = u

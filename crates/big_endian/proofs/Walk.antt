@@ -7,7 +7,7 @@ use native.Mathlib.Nat.{le-of-suc-le-suc, eq-or-lt-of-le, not-suc-le-zero, add-z
 use native.Mathlib.Numerals.{add-one}
 use native.Mathlib.Omega.{arith}
 use borrow.Author.Tests.{le-leb, lt-leb, le-ltb, lt-ltb, ltb-true}
-use Rattle.big_endian.specs.Walk.{both, pickN, allFrom, countOf, upTo, rising, spanFrom}
+use Rattle.big_endian.specs.Walk.{both, pickN, allFrom, countBelow, upTo, risesAt, spanFrom}
 
 all-more : (t : ℕ → Bool) (i n : ℕ) → i < n → allFrom t i (n - i) ≡ both (t i) (allFrom t (i + 1) (n - (i + 1)))
 unfolding allFrom
@@ -51,12 +51,12 @@ all-at t n j e h =
     let q : 0 + j ≡ j = omega arith in
     subst (λ (m : ℕ). t m ≡ true) q (all-at-from t n 0 j e h)
 
-pub count-le : (t : ℕ → Bool) (n : ℕ) → countOf t n ≤ n
-unfolding countOf
+pub count-le : (t : ℕ → Bool) (n : ℕ) → countBelow t n ≤ n
+unfolding countBelow
 count-le t zero = omega arith
 count-le t (suc k) = go (t k) (count-le t k)
   where
-    go : (b : Bool) → countOf t k ≤ k → countOf t k + pickN b 1 0 ≤ suc k
+    go : (b : Bool) → countBelow t k ≤ k → countBelow t k + pickN b 1 0 ≤ suc k
     go true h = omega arith
     go false h = omega arith
 
@@ -74,40 +74,40 @@ module _ (key : ℕ → ℕ) where
       (eq-or-lt-of-le h)
 
   -- where the last of the keys is at most u, all count
-  count-full : (u n : ℕ) → ((k : ℕ) → k < n → key k ≤ u) → countOf (upTo key u) n ≡ n
-  unfolding countOf
+  count-full : (u n : ℕ) → ((k : ℕ) → k < n → key k ≤ u) → countBelow (upTo key u) n ≡ n
+  unfolding countBelow
   count-full u zero h = refl
   count-full u (suc k) h =
-      let i : countOf (upTo key u) k ≡ k = count-full u k (λ j l. h j (omega arith)) in
+      let i : countBelow (upTo key u) k ≡ k = count-full u k (λ j l. h j (omega arith)) in
       let l : key k ≤ u = h k (omega arith) in
       rw (le-leb (key k) u l) (omega arith)
 
   module _ (u : ℕ) where
-    pub count-in : (n m : ℕ) → Rises n → m < n → key m ≤ u → m < countOf (upTo key u) n
-    unfolding countOf
+    pub count-in : (n m : ℕ) → Rises n → m < n → key m ≤ u → m < countBelow (upTo key u) n
+    unfolding countBelow
     count-in zero m s h l = absurd (not-suc-le-zero h)
     count-in (suc k) m s h l = ⊎-elim
         (λ e. let q : key k ≤ u = subst (λ (j : ℕ). key j ≤ u) e l in
-        let f : countOf (upTo key u) k ≡ k = count-full u k (λ j lj. let r : key j ≤ key k = s j k (omega arith) (omega arith) in omega arith) in
+        let f : countBelow (upTo key u) k ≡ k = count-full u k (λ j lj. let r : key j ≤ key k = s j k (omega arith) (omega arith) in omega arith) in
         rw (le-leb (key k) u q) (omega arith))
-        (λ lt. let r : m < countOf (upTo key u) k = count-in k m (λ i j a b. s i j a (omega arith)) lt l in omega arith)
+        (λ lt. let r : m < countBelow (upTo key u) k = count-in k m (λ i j a b. s i j a (omega arith)) lt l in omega arith)
         (eq-or-lt-of-le (le-of-suc-le-suc h))
 
-    pub count-out : (n m : ℕ) → Rises n → m < n → u < key m → countOf (upTo key u) n ≤ m
-    unfolding countOf
+    pub count-out : (n m : ℕ) → Rises n → m < n → u < key m → countBelow (upTo key u) n ≤ m
+    unfolding countBelow
     count-out zero m s h l = absurd (not-suc-le-zero h)
     count-out (suc k) m s h l =
         let r : key m ≤ key k = s m k (le-of-suc-le-suc h) (omega arith) in
         rw (lt-leb (key k) u (omega arith))
         (⊎-elim
-        (λ e. let b : countOf (upTo key u) k ≤ k = count-le (upTo key u) k in omega arith)
-        (λ lt. let i : countOf (upTo key u) k ≤ m = count-out k m (λ i j a b. s i j a (omega arith)) lt l in omega arith)
+        (λ e. let b : countBelow (upTo key u) k ≤ k = count-le (upTo key u) k in omega arith)
+        (λ lt. let i : countBelow (upTo key u) k ≤ m = count-out k m (λ i j a b. s i j a (omega arith)) lt l in omega arith)
         (eq-or-lt-of-le (le-of-suc-le-suc h)))
 
 -- a table whose every key is below the next rises
-pub rises : (key : ℕ → ℕ) (n : ℕ) → allFrom (rising key) 0 (n - 1) ≡ true → Rises key n
+pub rises : (key : ℕ → ℕ) (n : ℕ) → allFrom (risesAt key) 0 (n - 1) ≡ true → Rises key n
 rises key n e = rises-from key n (λ i h.
-    let l : key i < key (i + 1) = ltb-true (key i) (key (i + 1)) (all-at (rising key) (n - 1) i e (omega arith)) in
+    let l : key i < key (i + 1) = ltb-true (key i) (key (i + 1)) (all-at (risesAt key) (n - 1) i e (omega arith)) in
     omega arith)
 
 pub all-none : (t : ℕ → Bool) {n : ℕ} → n ≡ 0 → true ≡ allFrom t 0 (n - 1)
@@ -115,12 +115,12 @@ unfolding allFrom
 all-none t h = rw h
 
 -- one step of a loop that checks that a table rises
-module _ (key : ℕ → ℕ) {i n x y : ℕ} {d : Bool} (h : i < n) (inv : allFrom (rising key) i (n - i) ≡ d) (ex : x ≡ key i) (ey : y ≡ key (i + 1)) where
+module _ (key : ℕ → ℕ) {i n x y : ℕ} {d : Bool} (h : i < n) (inv : allFrom (risesAt key) i (n - i) ≡ d) (ex : x ≡ key i) (ey : y ≡ key (i + 1)) where
   pub rise-no : y ≤ x → false ≡ d
-  rise-no l = all-no (rising key) h inv refl (le-ltb (key i) (key (i + 1)) (omega arith))
+  rise-no l = all-no (risesAt key) h inv refl (le-ltb (key i) (key (i + 1)) (omega arith))
 
-  pub rise-yes : x < y → allFrom (rising key) (i + 1) (n - (i + 1)) ≡ d
-  rise-yes l = all-yes (rising key) h inv refl (lt-ltb (key i) (key (i + 1)) (omega arith))
+  pub rise-yes : x < y → allFrom (risesAt key) (i + 1) (n - (i + 1)) ≡ d
+  rise-yes l = all-yes (risesAt key) h inv refl (lt-ltb (key i) (key (i + 1)) (omega arith))
 
 span-more : (t : ℕ → Bool) (i n : ℕ) → i < n → spanFrom t i (n - i) ≡ pickN (t i) (spanFrom t (i + 1) (n - (i + 1))) i
 unfolding spanFrom

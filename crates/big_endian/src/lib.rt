@@ -9,7 +9,7 @@ ghost use Rattle.big_endian.specs.Be.{twoBytes, fourBytes, be16, be32, b
 // How many numbers two and four bytes can hold.
 pub const TWO_BYTES: u32 = 65536;
 
-const FOUR_BYTES: u64 = 4294967296;
+pub const FOUR_BYTES: u64 = 4294967296;
 
 // The byte at i.
 pub fn byte_at(s: &[u8], i: usize) -> u8

@@ -10,12 +10,12 @@ use Rattle.block_list.specs.declared.Blocks.{Blocks}
 abbrev pub capacity : ℕ
 capacity = 672
 
-abbrev pub blockOf : Block → Block′
-blockOf b = block (b .start) (b .end)
+abbrev pub blockIs : Block → Block′
+blockIs b = block (b .start) (b .end)
 
 -- the first n of an array
 abbrev pub front : ℕ → List Block → List Block′
-front n l = map blockOf (take n l)
+front n l = map blockIs (take n l)
 
 -- the blocks that are used
 abbrev pub listOf : Blocks → List Block′

@@ -69,8 +69,8 @@ abbrev pub absorbed : ℕ → ℕ → ℕ → ℕ → ℕ → List ℕ → List 
 absorbed n j i s e l = part 0 j l ++ hull s e j i l ∷ part i (n - i) l
 
 -- the union of the first n blocks and [s, e)
-abbrev pub added : ℕ → ℕ → ℕ → List ℕ → List Block
-added n s e l = union (pairs n l ++ put s e [])
+abbrev pub unionWith : ℕ → ℕ → ℕ → List ℕ → List Block
+unionWith n s e l = union (pairs n l ++ put s e [])
 
 -- the first w blocks, and [s, e) behind them if it holds anything
 abbrev pub appended : ℕ → ℕ → ℕ → List ℕ → List Block

@@ -5,7 +5,7 @@ ghost use Prim.Native.Nat.{_+_, _*_, _-_, _≤_, _<_};
 ghost use lib.ListN.{length};
 ghost use Rattle.model.specs.Blocks.{subtract, total};
 ghost use Rattle.laws_blocks.specs.Members.{Normal, NonEmpty};
-ghost use Rattle.block_pairs.specs.Pairs.{pairs, Holds, wordEnd, Becomes, StartsTo, EndsFrom, Raised, Lowered, inserted, absorbed, added, appended, Subtracted, CutTo};
+ghost use Rattle.block_pairs.specs.Pairs.{pairs, Holds, wordEnd, Becomes, StartsTo, EndsFrom, Raised, Lowered, inserted, absorbed, unionWith, appended, Subtracted, CutTo};
 
 // ---- a block more
 
@@ -103,7 +103,7 @@ fn absorb(l: &mut [u64], n: usize, j: usize, i: usize, s: u64, e: u64) -> usize
 // Adds [s, e) to the first n blocks, which are sorted and apart: those that overlap or touch become one. The memory has room for a block more.
 pub fn add(l: &mut [u64], n: usize, s: u64, e: u64) -> usize
     requires { ⌜ Normal (pairs n (now l)) × (2 * n + 2 ≤ length (now l)) ⌝ }
-    ensures { λ r. ⌜ Becomes (now (l .entry)) (now (l .exit)) r (n + 1) (added n s e (now (l .entry))) ⌝ }
+    ensures { λ r. ⌜ Becomes (now (l .entry)) (now (l .exit)) r (n + 1) (unionWith n s e (now (l .entry))) ⌝ }
 {
     if e <= s {
         return n;

@@ -23,6 +23,7 @@ use Rattle.model.specs.Book as model
 use Rattle.model.specs.Book.{Hours, Body, default, work, pause, holidays, timeOf, hoursOf, datesOf, bodyOf, entryOf}
 use Rattle.book.specs.Meaning.{datesAt}
 use Rattle.book.specs.Accepts.{isTime, isHours, areDays, isDates, isBody, isRecord}
+use Rattle.model.specs.Instant.{daySeconds, second}
 
 -- ---- answers that are given under a test
 
@@ -37,10 +38,10 @@ given-two false u v a b f = refl
 -- ---- a time of day
 
 unfoldable pub timeTest : List ℕ → ℕ → Bool
-timeTest l p = ltb (be32 l p) 86400 && ltb (be32 l (p + 4)) 1000000000
+timeTest l p = ltb (be32 l p) daySeconds && ltb (be32 l (p + 4)) second
 
 unfoldable pub timeValue : List ℕ → ℕ → ℕ
-timeValue l p = be32 l p * 1000000000 + be32 l (p + 4)
+timeValue l p = be32 l p * second + be32 l (p + 4)
 
 time-given : (l : List ℕ) (p : ℕ) → p + 8 ≤ length l → timeOf (drop p l) ≡ given (timeTest l p) (timeValue l p)
 unfolding timeOf timeTest timeValue

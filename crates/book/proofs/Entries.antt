@@ -20,16 +20,17 @@ use Rattle.model.specs.Basic.{_>>=_, given, each, run}
 use Rattle.model.specs.Directory.{partsOf}
 use Rattle.model.specs.Book as model
 use Rattle.model.specs.Book.{holidays, dates, entryOf, entriesOf}
-use Rattle.directory.specs.Directory.{countAt, startAt, lenAt, partAt, dirOk}
+use Rattle.directory.specs.Directory.{entryCount, startAt, lenAt, partAt, dirOk}
 use Rattle.directory.proofs.Parts.{parts-index, some-given, as-dir, drop-take, run-at, inside-from, entries-hold}
 use Rattle.civil.specs.declared.Time.{Time}
 use Rattle.book_dates.specs.Days.{isDay, HasDates}
 use Rattle.book_dates.proofs.Dates.{length-dates}
 use Rattle.book_dates.proofs.Reading.{dateTest, day-says, datesTest, days-says}
 use Rattle.book.specs.declared.Entry.{Entry}
-use Rattle.book.specs.Meaning.{recordsOf, writtenYear, dayAt, datesAt, bodyIn, meaning, kindOf, timeFrom, entryFrom, bytesAt, noEntry, IsTimed, IsEntry, kindAt, datesIn}
+use Rattle.book.specs.Meaning.{recordsOf, writtenYear, dayAt, datesAt, bodyIn, meaning, kindOf, timeWritten, entryFrom, bytesAt, noEntry, IsTimed, IsEntry, kindAt, datesIn}
 use Rattle.book.specs.Accepts.{isTime, isHours, areDays, isDates, isBody, isRecord, isRecordAt, isBook}
 use Rattle.book.proofs.Bytes.{timeTest, timeValue, hoursTest, hoursValue, time-says, hours-says, holidaysTest, pickBody, bodyTest, bodyValue, recordTest, recordValue, dates-says, body-says, record-says, entry-is}
+use Rattle.model.specs.Instant.{daySeconds, second}
 
 -- ---- the book by index
 
@@ -54,23 +55,23 @@ each-entry b (suc k) i =
     rw (entry-at b i, r) (given-cons (isRecordAt b i) (allFrom (isRecordAt b) (i + 1) k) (valueAt b i) (map (valueAt b) (run (suc i) k)))
 
 unfoldable pub bookTest : List ℕ → Bool
-bookTest b = dirOk b && allFrom (isRecordAt b) 0 (countAt b)
+bookTest b = dirOk b && allFrom (isRecordAt b) 0 (entryCount b)
 
-pub book-is : (b : List ℕ) → entriesOf b ≡ given (bookTest b) (map (valueAt b) (run 0 (countAt b)))
+pub book-is : (b : List ℕ) → entriesOf b ≡ given (bookTest b) (map (valueAt b) (run 0 (entryCount b)))
 unfolding entriesOf bookTest
-book-is b = by-test (dirOk b) (λ e. rw (parts-index b, e) (each-entry b (countAt b) 0)) (λ e. rw (parts-index b, e))
+book-is b = by-test (dirOk b) (λ e. rw (parts-index b, e) (each-entry b (entryCount b) 0)) (λ e. rw (parts-index b, e))
 
 -- r is what the code's test gives
 pub book-says : (b : List ℕ) {r : Bool} → r ≡ bookTest b → r ≡ isBook b
 unfolding isBook
-book-says b e = e ∙ some-given (bookTest b) (map (valueAt b) (run 0 (countAt b))) ∙ ap isSome (sym (book-is b))
+book-says b e = e ∙ some-given (bookTest b) (map (valueAt b) (run 0 (entryCount b))) ∙ ap isSome (sym (book-is b))
 
 module _ (b : List ℕ) {r : Bool} (d : r ≡ isSome (partsOf b)) where
   pub book-no : r ≡ false → false ≡ isBook b
   unfolding bookTest
   book-no q = let e : dirOk b ≡ false = as-dir b refl ∙ sym d ∙ q in book-says b (rw e)
 
-  pub book-yes : {n : ℕ} {t : Bool} → r ≡ true → n ≡ countAt b → t ≡ allFrom (isRecordAt b) 0 n → t ≡ isBook b
+  pub book-yes : {n : ℕ} {t : Bool} → r ≡ true → n ≡ entryCount b → t ≡ allFrom (isRecordAt b) 0 n → t ≡ isBook b
   unfolding bookTest
   book-yes q en k = let e : dirOk b ≡ true = as-dir b refl ∙ sym d ∙ q in book-says b (rw (e, ← en) k)
 
@@ -82,26 +83,26 @@ length-run i zero = refl
 length-run i (suc k) = ap suc (length-run (suc i) k)
 
 module _ (b : List ℕ) (h : isBook b ≡ true) where
-  tested : (dirOk b ≡ true) × (allFrom (isRecordAt b) 0 (countAt b) ≡ true)
+  tested : (dirOk b ≡ true) × (allFrom (isRecordAt b) 0 (entryCount b) ≡ true)
   unfolding bookTest
-  tested = and-both (dirOk b) (allFrom (isRecordAt b) 0 (countAt b)) (book-says b refl ∙ h)
+  tested = and-both (dirOk b) (allFrom (isRecordAt b) 0 (entryCount b)) (book-says b refl ∙ h)
 
-  records-are : recordsOf b ≡ map (valueAt b) (run 0 (countAt b))
+  records-are : recordsOf b ≡ map (valueAt b) (run 0 (entryCount b))
   unfolding bookTest
   records-are = rw (book-is b, tested .0, tested .1)
 
-  pub count-is : countAt b ≡ length (recordsOf b)
-  count-is = sym (ap length records-are ∙ length-map (run 0 (countAt b)) (valueAt b) ∙ length-run 0 (countAt b))
+  pub count-is : entryCount b ≡ length (recordsOf b)
+  count-is = sym (ap length records-are ∙ length-map (run 0 (entryCount b)) (valueAt b) ∙ length-run 0 (entryCount b))
 
-  module _ (i : ℕ) (l : i < countAt b) where
+  module _ (i : ℕ) (l : i < entryCount b) where
     pub value-is : getD (recordsOf b) i noEntry ≡ valueAt b i
-    value-is = let e : 0 + i ≡ i = omega arith in ap (λ (r : List model.Entry). getD r i noEntry) records-are ∙ run-at (valueAt b) noEntry (countAt b) 0 i l ∙ rw e
+    value-is = let e : 0 + i ≡ i = omega arith in ap (λ (r : List model.Entry). getD r i noEntry) records-are ∙ run-at (valueAt b) noEntry (entryCount b) 0 i l ∙ rw e
 
     pub record-is : isRecord (bytesAt b i) ≡ true
-    record-is = all-at (isRecordAt b) (countAt b) i (tested .1) l
+    record-is = all-at (isRecordAt b) (entryCount b) i (tested .1) l
 
     pub ends-in : startAt b i + lenAt b i ≤ length b
-    ends-in = let e : 0 + i ≡ i = omega arith in rw e at (inside-from b (countAt b) (4 + 8 * countAt b) 0 i (entries-hold b (tested .0) .1) l)
+    ends-in = let e : 0 + i ≡ i = omega arith in rw e at (inside-from b (entryCount b) (4 + 8 * entryCount b) 0 i (entries-hold b (tested .0) .1) l)
 
 -- ---- from the bytes of a record to those of the book
 
@@ -185,7 +186,7 @@ record-facts l t =
 
 module _ (b : List ℕ) (o k : ℕ) (h : o + k ≤ length b) (t : isRecord (take k (drop o b)) ≡ true) where
   body-means : bodyIn b (entryFrom o (take k (drop o b))) ≡ bodyValue (getD (take k (drop o b)) 0 0) (take k (drop o b)) (2 + getD (take k (drop o b)) 1 0)
-  unfolding entryFrom bodyValue hoursValue timeValue timeFrom
+  unfolding entryFrom bodyValue hoursValue timeValue timeWritten
   body-means =
       let l = take k (drop o b) in
       let kind = getD l 0 0 in
@@ -242,14 +243,14 @@ kind-in b o k t =
     kind-few (getD l 0 0) l (2 + getD l 1 0) (f .1) (f .2)
 
 -- the bounds of a time of day, and of a work or break record
-time-facts : (l : List ℕ) (p : ℕ) → p + 8 ≤ length l → isTime l p ≡ true → (be32 l p < 86400) × (be32 l (p + 4) < 1000000000)
+time-facts : (l : List ℕ) (p : ℕ) → p + 8 ≤ length l → isTime l p ≡ true → (be32 l p < daySeconds) × (be32 l (p + 4) < second)
 unfolding timeTest
 time-facts l p h t =
-    let a = and-both (ltb (be32 l p) 86400) (ltb (be32 l (p + 4)) 1000000000) (time-says l p h refl ∙ t) in
-    (ltb-true (be32 l p) 86400 (a .0), ltb-true (be32 l (p + 4)) 1000000000 (a .1))
+    let a = and-both (ltb (be32 l p) daySeconds) (ltb (be32 l (p + 4)) second) (time-says l p h refl ∙ t) in
+    (ltb-true (be32 l p) daySeconds (a .0), ltb-true (be32 l (p + 4)) second (a .1))
 
 hours-facts : (l : List ℕ) (p : ℕ) → p ≤ length l → isHours l p ≡ true →
-    (getD l p 0 < 128) × ((be32 l (p + 1) < 86400) × (be32 l (p + 1 + 4) < 1000000000)) × ((be32 l (p + 9) < 86400) × (be32 l (p + 9 + 4) < 1000000000))
+    (getD l p 0 < 128) × ((be32 l (p + 1) < daySeconds) × (be32 l (p + 1 + 4) < second)) × ((be32 l (p + 9) < daySeconds) × (be32 l (p + 9 + 4) < second))
 unfolding hoursTest
 hours-facts l p h t =
     let a = and-both (eqb (length l) (p + 17)) (ltb (getD l p 0) 128 && (isTime l (p + 1) && isTime l (p + 9))) (hours-says l p h refl ∙ t) in
@@ -271,7 +272,7 @@ hours-of kind l p h t a c =
 
 timed-in : (b : List ℕ) (o k : ℕ) → isRecord (take k (drop o b)) ≡ true → 1 ≤ entryFrom o (take k (drop o b)) .kind → entryFrom o (take k (drop o b)) .kind ≤ 2 →
     IsTimed (entryFrom o (take k (drop o b)))
-unfolding entryFrom timeFrom
+unfolding entryFrom timeWritten
 timed-in b o k t x y =
     let l = take k (drop o b) in
     let f = record-facts l t in
@@ -280,8 +281,8 @@ timed-in b o k t x y =
     record { days = q .0; start-seconds = q .1 .0; start-nanos = q .1 .1; end-seconds = q .2 .0; end-nanos = q .2 .1 }
 
 -- the entry that the code makes of what it reads
-pub entry-read : (o : ℕ) (l : List ℕ) {n k d c : ℕ} {s f : Time} → n ≡ getD l 1 0 → k ≡ getD l 0 0 → d ≡ getD l (2 + n) 0 → s ≡ timeFrom l (2 + n + 1) →
-    f ≡ timeFrom l (2 + n + 9) → c ≡ be16 l (2 + n) →
+pub entry-read : (o : ℕ) (l : List ℕ) {n k d c : ℕ} {s f : Time} → n ≡ getD l 1 0 → k ≡ getD l 0 0 → d ≡ getD l (2 + n) 0 → s ≡ timeWritten l (2 + n + 1) →
+    f ≡ timeWritten l (2 + n + 9) → c ≡ be16 l (2 + n) →
     record { kind = k; place = o; name = o + 2; letters = n; days = d; start = s; end = f; dates = o + (2 + n + 2); count = c } ≡ entryFrom o l
 unfolding entryFrom
 entry-read o l en ek ed es ef ec = rw (ek, ed, es, ef, ec, en)
@@ -292,7 +293,7 @@ pub is-entry : (b : List ℕ) (i : ℕ) {o : ℕ} {l : List ℕ} {e : Entry} →
 unfolding bytesAt valueAt
 is-entry b i {o} {l} {e} h eo el ee few =
     let t : isBook b ≡ true = has-book b i h in
-    let c : i < countAt b = omega (arith, count-is b t) in
+    let c : i < entryCount b = omega (arith, count-is b t) in
     let a = startAt b i in
     let n = lenAt b i in
     let q : a + n ≤ length b = ends-in b t i c in
@@ -331,7 +332,7 @@ module _ (b : List ℕ) (i : ℕ) (h : i < length (recordsOf b)) where
   abbrev record-of : List ℕ
   record-of = take (lenAt b i) (drop (startAt b i) b)
 
-  inside : i < countAt b
+  inside : i < entryCount b
   inside = omega (arith, count-is b (has-book b i h))
 
   whole : isRecord (take (lenAt b i) (drop (startAt b i) b)) ≡ true

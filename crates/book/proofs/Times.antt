@@ -9,16 +9,17 @@ use lib.ListN.{length, getD}
 use Rattle.big_endian.specs.Be.{be32}
 use Rattle.book.specs.Accepts.{isTime, isHours}
 use Rattle.book.proofs.Bytes.{timeTest, time-says, hoursTest, hours-says}
+use Rattle.model.specs.Instant.{daySeconds, second}
 
 -- from the bounds that their tests show
 module _ (l : List ℕ) (p : ℕ) {x : ℕ} (h : p + 8 ≤ length l) (ex : x ≡ be32 l p) where
-  pub time-late : 86400 ≤ x → false ≡ isTime l p
+  pub time-late : daySeconds ≤ x → false ≡ isTime l p
   unfolding timeTest
-  time-late k = time-says l p h (rw (← ex, le-ltb x 86400 k))
+  time-late k = time-says l p h (rw (← ex, le-ltb x daySeconds k))
 
-  pub time-left : {y : ℕ} → x < 86400 → y ≡ be32 l (p + 4) → ltb y 1000000000 ≡ isTime l p
+  pub time-left : {y : ℕ} → x < daySeconds → y ≡ be32 l (p + 4) → ltb y second ≡ isTime l p
   unfolding timeTest
-  time-left k ey = time-says l p h (rw (← ex, ← ey, lt-ltb x 86400 k))
+  time-left k ey = time-says l p h (rw (← ex, ← ey, lt-ltb x daySeconds k))
 
 module _ (l : List ℕ) (p : ℕ) (h : p ≤ length l) where
   pub hours-length : (length l ≡ p + 17 → ⊥) → false ≡ isHours l p

@@ -9,7 +9,7 @@ use lib.ListN.{length, getD, getElem?, take, drop}
 use Rattle.big_endian.specs.Be.{twoBytes, fourBytes, be16, be32}
 use Rattle.big_endian.specs.Maybe.{orEmpty}
 use Rattle.directory.specs.Directory.{startAt, lenAt}
-use Rattle.model.specs.Instant.{second}
+use Rattle.model.specs.Instant.{second, daySeconds}
 unfoldable pub use Rattle.book_dates.specs.Days.{writtenYear, dayAt, datesAt}
 use Rattle.book_dates.specs.Days.{HasDates}
 use Rattle.model.specs.Book as model
@@ -19,12 +19,9 @@ use Rattle.civil.specs.declared.Time.{Time}
 use Rattle.book.specs.declared.Entry.{Entry}
 use Rattle.book.specs.declared.Tallies.{Tallies}
 
--- how many sets of weekdays there are, and the seconds of a day
+-- how many sets of weekdays there are
 abbrev pub weekdaySets : ℕ
 weekdaySets = 128
-
-abbrev pub daySeconds : ℕ
-daySeconds = 86400
 
 -- the book's records; none where its layout does not hold
 abbrev pub recordsOf : List ℕ → List model.Entry
@@ -71,8 +68,8 @@ ofKind k x = if eqb (kindOf x) k then 1 else 0
 -- ---- an entry as the code reads it
 
 -- the time of day written at p
-unfoldable pub timeFrom : List ℕ → ℕ → Time
-timeFrom l p = record { seconds = be32 l p; nanos = be32 l (p + 4) }
+unfoldable pub timeWritten : List ℕ → ℕ → Time
+timeWritten l p = record { seconds = be32 l p; nanos = be32 l (p + 4) }
 
 -- the record whose bytes are l and which stands at o in the book
 unfoldable pub entryFrom : ℕ → List ℕ → Entry
@@ -84,8 +81,8 @@ entryFrom o l =
       name = o + 2;
       letters = n;
       days = getD l (2 + n) 0;
-      start = timeFrom l (2 + n + 1);
-      end = timeFrom l (2 + n + 9);
+      start = timeWritten l (2 + n + 1);
+      end = timeWritten l (2 + n + 9);
       dates = o + (2 + n + 2);
       count = be16 l (2 + n);
     }

@@ -6,7 +6,7 @@ ghost use lib.ListN.{length};
 ghost use Rattle.model.specs.Book.{withinLimits};
 ghost use Rattle.big_endian.specs.Be.{twoBytes, fourBytes};
 ghost use Rattle.big_endian.specs.Walk.{allFrom};
-ghost use Rattle.book.specs.Meaning.{recordsOf, holidaysKind, timeFrom, entryFrom, bytesAt, HasRecord, IsLastDefault, IsEntry, kindAt, datesIn, talliesOf};
+ghost use Rattle.book.specs.Meaning.{recordsOf, holidaysKind, timeWritten, entryFrom, bytesAt, HasRecord, IsLastDefault, IsEntry, kindAt, datesIn, talliesOf};
 ghost use Rattle.book.specs.Accepts.{isTime, isHours, isDates, isBody, isRecord, isRecordAt, isBook};
 use civil::Time;
 
@@ -38,8 +38,21 @@ const SECOND: u32 = instant::SECOND as u32;
 // How many sets of weekdays there are: a bit for each day.
 const WEEKDAY_SETS: u8 = 128;
 
+// The bytes of a record before its name: its kind and how many letters the name has.
+const NAME_AT: usize = 2;
+
 // A set of weekdays and two times of day: 1 byte and twice 8.
 const HOURS: usize = 17;
+
+// Where the two times of day stand behind the set, and the nanoseconds of a time of day behind its seconds.
+const START_AT: usize = 1;
+
+const END_AT: usize = 9;
+
+const NANOS_AT: usize = 4;
+
+// The bytes of the count of dates.
+const COUNT_SIZE: usize = 2;
 
 // A record of the book. A name and dates are given by where they stand in the book.
 pub struct Entry {
@@ -69,7 +82,7 @@ fn time_ok(l: &[u8], p: usize) -> bool
     if big_endian::be32_at(l, p) >= DAY {
         return false;
     }
-    big_endian::be32_at(l, p + 4) < SECOND
+    big_endian::be32_at(l, p + NANOS_AT) < SECOND
 }
 
 // A set of weekdays and two times of day, and nothing behind them.
@@ -83,10 +96,10 @@ fn hours_ok(l: &[u8], p: usize) -> bool
     if big_endian::byte_at(l, p) >= WEEKDAY_SETS {
         return false;
     }
-    if !time_ok(l, p + 1) {
+    if !time_ok(l, p + START_AT) {
         return false;
     }
-    time_ok(l, p + 9)
+    time_ok(l, p + END_AT)
 }
 
 // A count and as many dates, and nothing behind them.
@@ -94,14 +107,14 @@ fn holidays_ok(l: &[u8], p: usize) -> bool
     requires { ⌜ p ≤ length (now l) ⌝ }
     ensures { λ r. ⌜ r ≡ isDates (now (l .entry)) p ⌝ }
 {
-    if l.len() < p + 2 {
+    if l.len() < p + COUNT_SIZE {
         return false;
     }
     let n = big_endian::be16_at(l, p) as usize;
-    if l.len() != p + 2 + 4 * n {
+    if l.len() != p + COUNT_SIZE + book_dates::DATE_SIZE * n {
         return false;
     }
-    book_dates::dates_ok(l, p + 2, n)
+    book_dates::dates_ok(l, p + COUNT_SIZE, n)
 }
 
 // What stands behind the name of a record of the given kind.
@@ -132,10 +145,10 @@ fn record_ok(l: &[u8]) -> bool
     if n > directory::LONGEST_NAME {
         return false;
     }
-    if l.len() < 2 + n {
+    if l.len() < NAME_AT + n {
         return false;
     }
-    body_ok(big_endian::byte_at(l, 0), l, 2 + n)
+    body_ok(big_endian::byte_at(l, 0), l, NAME_AT + n)
 }
 
 // ---- the book's records
@@ -188,11 +201,11 @@ pub fn count(book: &[u8]) -> usize
 // The time of day at p.
 fn read_time(l: &[u8], p: usize) -> Time
     requires { ⌜ p < fourBytes ⌝ }
-    ensures { λ r. ⌜ r ≡ timeFrom (now (l .entry)) p ⌝ }
+    ensures { λ r. ⌜ r ≡ timeWritten (now (l .entry)) p ⌝ }
 {
     Time {
         seconds: big_endian::be32_at(l, p),
-        nanos: big_endian::be32_at(l, p + 4),
+        nanos: big_endian::be32_at(l, p + NANOS_AT),
     }
 }
 
@@ -202,18 +215,18 @@ fn read_entry(l: &[u8], place: usize) -> Entry
     ensures { λ r. ⌜ (r ≡ entryFrom place (now (l .entry))) × (r .count < twoBytes) ⌝ }
 {
     let n = big_endian::small_at(l, 1);
-    let p = 2 + n;
-    let start = read_time(l, p + 1);
-    let end = read_time(l, p + 9);
+    let p = NAME_AT + n;
+    let start = read_time(l, p + START_AT);
+    let end = read_time(l, p + END_AT);
     Entry {
         kind: big_endian::byte_at(l, 0),
         place,
-        name: place + 2,
+        name: place + NAME_AT,
         letters: n,
         days: big_endian::byte_at(l, p),
         start,
         end,
-        dates: place + (p + 2),
+        dates: place + (p + COUNT_SIZE),
         count: big_endian::be16_at(l, p) as usize,
     }
 }
@@ -242,7 +255,7 @@ fn dates_in(book: &[u8], i: usize) -> usize
     ensures { λ r. ⌜ (r ≡ datesIn (now (book .entry)) i) × (r < twoBytes) ⌝ }
 {
     let at = directory::start_at(book, i);
-    big_endian::be16_at(book, at + 2 + big_endian::small_at(book, at + 1)) as usize
+    big_endian::be16_at(book, at + NAME_AT + big_endian::small_at(book, at + 1)) as usize
 }
 
 // ---- the limits

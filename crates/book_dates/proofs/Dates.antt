@@ -8,13 +8,13 @@ use lib.ListN.{length, getD}
 use Rattle.big_endian.specs.Be.{be16}
 use Rattle.civil.specs.declared.Date.{Date}
 use Rattle.model.specs.Calendar.{isDate, dayNumber}
-use Rattle.book_dates.specs.Days.{yearOf, writtenYear, IsWritten, dayAt, datesAt, isDay}
+use Rattle.book_dates.specs.Days.{yearInBytes, writtenYear, IsWritten, dayAt, datesAt, isDay}
 use Rattle.book_dates.proofs.Reading.{dateTest, datesTest}
 
 -- ---- a date
 
 -- the year, from its two bytes
-pub year-is : (b : List ℕ) (p : ℕ) {x y r : ℕ} → r ≡ yearOf (x * 256 + y) → x ≡ getD b p 0 → y ≡ getD b (p + 1) 0 → r ≡ writtenYear b p
+pub year-is : (b : List ℕ) (p : ℕ) {x y r : ℕ} → r ≡ yearInBytes (x * 256 + y) → x ≡ getD b p 0 → y ≡ getD b (p + 1) 0 → r ≡ writtenYear b p
 unfolding writtenYear be16
 year-is b p e ex ey = e ∙ rw (ex, ey)
 

@@ -14,7 +14,7 @@ use Rattle.model.specs.Basic.{if_then_else_, _>>=_, given, each}
 use Rattle.model.specs.Bytes.{be, pieces}
 use Rattle.model.specs.Book.{dateIn}
 use Rattle.model.specs.Calendar.{isDate, dayNumber}
-use Rattle.book_dates.specs.Days.{yearOf, writtenYear, dayAt, datesAt, isDay, areDays}
+use Rattle.book_dates.specs.Days.{yearInBytes, writtenYear, dayAt, datesAt, isDay, areDays}
 
 -- the same, with the answer's own test
 pub is-given : {A : Type 0} (m : Option A) (t : Bool) (a : A) → m ≡ given t a → (isSome m ≡ t) × (m ≡ given (isSome m) a)
@@ -34,7 +34,7 @@ date-given : (l : List ℕ) (p : ℕ) → p + 4 ≤ length l → dateIn (take 4 
 unfolding dateIn dateTest dayAt writtenYear
 date-given l p h =
     let a : be16 l p ≡ be 2 (drop p l) = at-2 l p (omega arith) in
-    let y : ℕ = yearOf (be16 l p) in
+    let y : ℕ = yearInBytes (be16 l p) in
     rw (take-take 2 4 (drop p l) (omega arith), ← a, getD-take 4 (drop p l) 2 0 (omega arith), getD-take 4 (drop p l) 3 0 (omega arith), getD-drop p l 2 0, getD-drop p l 3 0)
     (given-if (isDate y (getD l (p + 2) 0) (getD l (p + 3) 0)) (dayNumber y (getD l (p + 2) 0) (getD l (p + 3) 0)) 0)
 

@@ -13,7 +13,7 @@ use Rattle.laws_calendar.specs.Dates.{IsDate, date-facts, is-had, date-of-day}
 use Rattle.model.specs.Basic.{any, among, distinct}
 use Rattle.model.specs.Calendar.{Date, date, isDate, dateOf}
 use Rattle.book_dates.specs.Words.{wordsAt}
-use Rattle.book_dates.specs.Days.{yearOf, writtenYear, dayAt, datesAt, isDay, HasDates}
+use Rattle.book_dates.specs.Days.{yearInBytes, writtenYear, dayAt, datesAt, isDay, HasDates}
 use Rattle.book_dates.proofs.Reading.{dateTest, day-says, datesTest, days-says}
 
 -- four bytes make one number
@@ -22,7 +22,7 @@ one-number : (a b c d x y z w : ℕ) → a < 256 → b < 256 → c < 256 → d <
 one-number a b c d x y z w ha hb hc hd hx hy hz hw e = (omega arith, omega arith, omega arith, omega arith)
 
 -- a year that is counted is of one number
-one-year : (x y : ℕ) → x < twoBytes → y < twoBytes → 401 ≤ yearOf x → yearOf x ≡ yearOf y → x ≡ y
+one-year : (x y : ℕ) → x < twoBytes → y < twoBytes → 401 ≤ yearInBytes x → yearInBytes x ≡ yearInBytes y → x ≡ y
 one-year x y hx hy h e = omega arith
 
 module _ (b : List ℕ) (bytes : (k : ℕ) → getD b k 0 < 256) where

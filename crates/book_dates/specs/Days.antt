@@ -11,21 +11,19 @@ use Rattle.model.specs.Basic.{if_then_else_, each}
 use Rattle.model.specs.Book.{dateIn}
 use Rattle.model.specs.Bytes.{pieces}
 use Rattle.model.specs.Calendar.{isDate, dayNumber}
+use Rattle.civil.specs.Dates.{yearBias}
 
--- of the numbers that two bytes can hold, how many are negative where they have a sign; and the year -10400, counted from the least of them
+-- of the numbers that two bytes can hold, how many are negative where they have a sign
 abbrev pub negatives : ℕ
 negatives = 32768
 
-abbrev pub firstYear : ℕ
-firstYear = 22368
-
 -- the year that two bytes say, counted from -10400; 0 for those before
-abbrev pub yearOf : ℕ → ℕ
-yearOf n = (n + negatives) % twoBytes - firstYear
+abbrev pub yearInBytes : ℕ → ℕ
+yearInBytes n = (n + negatives) % twoBytes - yearBias
 
 -- the year written at p
 unfoldable pub writtenYear : List ℕ → ℕ → ℕ
-writtenYear b p = yearOf (be16 b p)
+writtenYear b p = yearInBytes (be16 b p)
 
 -- d is the year, month and day written at p
 pub record IsWritten (b : List ℕ) (p : ℕ) (d : Date) : Type 0 where

@@ -6,15 +6,15 @@ ghost use Prim.Native.Nat.{_+_, _*_, _≤_, _<_};
 ghost use lib.ListN.{length};
 ghost use Rattle.model.specs.Basic.{among, distinct};
 ghost use Rattle.big_endian.specs.Be.{twoBytes};
-ghost use Rattle.book_dates.specs.Days.{yearOf, IsWritten, dayAt, datesAt, isDay, areDays, HasDates};
+ghost use Rattle.book_dates.specs.Days.{yearInBytes, IsWritten, dayAt, datesAt, isDay, areDays, HasDates};
 ghost use Rattle.book_dates.specs.Words.{wordsAt, rises, markCount, slotOf};
 use civil::Date;
 
+// The bytes of a date.
+pub const DATE_SIZE: usize = 4;
+
 // Of the numbers that two bytes can hold, how many are negative where they have a sign.
 const NEGATIVES: u32 = 32768;
-
-// The year -10400, from which years are counted, if two bytes are counted from their least number.
-const FIRST_YEAR: u32 = 22368;
 
 // Where dates are counted, how many marks there are, and how many a month and a year have: more than any has days.
 const MARKS: usize = 8192;
@@ -26,13 +26,13 @@ const YEAR: u32 = 372;
 // The year whose two bytes are this number, counted from -10400; 0 for the years before.
 fn year_of(n: u32) -> u32
     requires { ⌜ n < twoBytes ⌝ }
-    ensures { λ r. ⌜ r ≡ yearOf n ⌝ }
+    ensures { λ r. ⌜ r ≡ yearInBytes n ⌝ }
 {
     let y = (n + NEGATIVES) % big_endian::TWO_BYTES;
-    if y < FIRST_YEAR {
+    if y < civil::YEAR_BIAS {
         return 0;
     }
-    y - FIRST_YEAR
+    y - civil::YEAR_BIAS
 }
 
 // The year, month and day that are written at p, whether or not they are a date.
@@ -80,7 +80,7 @@ pub fn dates_ok(l: &[u8], p: usize, n: usize) -> bool
         if !date_ok(l, at) {
             return false;
         }
-        at += 4;
+        at += DATE_SIZE;
         left -= 1;
     }
     true
@@ -102,7 +102,7 @@ fn ascend(b: &[u8], p: usize, n: usize) -> bool
             return false;
         }
         last = w;
-        at += 4;
+        at += DATE_SIZE;
         left -= 1;
     }
     true
@@ -119,7 +119,7 @@ fn has_word(b: &[u8], p: usize, n: usize, w: u32) -> bool
         if w == big_endian::four_at(b, at) {
             return true;
         }
-        at += 4;
+        at += DATE_SIZE;
         left -= 1;
     }
     false
@@ -155,12 +155,12 @@ fn marked_count(b: &[u8], p: usize, n: usize) -> usize
     let mut count: usize = 0;
     while 0 < left {
         left -= 1;
-        let at = p + 4 * left;
+        let at = p + DATE_SIZE * left;
         let w = big_endian::four_at(b, at);
         let k = slot(w);
         let mark = marks[k];
         marks[k] = 1;
-        let new = is_new(b, at + 4, done, w, mark);
+        let new = is_new(b, at + DATE_SIZE, done, w, mark);
         done += 1;
         if new {
             count += 1;

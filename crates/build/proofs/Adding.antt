@@ -19,18 +19,15 @@ use Rattle.book.specs.Meaning.{IsTimed}
 use Rattle.rule.specs.declared.Rule.{Rule}
 use Rattle.rule.specs.declared.HolidayDates.{HolidayDates}
 use Rattle.rule.specs.declared.Schedule.{Schedule}
-use Rattle.rule.specs.Rules.{ruleIs, holidaysIs, scheduleIs, RuleFits, HolidaysFit, All, mostLimit}
+use Rattle.rule.specs.Rules.{ruleIs, holidaysIs, scheduleIs, RuleFits, HolidaysFit, mostLimit}
+use Rattle.laws_base.specs.Every.{Every, every-both}
 use Rattle.build.specs.declared.Opened.{Opened}
-use Rattle.build.specs.Read.{zoneMeant, OpenedWell, ruleFrom, holidaysFrom, dateLimit, withWork, withBreak, withClosed, Long, Room, Adds}
+use Rattle.build.specs.Read.{zoneMeant, OpenedWell, ruleFrom, holidaysFrom, dateLimit, withWork, withBreak, withClosed, Long, RecordRoom, Adds}
 
 -- ---- one element more
 
-all-more : {A : Type 0} (P : A → Type 0) (l : List A) (x : A) → All P l → P x → All P (l ++ (x ∷ []))
-all-more P [] x h k = (k, tt)
-all-more P (y ∷ l) x h k = (h .0, all-more P l x (h .1) k)
-
-all-push : {A : Type 0} (P : A → Type 0) (n : ℕ) (l : List A) (x : A) → n < length l → All P (take n l) → P x → All P (take (n + 1) (set l n x))
-all-push P n l x h a k = rw (add-one n, take-suc-set l n x h) (all-more P (take n l) x a k)
+all-push : {A : Type 0} (P : A → Type 0) (n : ℕ) (l : List A) (x : A) → n < length l → Every P (take n l) → P x → Every P (take (n + 1) (set l n x))
+all-push P n l x h a k = rw (add-one n, take-suc-set l n x h) (every-both P (take n l) (x ∷ []) a (k, tt))
 
 module _ (p : List ℕ) (e : Entry) (o : Opened) where
   rule-fits : OpenedWell p o → IsTimed e → RuleFits p (ruleFrom e o)
@@ -47,7 +44,7 @@ more-limit l k = omega arith
 
 -- ---- room for the record, by its kind
 
-module _ (b : List ℕ) (s : Schedule) (e : Entry) (room : Room b s e) where
+module _ (b : List ℕ) (s : Schedule) (e : Entry) (room : RecordRoom b s e) where
   pub work-room : e .kind ≡ 1 → s .works < mostWork
   work-room q = let h : s .works + 1 ≤ mostWork = rw q at (room .works) in omega arith
 
@@ -85,7 +82,7 @@ module _ (s : Schedule) (h : Long s) where
 
 -- ---- the schedule with the record
 
-module _ (b p : List ℕ) (s : Schedule) (e : Entry) (o : Opened) (room : Room b s e) where
+module _ (b p : List ℕ) (s : Schedule) (e : Entry) (o : Opened) (room : RecordRoom b s e) where
   pub adds-none : e .kind ≡ 0 → Adds b p s e o s
   adds-none q = record {
     means = rw q;

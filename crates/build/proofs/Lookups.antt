@@ -19,14 +19,14 @@ use Rattle.model.specs.Book.{lastDefault}
 use Rattle.model.specs.Book as books
 use Rattle.model.specs.Build.{lookup, defaultZone, ruleZone, zoneUsed}
 use Rattle.big_endian.specs.Maybe.{isSome, orEmpty}
-use Rattle.zone_pack.specs.Pack.{zoneFile, Finds}
+use Rattle.zone_pack.specs.Pack.{zoneFile, FindsZone}
 use Rattle.book.specs.declared.Entry.{Entry}
 use Rattle.book.specs.Meaning.{recordsOf, bodyIn, meaning, NameIn, IsEntry}
 use Rattle.book.proofs.Tally.{elem-at, elem-past}
 use Rattle.zone.specs.declared.Zone.{Zone}
 use Rattle.zone.specs.declared.ZoneRead.{ZoneRead}
 use Rattle.zone.specs.declared.ZoneRead.the-variants as R
-use Rattle.zone.specs.Zones.{meant, zoneRead, ReadOk, zone-inside}
+use Rattle.zone.specs.Zones.{zoneIs, zoneRead, ReadOk, zone-inside}
 use Rattle.build.specs.declared.Opened.{Opened}
 use Rattle.build.specs.declared.ZoneLookup.the-variants.{Found, Refused}
 use Rattle.build.specs.declared.LastLookup.{LastLookup}
@@ -43,7 +43,7 @@ is-some (some l) e = refl
 
 -- ---- a name in the pack
 
-module _ (b p : List ℕ) (e : Entry) (ok : isSome (packOf p) ≡ true) {nm : List ℕ} (en : nm ≡ take (e .letters) (drop (e .name) b)) {yes : Bool} {at : ℕ} {x : List ℕ} (is : Finds p nm yes at x) where
+module _ (b p : List ℕ) (e : Entry) (ok : isSome (packOf p) ≡ true) {nm : List ℕ} (en : nm ≡ take (e .letters) (drop (e .name) b)) {yes : Bool} {at : ℕ} {x : List ℕ} (is : FindsZone p nm yes at x) where
   find-is : find (take (e .letters) (drop (e .name) b)) (filesOf p) ≡ zoneFile p nm
   unfolding zoneFile
   find-is = rw (← en) (sym (rw (is-some (packOf p) ok)))
@@ -65,7 +65,7 @@ module _ (b p : List ℕ) (e : Entry) (ok : isSome (packOf p) ≡ true) {nm : Li
     unfolding lookup meaning
     is-found {z} {n} u l f =
         let part : take n (drop at p) ≡ x = rw l (sym (is .part)) in
-        (rw (file-is, ← ez, u) (ap (λ (y : List ℕ). gives (meant y z)) part), found {o = record { at = at; len = n; zone = z }} (rw part (zone-inside f u)))
+        (rw (file-is, ← ez, u) (ap (λ (y : List ℕ). gives (zoneIs y z)) part), found {o = record { at = at; len = n; zone = z }} (rw part (zone-inside f u)))
 
 -- ---- the default zone
 

@@ -31,7 +31,7 @@ use Rattle.build.specs.declared.ZoneLookup.the-variants.{Found, Refused}
 use Rattle.build.specs.declared.Built.{Built}
 use Rattle.build.specs.declared.LastLookup.{LastLookup}
 use Rattle.build.proofs.Lookups.{knows-after}
-use Rattle.build.specs.Read.{LooksUp, lookupAfter, filesOf, zoneMeant, OpenedWell, zoneLookupIs, ZoneLookupFits, found, refused, firstLimit, dateLimit, Sized, added, RulesFit, Room, Adds, Refuses, Reads, Answers}
+use Rattle.build.specs.Read.{LooksUp, lookupAfter, filesOf, zoneMeant, OpenedWell, zoneLookupIs, ZoneLookupFits, found, refused, firstLimit, dateLimit, Sized, withRecord, RulesFit, RecordRoom, Adds, Refuses, ReadsBook, Answers}
 
 -- ---- records that were read, and those that are left
 
@@ -53,7 +53,7 @@ behind-last a =
     let l : a .limit + 366 * day - 366 * day ≡ a .limit = omega arith in
     λ i. record { work = append-nil (a .work) i; breaks = append-nil (a .breaks) i; holidays = append-nil (a .holidays) i; limit = l i }
 
-behind-more : (a : model.Schedule) (x : Body) (y : Zone) (s : model.Schedule) → behind a (withRule x y s) ≡ behind (added x y a) s
+behind-more : (a : model.Schedule) (x : Body) (y : Zone) (s : model.Schedule) → behind a (withRule x y s) ≡ behind (withRecord x y a) s
 behind-more a default y s = refl
 behind-more a (work h) y s =
     λ i. record { work = sym (append-assoc (a .work) (model.shiftRule y h ∷ []) (s .work)) i; breaks = a .breaks ++ s .breaks; holidays = a .holidays ++ s .holidays; limit = a .limit + s .limit - 366 * day }
@@ -81,9 +81,9 @@ module _ (files : List Named) (z : Zone) where
   rest-end a = ap gives (behind-last a)
 
   module _ (a : model.Schedule) (e : Entry) (l : List Entry) where
-    rest-more : {y : Zone} → zoneUsed files z e (e .body) ≡ gives y → restOf files z a (e ∷ l) ≡ restOf files z (added (e .body) y a) l
+    rest-more : {y : Zone} → zoneUsed files z e (e .body) ≡ gives y → restOf files z a (e ∷ l) ≡ restOf files z (withRecord (e .body) y a) l
     unfolding restOf rulesOf
-    rest-more {y} q = rw q (then-gives (withRule (e .body) y) (behind a) (behind (added (e .body) y a)) (behind-more a (e .body) y) (rulesOf files z l))
+    rest-more {y} q = rw q (then-gives (withRule (e .body) y) (behind a) (behind (withRecord (e .body) y a)) (behind-more a (e .body) y) (rulesOf files z l))
 
     rest-refused : {n k : ℕ} → zoneUsed files z e (e .body) ≡ refuses n k → restOf files z a (e ∷ l) ≡ refuses n k
     unfolding restOf rulesOf
@@ -149,7 +149,7 @@ module _ (b p : List ℕ) (z : Zone) where
       }
 
   -- the loop's end
-  pub reading-end : (i : ℕ) (s : Schedule) → Reading b p z i s → length (recordsOf b) ≤ i → Reads b p (record { number = 0; place = 0; schedule = s }) (rulesOf (filesOf p) z (recordsOf b))
+  pub reading-end : (i : ℕ) (s : Schedule) → Reading b p z i s → length (recordsOf b) ≤ i → ReadsBook b p (record { number = 0; place = 0; schedule = s }) (rulesOf (filesOf p) z (recordsOf b))
   reading-end i s r h = record {
     means = sym (rest-end (filesOf p) z (scheduleIs b p s)) ∙ rw (drop-of-length-le (recordsOf b) h) at (r .rest);
     kept = λ _. r .kept;
@@ -172,7 +172,7 @@ module _ (b p : List ℕ) (z : Zone) where
     rest-next : restOf (filesOf p) z (scheduleIs b p s) (meaning b e ∷ drop (i + 1) (recordsOf b)) ≡ rulesOf (filesOf p) z (recordsOf b)
     rest-next = ap (λ (l : List Entry). restOf (filesOf p) z (scheduleIs b p s) l) (rw (add-one i, is .means) (sym (drop-cons (recordsOf b) i noEntry h))) ∙ r .rest
 
-    pub room-is : Room b s e
+    pub room-is : RecordRoom b s e
     room-is = record {
       works = omega (arith, r .works, tally-next books.works);
       pauses = omega (arith, r .pauses, tally-next books.pauses);
@@ -211,7 +211,7 @@ module _ (b p : List ℕ) (z : Zone) where
           open-is : ZoneLookupFits p (Found o) → OpenedWell p o
           open-is (found j) = j
 
-      pub step-refused : {n k : ℕ} {t : Built} → q ≡ Refused n k → Refuses t n k → Reads b p t (rulesOf (filesOf p) z (recordsOf b))
+      pub step-refused : {n k : ℕ} {t : Built} → q ≡ Refused n k → Refuses t n k → ReadsBook b p t (rulesOf (filesOf p) z (recordsOf b))
       step-refused {n} {k} {t} f v =
           let a : zoneUsed (filesOf p) z (meaning b e) (meaning b e .body) ≡ refuses n k = sought-is ∙ rw f in
           let x : (t .number ≡ 0 → ⊥) = λ y. omega (arith, some-number (rw f at w), v .number) in

@@ -18,7 +18,7 @@ use Rattle.build.specs.declared.Opened.{Opened}
 use Rattle.build.specs.declared.ZoneLookup.{ZoneLookup}
 use Rattle.build.specs.declared.ZoneLookup.the-variants.{Found, Refused}
 use Rattle.build.specs.declared.Built.{Built}
-use Rattle.build.specs.Read.{filesOf, zoneMeant, OpenedWell, zoneLookupIs, ZoneLookupFits, found, refused, Refuses, Reads, AnswersRules, rulesRead}
+use Rattle.build.specs.Read.{filesOf, zoneMeant, OpenedWell, zoneLookupIs, ZoneLookupFits, found, refused, Refuses, ReadsBook, AnswersRules, rulesRead}
 use Rattle.build.proofs.Lookups.{is-none, is-some}
 use Rattle.build.proofs.Loop.{refused-is}
 
@@ -69,7 +69,7 @@ module _ (b p : List ℕ) where
             go : ZoneLookupFits p (Found d) → OpenedWell p d
             go (found k) = k
 
-        pub reads-all : (t : Built) (d : Opened) → q ≡ Found d → Reads b p t (rulesOf (filesOf p) (zoneMeant p d) (recordsOf b)) → AnswersRules b p t
+        pub reads-all : (t : Built) (d : Opened) → q ≡ Found d → ReadsBook b p t (rulesOf (filesOf p) (zoneMeant p d) (recordsOf b)) → AnswersRules b p t
         reads-all t d f r =
             let z : defaultZone (filesOf p) (lastDefault none (recordsOf b)) ≡ gives (zoneMeant p d) = sym eq ∙ rw f in
             record {

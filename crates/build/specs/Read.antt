@@ -8,7 +8,7 @@ use lib.ListN.{length, take, drop, set, getD}
 use mathlib.Core.Bool.{Bool, true}
 use Rattle.laws_base.specs.Test.{by-test}
 use Rattle.model.specs.Basic.{if_then_else_, given, distinct}
-use Rattle.model.specs.Instant.{day}
+use Rattle.model.specs.Instant.{day, weekSeconds}
 use Rattle.model.specs.Answer.{Answer, gives, refuses, _>>=_, orRefuse}
 use Rattle.model.specs.Pack.{Named, packOf}
 use Rattle.model.specs.Tzif.{Zone}
@@ -24,11 +24,12 @@ use Rattle.book_dates.specs.Days.{HasDates}
 use Rattle.book.specs.Limits.{mostWork, mostBreaks, mostHolidays}
 use Rattle.book.specs.Meaning.{recordsOf, defaultKind, workKind, breakKind, holidaysKind, bodyIn, meaning, NameIn, IsTimed}
 use Rattle.book.specs.Accepts.{isBook}
-use Rattle.zone.specs.Zones.{meant, ZoneOk}
+use Rattle.zone.specs.Zones.{zoneIs, ZoneOk}
 use Rattle.rule.specs.declared.Rule.{Rule}
 use Rattle.rule.specs.declared.HolidayDates.{HolidayDates}
 use Rattle.rule.specs.declared.Schedule.{Schedule}
-use Rattle.rule.specs.Rules.{fileAt, scheduleIs, All, RuleFits, HolidaysFit, ScheduleFits, mostLimit}
+use Rattle.rule.specs.Rules.{fileAt, scheduleIs, RuleFits, HolidaysFit, ScheduleFits, mostLimit}
+use Rattle.laws_base.specs.Every.{Every}
 use Rattle.build.specs.declared.Opened.{Opened}
 use Rattle.build.specs.declared.ZoneLookup.{ZoneLookup}
 use Rattle.build.specs.declared.ZoneLookup.the-variants.{Found, Refused}
@@ -60,7 +61,7 @@ filesOf p = orEmpty (packOf p)
 
 -- the definitions' zone
 abbrev pub zoneMeant : List ℕ → Opened → Zone
-zoneMeant p o = meant (fileAt p (o .at) (o .len)) (o .zone)
+zoneMeant p o = zoneIs (fileAt p (o .at) (o .len)) (o .zone)
 
 -- its file is usable, and was opened
 abbrev pub OpenedWell : List ℕ → Opened → Type 0
@@ -139,7 +140,7 @@ abbrev pub firstLimit : ℕ
 firstLimit = 31622400
 
 abbrev pub dateLimit : ℕ
-dateLimit = 604800
+dateLimit = weekSeconds
 
 -- a schedule with a rule or a holiday record more
 abbrev pub withWork : Schedule → Rule → Schedule
@@ -189,22 +190,22 @@ pub record Long (s : Schedule) : Type 0 where
   pub closed : length (s .closed) ≡ mostHolidays
 
 -- the definitions' schedule with one record more, behind the others
-abbrev pub added : Body → Zone → model.Schedule → model.Schedule
-added default z s = s
-added (work h) z s = record { work = s .work ++ (model.shiftRule z h ∷ []); breaks = s .breaks; holidays = s .holidays; limit = s .limit }
-added (pause h) z s = record { work = s .work; breaks = s .breaks ++ (model.shiftRule z h ∷ []); holidays = s .holidays; limit = s .limit }
-added (holidays l) z s =
+abbrev pub withRecord : Body → Zone → model.Schedule → model.Schedule
+withRecord default z s = s
+withRecord (work h) z s = record { work = s .work ++ (model.shiftRule z h ∷ []); breaks = s .breaks; holidays = s .holidays; limit = s .limit }
+withRecord (pause h) z s = record { work = s .work; breaks = s .breaks ++ (model.shiftRule z h ∷ []); holidays = s .holidays; limit = s .limit }
+withRecord (holidays l) z s =
     let d = distinct l in
     record { work = s .work; breaks = s .breaks; holidays = s .holidays ++ (record { zone = z; dates = d } ∷ []); limit = s .limit + 7 * length d * day }
 
 -- a schedule's rules and holiday records fit
 pub record RulesFit (b p : List ℕ) (s : Schedule) : Type 0 where
-  pub work : All (RuleFits p) (take (s .works) (s .work))
-  pub breaks : All (RuleFits p) (take (s .pauses) (s .breaks))
-  pub closed : All (HolidaysFit b p) (take (s .closings) (s .closed))
+  pub work : Every (RuleFits p) (take (s .works) (s .work))
+  pub breaks : Every (RuleFits p) (take (s .pauses) (s .breaks))
+  pub closed : Every (HolidaysFit b p) (take (s .closings) (s .closed))
 
 -- there is room for the record e, and it is one of a book
-pub record Room (b : List ℕ) (s : Schedule) (e : Entry) : Type 0 where
+pub record RecordRoom (b : List ℕ) (s : Schedule) (e : Entry) : Type 0 where
   pub works : s .works + books.works (bodyIn b e) ≤ mostWork
   pub pauses : s .pauses + books.pauses (bodyIn b e) ≤ mostBreaks
   pub closings : s .closings + books.holidayRecords (bodyIn b e) ≤ mostHolidays
@@ -215,7 +216,7 @@ pub record Room (b : List ℕ) (s : Schedule) (e : Entry) : Type 0 where
 
 -- r is s with the record e more, whose zone is o
 pub record Adds (b p : List ℕ) (s : Schedule) (e : Entry) (o : Opened) (r : Schedule) : Type 0 where
-  pub means : scheduleIs b p r ≡ added (bodyIn b e) (zoneMeant p o) (scheduleIs b p s)
+  pub means : scheduleIs b p r ≡ withRecord (bodyIn b e) (zoneMeant p o) (scheduleIs b p s)
   pub kept : OpenedWell p o → RulesFit b p s → RulesFit b p r
   pub works : r .works ≡ s .works + books.works (bodyIn b e)
   pub pauses : r .pauses ≡ s .pauses + books.pauses (bodyIn b e)
@@ -235,7 +236,7 @@ pub record Refuses (r : Built) (n k : ℕ) : Type 0 where
   pub empty : Sized (r .schedule) 0 0 0 firstLimit
 
 -- r stands for the answer a, and its rules fit
-pub record Reads (b p : List ℕ) (r : Built) (a : Answer model.Schedule) : Type 0 where
+pub record ReadsBook (b p : List ℕ) (r : Built) (a : Answer model.Schedule) : Type 0 where
   pub means : answerIs b p r ≡ a
   pub kept : r .number ≡ 0 → RulesFit b p (r .schedule)
   pub works : r .number ≡ 0 → r .schedule .works ≤ mostWork
@@ -255,7 +256,7 @@ pub record Answers (b p : List ℕ) (r : Built) (a : Answer model.Schedule) : Ty
 
 -- what the loop over the records answers where d is the default zone, what is answered before the search for work, and what `build` answers
 abbrev pub ReadsRules : List ℕ → List ℕ → Opened → Built → Type 0
-ReadsRules b p d r = Reads b p r (rulesOf (filesOf p) (zoneMeant p d) (recordsOf b))
+ReadsRules b p d r = ReadsBook b p r (rulesOf (filesOf p) (zoneMeant p d) (recordsOf b))
 
 abbrev pub AnswersRules : List ℕ → List ℕ → Built → Type 0
 AnswersRules b p r = Answers b p r (rulesRead b p)

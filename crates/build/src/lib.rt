@@ -61,11 +61,11 @@ fn look_up(book: &[u8], pack: &[u8], e: Entry) -> ZoneLookup
         &mut at,
     );
     if !found {
-        return ZoneLookup::Refused(4, e.place);
+        return ZoneLookup::Refused(refusal::UNKNOWN_ZONE, e.place);
     }
     let len = file.len();
     let ZoneRead::Opened(zone) = zone::open(file) else {
-        return ZoneLookup::Refused(5, e.place);
+        return ZoneLookup::Refused(refusal::ZONE_UNUSABLE, e.place);
     };
     ZoneLookup::Found(Opened { at, len, zone })
 }
@@ -289,13 +289,13 @@ fn rules_of(book: &[u8], pack: &[u8]) -> Built
     ensures { λ r. ⌜ AnswersRules (now (book .entry)) (now (pack .entry)) r ⌝ }
 {
     if !book::book_ok(book) {
-        return refused(1, 0);
+        return refused(refusal::BOOK_LAYOUT, 0);
     }
     if !book::limits_ok(book) {
-        return refused(2, 0);
+        return refused(refusal::BOOK_LIMIT, 0);
     }
     if !zone_pack::pack_ok(pack) {
-        return refused(3, 0);
+        return refused(refusal::PACK_LAYOUT, 0);
     }
     match default_zone(book, pack) {
         ZoneLookup::Found(d) => return read_rules(book, pack, d),
@@ -315,5 +315,5 @@ pub fn build(book: &[u8], pack: &[u8]) -> Built
     if build_check::has_work(book, pack, s) {
         return r;
     }
-    refused(6, 0)
+    refused(refusal::NO_WORKING_TIME, 0)
 }

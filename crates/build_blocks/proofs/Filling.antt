@@ -14,15 +14,15 @@ use Rattle.laws_base.specs.Test.{by-test}
 use Rattle.instant.specs.Instant.{nanos}
 use Rattle.instant.specs.declared.Instant.{Instant}
 use Rattle.block_list.specs.declared.Block.{Block}
-use Rattle.block_list.specs.Listed.{capacity, blockOf, front}
+use Rattle.block_list.specs.Listed.{capacity, blockIs, front}
 use Rattle.laws_base.specs.Front.{front-push, front-set}
 use Rattle.zone_local.specs.Dates.{pieceOf}
-use Rattle.window_dates.specs.Windows.{IsLocalDates, mostDates}
+use Rattle.window_dates.specs.Windows.{IsLocalDates, mostWindowDates}
 use Rattle.window_dates.specs.declared.LocalDates.{LocalDates}
 use Rattle.window_dates.proofs.Fill.{shown, date-on, date-off, dates-done, restOf, rest-more, rest-end}
 use Rattle.window_piece.proofs.Frames.{rule-shows}
 use Rattle.window_piece.proofs.Laws.{onward-append}
-use Rattle.build_blocks.specs.Shown.{held, mostShown}
+use Rattle.build_blocks.specs.Shown.{heldBlock, mostShown}
 
 -- ---- one block
 
@@ -30,13 +30,13 @@ module _ (out : List Block) (w : ℕ) (x : Block) (k : ℕ) (e : k ≡ (if ltb (
   past-count : k ≤ w + 1
   past-count = rw e (by-test (ltb (x .start) (x .end)) (λ t. rw t (omega arith)) (λ t. rw t (omega arith)))
 
-  stored : w < length out → front k (set out w x) ≡ front w out ++ held x
-  unfolding held
+  stored : w < length out → front k (set out w x) ≡ front w out ++ heldBlock x
+  unfolding heldBlock
   stored h =
       rw e
       (by-test (ltb (x .start) (x .end))
-      (λ t. rw t (front-push blockOf w out x h))
-      (λ t. rw t (front-set blockOf w out w x (omega arith) ∙ sym (append-nil (front w out)))))
+      (λ t. rw t (front-push blockIs w out x h))
+      (λ t. rw t (front-set blockIs w out w x (omega arith) ∙ sym (append-nil (front w out)))))
 
 -- ---- the dates of a rule
 
@@ -71,7 +71,7 @@ module _ (r : Rule) (lo hi last : ℕ) (whole : List Block′) (top : ℕ) (out 
   dating-room h k = let a = m .count in omega arith
 
   -- a date that is on: what it shows is stored at w and counted by `past`
-  pub dating-on : top ≤ capacity → d ≤ last → r .on d ≡ true → (x : Block) → held x ≡ showing r lo hi d
+  pub dating-on : top ≤ capacity → d ≤ last → r .on d ≡ true → (x : Block) → heldBlock x ≡ showing r lo hi d
       → (k : ℕ) → k ≡ (if ltb (x .start) (x .end) then w + 1 else w) → Dating r lo hi last whole top (set out w x) k (d + 1)
   dating-on u h t x e k c =
       let a = m .count in let b = m .long in
@@ -89,7 +89,7 @@ module _ (r : Rule) (lo hi last : ℕ) (whole : List Block′) (top : ℕ) (out 
 -- the dates of a window are done: what the rule has in it is behind the blocks that were there
 pub dating-done : (r : Rule) (lo hi : Instant) (days : LocalDates) → IsLocalDates (r .zone) lo hi days → (out₀ : List Block) (w₀ : ℕ) (out : List Block) (w d : ℕ)
     → Dating r (nanos lo) (nanos hi) (days .last) (datesFrom r (nanos lo) (nanos hi) (days .last) out₀ w₀ (days .first)) (w₀ + (days .last + 1 - days .first)) out w d
-    → days .last < d → (front w out ≡ front w₀ out₀ ++ onward (nanos lo) (blocksOf (nanos lo) (nanos hi) r)) × (w ≤ w₀ + mostDates)
+    → days .last < d → (front w out ≡ front w₀ out₀ ++ onward (nanos lo) (blocksOf (nanos lo) (nanos hi) r)) × (w ≤ w₀ + mostWindowDates)
 dating-done r lo hi days q out₀ w₀ out w d m h =
     let a = m .count in let f = q .few in (
       dates-done (r .on) (showing r (nanos lo) (nanos hi)) d (days .last) (front w out) (datesFrom r (nanos lo) (nanos hi) (days .last) out₀ w₀ (days .first)) (m .same) h
@@ -115,7 +115,7 @@ module _ {A : Type 0} (lo hi : ℕ) (h : A → Rule) (n : ℕ) (rules : List A) 
   -- the rules from i on are to come; each shows at most 21 dates
   pub record Ruling (out : List Block) (w i : ℕ) : Type 0 where
     pub same : front w out ++ restOf rule n rules i ≡ restOf rule n rules 0
-    pub count : w ≤ i * mostDates
+    pub count : w ≤ i * mostWindowDates
     pub upto : i ≤ n
     pub fits : n ≤ length rules
     pub long : length out ≡ capacity
@@ -125,10 +125,10 @@ module _ {A : Type 0} (lo hi : ℕ) (h : A → Rule) (n : ℕ) (rules : List A) 
 
   module _ (out : List Block) (w i : ℕ) (m : Ruling out w i) where
     -- there is room for the dates of one more rule
-    pub ruling-room : (first last : ℕ) → last + 1 ≤ first + mostDates → n ≤ 16 → i < n → w + (last + 1 - first) ≤ capacity
+    pub ruling-room : (first last : ℕ) → last + 1 ≤ first + mostWindowDates → n ≤ 16 → i < n → w + (last + 1 - first) ≤ capacity
     ruling-room first last f r t = let c = m .count in omega arith
 
-    pub ruling-turn : i < n → (x : A) (out′ : List Block) (w′ : ℕ) → length out′ ≡ capacity → front w′ out′ ≡ front w out ++ rule (getD rules i x) → w′ ≤ w + mostDates → Ruling out′ w′ (i + 1)
+    pub ruling-turn : i < n → (x : A) (out′ : List Block) (w′ : ℕ) → length out′ ≡ capacity → front w′ out′ ≡ front w out ++ rule (getD rules i x) → w′ ≤ w + mostWindowDates → Ruling out′ w′ (i + 1)
     ruling-turn t x out′ w′ l e c =
         let a = m .count in let k = m .fits in
         record {

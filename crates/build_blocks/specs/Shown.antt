@@ -13,7 +13,8 @@ use Rattle.block_list.specs.Listed.{listOf}
 use Rattle.block_list.specs.declared.Block.{Block}
 use Rattle.block_list.specs.declared.Blocks.{Blocks}
 use Rattle.civil.specs.Dates.{timeIn}
-use Rattle.rule.specs.Rules.{ruleIs, RuleFits, All}
+use Rattle.rule.specs.Rules.{ruleIs, RuleFits}
+use Rattle.laws_base.specs.Every.{Every}
 use Rattle.rule.specs.declared.Rule.{Rule}
 use Rattle.zone_local.specs.Dates.{tillTime}
 use Rattle.window_dates.specs.Windows.{Window, IsLocalDates}
@@ -21,8 +22,8 @@ use Rattle.window_piece.specs.Filled.{twoDays, IsFrame}
 use Rattle.build_blocks.specs.declared.Shifts.{Shifts}
 
 -- a block of a list, if it holds anything
-unfoldable pub held : Block → List Block′
-held b = put (b .start) (b .end) []
+unfoldable pub heldBlock : Block → List Block′
+heldBlock b = put (b .start) (b .end) []
 
 -- the dates of a rule in the window [lo, hi), their frame, and the times of day of the shift's start and end
 pub record IsShifts (pack : List ℕ) (r : Rule) (lo hi : Instant) (x : Shifts) : Type 0 where
@@ -39,7 +40,7 @@ ShiftsDate pack r x d lo hi = RuleFits pack r × Window 14 lo hi × IsShifts pac
 
 -- the first n of at most 16 rules, and a window of at most 14 days
 abbrev pub RulesIn : List ℕ → List Rule → ℕ → Instant → Instant → Type 0
-RulesIn pack rules n lo hi = (n ≤ 16) × All (RuleFits pack) (take n rules) × Window 14 lo hi
+RulesIn pack rules n lo hi = (n ≤ 16) × Every (RuleFits pack) (take n rules) × Window 14 lo hi
 
 -- how many blocks 16 rules have at most, each of them one for each of 21 dates
 abbrev pub mostShown : ℕ

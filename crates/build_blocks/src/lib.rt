@@ -11,8 +11,8 @@ ghost use Rattle.block_list.specs.Listed.{capacity};
 ghost use Rattle.rule.specs.Rules.{RuleFits};
 ghost use Rattle.zone_local.specs.Dates as date;
 ghost use Rattle.window_dates.specs.Windows.{Window, rulePiece};
-ghost use Rattle.window_piece.specs.Filled.{Inside};
-ghost use Rattle.build_blocks.specs.Shown.{held, IsShifts, ShiftsDate, RulesIn, Listed};
+ghost use Rattle.window_piece.specs.Filled.{InFortnight};
+ghost use Rattle.build_blocks.specs.Shown.{heldBlock, IsShifts, ShiftsDate, RulesIn, Listed};
 use block_list::Block;
 use block_list::Blocks;
 use instant::Instant;
@@ -31,7 +31,7 @@ fn nothing() -> Block
 
 // The part of [s, e) in [lo, hi), from lo.
 fn clipped(s: u64, e: u64, lo: u64, hi: u64) -> Block
-    ensures { λ r. ⌜ held r ≡ onward lo (clipped lo hi s e) ⌝ }
+    ensures { λ r. ⌜ heldBlock r ≡ onward lo (clipped lo hi s e) ⌝ }
 {
     let from = number::maximum(s, lo);
     let to = number::minimum(e, hi);
@@ -46,8 +46,8 @@ fn clipped(s: u64, e: u64, lo: u64, hi: u64) -> Block
 
 // x from lo, if it holds anything.
 fn away(x: block::Block, lo: Instant) -> Block
-    requires { ⌜ Inside lo x ⌝ }
-    ensures { λ r. ⌜ held r ≡ onward (nanos lo) (date.held x) ⌝ }
+    requires { ⌜ InFortnight lo x ⌝ }
+    ensures { λ r. ⌜ heldBlock r ≡ onward (nanos lo) (date.held x) ⌝ }
 {
     let s = x.start;
     let e = x.end;
@@ -91,7 +91,7 @@ fn shifts_of(pack: &[u8], r: Rule, lo: Instant, hi: Instant) -> Shifts
 // What the rule shows of a date in the window: by the frame, where one offset holds around the window; else each end is looked up.
 fn piece_at(pack: &[u8], r: Rule, x: Shifts, day: u32, lo: Instant, hi: Instant) -> Block
     requires { ⌜ ShiftsDate (now pack) r x day lo hi ⌝ }
-    ensures { λ b. ⌜ held b ≡ onward (nanos lo) (rulePiece (now (pack .entry)) r lo hi day) ⌝ }
+    ensures { λ b. ⌜ heldBlock b ≡ onward (nanos lo) (rulePiece (now (pack .entry)) r lo hi day) ⌝ }
 {
     let f = x.frame;
     let days = x.days;
@@ -116,7 +116,13 @@ fn past(w: usize, x: Block) -> usize
 }
 
 // The blocks of the first n rules, in a list that starts as one block value repeated. A rule shows at most 21 dates of 14 days, so 16 rules have at most 336.
-pub fn shift_blocks(rules: [Rule; 16], n: usize, pack: &[u8], lo: Instant, hi: Instant) -> Blocks
+pub fn shift_blocks(
+    rules: [Rule; book::MOST_WORK],
+    n: usize,
+    pack: &[u8],
+    lo: Instant,
+    hi: Instant,
+) -> Blocks
     requires { ⌜ RulesIn (now pack) rules n lo hi ⌝ }
     ensures { λ r. ⌜ Listed (now (pack .entry)) rules n lo hi r ⌝ }
 {

@@ -18,7 +18,7 @@ use Rattle.instant.specs.Instant.{nanos}
 use Rattle.instant.specs.declared.Instant.{Instant}
 use Rattle.block_list.specs.declared.Block.{Block}
 use Rattle.block_list.specs.declared.Blocks.{Blocks}
-use Rattle.block_list.specs.Listed.{blockOf, front, listOf, nil}
+use Rattle.block_list.specs.Listed.{blockIs, front, listOf, nil}
 use Rattle.laws_base.specs.Front.{rest-cons, rest-none}
 use Rattle.rule.specs.Rules.{ruleIs}
 use Rattle.rule.specs.declared.Rule.{Rule as Rule′}
@@ -121,19 +121,19 @@ module _ (on : List Block) (n : ℕ) (off : List Block) (m i j : ℕ) (c : Passi
   unfolding leaves subtract some
   passing-done h =
       let u = c .upto in let z : i ≡ n = omega arith in
-      sym (ap (λ (l : List Block′). leaves l (drop j (front m off))) (ap (λ (k : ℕ). drop k (front n on)) z ∙ rest-none blockOf n on (c .on-fits))) ∙ c .same
+      sym (ap (λ (l : List Block′). leaves l (drop j (front m off))) (ap (λ (k : ℕ). drop k (front n on)) z ∙ rest-none blockIs n on (c .on-fits))) ∙ c .same
 
   module _ (h : i < n) (a : Normal (front n on)) where
     -- the block at i, and those behind it
     x : Block′
-    x = blockOf (getD on i nil)
+    x = blockIs (getD on i nil)
 
     xs : List Block′
     xs = drop (i + 1) (front n on)
 
     first : drop i (front n on) ≡ x ∷ xs
     unfolding x xs
-    first = rest-cons blockOf n on i nil h (c .on-fits)
+    first = rest-cons blockIs n on i nil h (c .on-fits)
 
     chain : Normal (x ∷ xs)
     chain = rw first at (normal-drop 0 i (front n on) a)
@@ -143,19 +143,19 @@ module _ (on : List Block) (n : ℕ) (off : List Block) (m i j : ℕ) (c : Passi
     unfolding cut some
     passing-free k =
         let u = c .past in let z : j ≡ m = omega arith in
-        let e : drop j (front m off) ≡ [] = ap (λ (q : ℕ). drop q (front m off)) z ∙ rest-none blockOf m off (c .off-fits) in
+        let e : drop j (front m off) ≡ [] = ap (λ (q : ℕ). drop q (front m off)) z ∙ rest-none blockIs m off (c .off-fits) in
         sym (left-first x xs [] (rw (lt-ltb (x .start) (x .end) (chain .1)))) ∙ sym (ap₂ leaves first e) ∙ c .same
 
     module _ (k : j < m) (b : Normal (front m off)) where
       y : Block′
-      y = blockOf (getD off j nil)
+      y = blockIs (getD off j nil)
 
       ys : List Block′
       ys = drop (j + 1) (front m off)
 
       first-off : drop j (front m off) ≡ y ∷ ys
       unfolding y ys
-      first-off = rest-cons blockOf m off j nil k (c .off-fits)
+      first-off = rest-cons blockIs m off j nil k (c .off-fits)
 
       chain-off : Normal (y ∷ ys)
       chain-off = rw first-off at (normal-drop 0 j (front m off) b)

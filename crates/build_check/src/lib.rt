@@ -18,7 +18,13 @@ const FROM: u64 = 391337827200;
 const UPTO: u64 = 391339036800;
 
 // The union of the blocks that the first n rules have in the window. It is a function of its own, so that the list is copied once.
-fn union_of(rules: [Rule; 16], n: usize, pack: &[u8], lo: Instant, hi: Instant) -> Blocks
+fn union_of(
+    rules: [Rule; book::MOST_WORK],
+    n: usize,
+    pack: &[u8],
+    lo: Instant,
+    hi: Instant,
+) -> Blocks
     requires { ⌜ RulesIn (now pack) rules n lo hi ⌝ }
     ensures { λ r. ⌜ UnionOf (now (pack .entry)) rules n lo hi r ⌝ }
 {

@@ -9,9 +9,9 @@ use lib.Bits.{bitAnd}
 use lib.Pow.{pow-pos, pow-mono}
 use borrow.Author.Tests.{lt-ltb, le-ltb, eq-eqb, ne-eqb}
 use Rattle.model.specs.Calendar.{isLeap, daysInMonth, isDate, dayNumber, firstDay, lastDay, contains}
-use Rattle.model.specs.Instant.{second}
-use Rattle.laws_base.specs.Test.{by-test}
-use Rattle.laws_base.specs.Claim.{Claim, le, eq, if, all, at-each, all₂, at-each₂}
+use Rattle.model.specs.Instant.{second, daySeconds}
+use Rattle.laws_base.specs.Test.{by-test, never}
+use Rattle.laws_base.specs.Claim.{Claim, le, eq, if, allBelow, at-each, all₂, at-each₂}
 use Rattle.laws_calendar.specs.Dates.{Has, is-had, date-facts, date-test, day-from, day-to}
 use Rattle.civil.specs.Dates.{calendarYears, dayRead, timeRead}
 use Rattle.civil.specs.declared.Date.{Date}
@@ -24,8 +24,8 @@ use Rattle.civil.specs.declared.TimeRead.the-variants.{Nanoseconds, NoTi
 month-has : Bool → ℕ → Claim
 month-has l m = (if) (le 1 m) (le 28 (daysInMonth l m))
 
-months-have : (l : Bool) → T (all (month-has l) 13)
-unfolding all month-has daysInMonth
+months-have : (l : Bool) → T (allBelow (month-has l) 13)
+unfolding allBelow month-has daysInMonth
 months-have true = tt
 months-have false = tt
 
@@ -60,29 +60,29 @@ day-in d n e =
     let q : Day (dayNumber (d .year) (d .month) (d .day)) ≡ Day n = rw t at e in
     let p : dayNumber (d .year) (d .month) (d .day) ≡ n = cc in
     (omega (arith, day-from v), omega (arith, day-to v)))
-    (λ t. let q : NoDate ≡ Day n = rw t at e in absurd (let z : _≡_ {A = ℕ} 0 1 = cc in omega arith))
+    (λ t. let q : NoDate ≡ Day n = rw t at e in never (cc))
 
 -- ---- times of day
 
-pub no-second : (s n : ℕ) → 86400 ≤ s → NoTime ≡ timeRead s n
+pub no-second : (s n : ℕ) → daySeconds ≤ s → NoTime ≡ timeRead s n
 unfolding timeRead
-no-second s n h = simp (le-ltb s 86400 h)
+no-second s n h = simp (le-ltb s daySeconds h)
 
-pub no-nanosecond : (s n : ℕ) → s < 86400 → second ≤ n → NoTime ≡ timeRead s n
+pub no-nanosecond : (s n : ℕ) → s < daySeconds → second ≤ n → NoTime ≡ timeRead s n
 unfolding timeRead
-no-nanosecond s n h k = simp (lt-ltb s 86400 h, le-ltb n second k)
+no-nanosecond s n h k = simp (lt-ltb s daySeconds h, le-ltb n second k)
 
-pub time-is : (s n : ℕ) → s < 86400 → n < second → Nanoseconds (s * second + n) ≡ timeRead s n
+pub time-is : (s n : ℕ) → s < daySeconds → n < second → Nanoseconds (s * second + n) ≡ timeRead s n
 unfolding timeRead
-time-is s n h k = simp (lt-ltb s 86400 h, lt-ltb n second k)
+time-is s n h k = simp (lt-ltb s daySeconds h, lt-ltb n second k)
 
 -- ---- weekday sets
 
 shift : ℕ → Claim
 shift d = eq (1 * 2 ^ d % 256) (2 ^ d)
 
-shifts : T (all shift 8)
-unfolding all shift
+shifts : T (allBelow shift 8)
+unfolding allBelow shift
 shifts = tt
 
 -- one, shifted by d
@@ -94,7 +94,7 @@ mask : ℕ → ℕ → Claim
 mask s d = eq (bitAnd s (2 ^ d)) (s / 2 ^ d % 2 * 2 ^ d)
 
 masks : T (all₂ mask 256 8)
-unfolding all all₂ mask
+unfolding allBelow all₂ mask
 masks = tt
 
 pub masked : (s d : ℕ) → s < 256 → d < 8 → not (eqb (bitAnd s (2 ^ d)) 0) ≡ contains s d

@@ -5,7 +5,7 @@ use Prim.Native.Nat.{ℕ, _+_, _*_, _<_}
 use lib.Dec.{ltb}
 use Rattle.model.specs.Calendar as M
 use Rattle.model.specs.Calendar.{isDate, dayNumber}
-use Rattle.model.specs.Instant.{second}
+use Rattle.model.specs.Instant.{second, daySeconds}
 use Rattle.civil.specs.declared.Date.{Date}
 use Rattle.civil.specs.declared.Time.{Time}
 use Rattle.civil.specs.declared.DayRead.{DayRead}
@@ -21,6 +21,10 @@ calendarYears = 20800
 abbrev pub calendarDays : ℕ
 calendarDays = 7597044
 
+-- books write a year in two bytes as a signed number; this added to a year is that number with 2^15 added
+abbrev pub yearBias : ℕ
+yearBias = 22368
+
 -- a date of the definitions as one of the code
 abbrev pub dated : M.Date → Date
 dated d = record { year = d .year; month = d .month; day = d .day }
@@ -31,7 +35,7 @@ dayRead d = if isDate (d .year) (d .month) (d .day) then Day (dayNumber (d .year
 
 -- a time of day in nanoseconds. Document 01: "Time of day: second 0 to 86,399 and nanoseconds."
 unfoldable pub timeRead : ℕ → ℕ → TimeRead
-timeRead s n = if ltb s 86400 && ltb n second then Nanoseconds (s * second + n) else NoTime
+timeRead s n = if ltb s daySeconds && ltb n second then Nanoseconds (s * second + n) else NoTime
 
 -- a time of day in nanoseconds
 abbrev pub timeIn : Time → ℕ
@@ -39,5 +43,5 @@ timeIn t = t .seconds * second + t .nanos
 
 -- a time of day: "second 0 to 86,399 and nanoseconds"
 pub record TimeFits (t : Time) : Type 0 where
-  pub seconds : t .seconds < 86400
+  pub seconds : t .seconds < daySeconds
   pub nanos : t .nanos < second

@@ -8,7 +8,7 @@ use lib.Dec.{T, eqb}
 use lib.ListN.{getD}
 use borrow.Author.Tests.{lt-ltb, le-ltb, eq-eqb, ne-eqb}
 use Rattle.model.specs.Calendar.{isLeap, daysBeforeYear, daysInMonth, daysBeforeMonth, dayNumber, yearOf, monthsBegun, monthOf}
-use Rattle.laws_base.specs.Claim.{Claim, le, lt, eq, both, if, all, at-each}
+use Rattle.laws_base.specs.Claim.{Claim, le, lt, eq, both, if, allBelow, at-each}
 use Rattle.laws_calendar.specs.Dates.{Has, has-within, year-mono, end-is}
 use Rattle.civil.specs.Dates.{calendarYears, calendarDays}
 
@@ -39,8 +39,8 @@ start m =
     (both (eq (getD starts m 0) (daysBeforeMonth false m))
     (both (if (lt 2 m) (eq (getD starts m 0 + 1) (daysBeforeMonth true m))) (if (le m 2) (eq (getD starts m 0) (daysBeforeMonth true m))))))
 
-starts-right : T (all start 13)
-unfolding all start daysBeforeMonth daysInMonth
+starts-right : T (allBelow start 13)
+unfolding allBelow start daysBeforeMonth daysInMonth
 starts-right = tt
 
 pub start-of :
@@ -56,12 +56,12 @@ month-by : Bool → ℕ → ℕ → Claim
 month-by l q r =
     both (if (lt r q) (eq (r / 31 + 1) (monthOf l r))) (if (le q r) (eq (((r - q) * 5 + 2) / 153 + 3) (monthOf l r)))
 
-by-common : T (all (month-by false 59) 365)
-unfolding all month-by monthsBegun daysBeforeMonth daysInMonth
+by-common : T (allBelow (month-by false 59) 365)
+unfolding allBelow month-by monthsBegun daysBeforeMonth daysInMonth
 by-common = tt
 
-by-leap : T (all (month-by true 60) 366)
-unfolding all month-by monthsBegun daysBeforeMonth daysInMonth
+by-leap : T (allBelow (month-by true 60) 366)
+unfolding allBelow month-by monthsBegun daysBeforeMonth daysInMonth
 by-leap = tt
 
 pub month-common : (r : ℕ) → r < 365 → (r < 59 → r / 31 + 1 ≡ monthOf false r) × (59 ≤ r → ((r - 59) * 5 + 2) / 153 + 3 ≡ monthOf false r)

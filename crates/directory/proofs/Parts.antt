@@ -17,7 +17,7 @@ use Rattle.model.specs.Directory.{Part, partsFrom, partsOf}
 use Rattle.laws_base.specs.Test.{by-test, and-both}
 use Rattle.big_endian.proofs.Lists.{at-4}
 use Rattle.big_endian.specs.Maybe.{isSome}
-use Rattle.directory.specs.Directory.{countAt, startAt, lenAt, partAt, recordOk, entriesOk, dirOk}
+use Rattle.directory.specs.Directory.{entryCount, startAt, lenAt, partAt, recordOk, entriesOk, dirOk}
 
 -- one entry of `partsFrom`, its two numbers named
 unfoldable step : ℕ → ℕ → ℕ → ℕ → ℕ → List ℕ → List ℕ → Option (List Part)
@@ -91,23 +91,23 @@ module _ (s : List ℕ) where
       rw (← add-one i) (parts-from k (o + n) (i + 1) (omega arith)) in
       step-is (length s) k lo d (drop lo s) ∙ step-index i k lo (omega arith) (entriesOk s (o + n) (i + 1) k) (map (partAt s) (run (suc i) k)) more
 
-pub counted : (s : List ℕ) → 4 ≤ length s → be 4 s ≡ countAt s
-unfolding countAt
+pub counted : (s : List ℕ) → 4 ≤ length s → be 4 s ≡ entryCount s
+unfolding entryCount
 counted s h = sym (at-4 s 0 h)
 
 -- the records of a file by index
-pub parts-index : (s : List ℕ) → partsOf s ≡ given (dirOk s) (map (partAt s) (run 0 (countAt s)))
+pub parts-index : (s : List ℕ) → partsOf s ≡ given (dirOk s) (map (partAt s) (run 0 (entryCount s)))
 unfolding partsOf dirOk
 parts-index s =
     by-test (leb 4 (length s))
     (λ e.
     let h : 4 ≤ length s = leb-true 4 (length s) e in
-    let n : be 4 s ≡ countAt s = counted s h in
+    let n : be 4 s ≡ entryCount s = counted s h in
     rw (e, n)
-    (by-test (leb (4 + 8 * countAt s) (length s))
+    (by-test (leb (4 + 8 * entryCount s) (length s))
     (λ f.
-    let k : 4 + 8 * countAt s ≤ length s = leb-true (4 + 8 * countAt s) (length s) f in
-    rw f (parts-from s (countAt s) (4 + 8 * countAt s) 0 (omega arith)))
+    let k : 4 + 8 * entryCount s ≤ length s = leb-true (4 + 8 * entryCount s) (length s) f in
+    rw f (parts-from s (entryCount s) (4 + 8 * entryCount s) 0 (omega arith)))
     (λ f. rw f)))
     (λ e. rw e)
 
@@ -117,7 +117,7 @@ some-given false a = refl
 
 -- the test by index passes exactly where there are records
 pub as-dir : (s : List ℕ) {r : Bool} → r ≡ dirOk s → r ≡ isSome (partsOf s)
-as-dir s e = rw (parts-index s) (e ∙ some-given (dirOk s) (map (partAt s) (run 0 (countAt s))))
+as-dir s e = rw (parts-index s) (e ∙ some-given (dirOk s) (map (partAt s) (run 0 (entryCount s))))
 
 -- ---- for a reader of the records: a part of a part, the i-th of the records, and where it lies
 
@@ -152,9 +152,9 @@ module _ (s : List ℕ) where
       rw x (inside-from k (o + n) (i + 1) j (p .1) (le-of-suc-le-suc h))
 
 -- a directory that keeps its layout has a count, and its entries are in order
-pub entries-hold : (s : List ℕ) → dirOk s ≡ true → (4 ≤ length s) × (entriesOk s (4 + 8 * countAt s) 0 (countAt s) ≡ true)
+pub entries-hold : (s : List ℕ) → dirOk s ≡ true → (4 ≤ length s) × (entriesOk s (4 + 8 * entryCount s) 0 (entryCount s) ≡ true)
 unfolding dirOk
 entries-hold s h =
-    let m = 4 + 8 * countAt s in
-    let p = and-both (leb 4 (length s)) (leb m (length s) && entriesOk s m 0 (countAt s)) h in
-    (leb-true 4 (length s) (p .0), and-both (leb m (length s)) (entriesOk s m 0 (countAt s)) (p .1) .1)
+    let m = 4 + 8 * entryCount s in
+    let p = and-both (leb 4 (length s)) (leb m (length s) && entriesOk s m 0 (entryCount s)) h in
+    (leb-true 4 (length s) (p .0), and-both (leb m (length s)) (entriesOk s m 0 (entryCount s)) (p .1) .1)

@@ -8,7 +8,7 @@ use borrow.Author.Tests.{le-leb, lt-leb}
 use lib.ListN.{length}
 use Rattle.model.specs.Directory.{partsOf}
 use Rattle.big_endian.specs.Maybe.{isSome}
-use Rattle.directory.specs.Directory.{countAt, startAt, lenAt, recordOk, entriesOk, dirOk}
+use Rattle.directory.specs.Directory.{entryCount, startAt, lenAt, recordOk, entriesOk, dirOk}
 use Rattle.directory.proofs.Parts.{as-dir}
 
 -- ---- the directory's entries
@@ -39,7 +39,7 @@ pub dir-short : (s : List ℕ) → length s < 4 → false ≡ isSome (partsOf s)
 unfolding dirOk
 dir-short s h = as-dir s (rw (lt-leb 4 (length s) h))
 
-module _ (s : List ℕ) {n : ℕ} (h : 4 ≤ length s) (e : n ≡ countAt s) where
+module _ (s : List ℕ) {n : ℕ} (h : 4 ≤ length s) (e : n ≡ entryCount s) where
   pub dir-cut : length s < 4 + 8 * n → false ≡ isSome (partsOf s)
   unfolding dirOk
   dir-cut k = as-dir s (rw (← e, le-leb 4 (length s) h, lt-leb (4 + 8 * n) (length s) k))

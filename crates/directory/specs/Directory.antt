@@ -12,8 +12,8 @@ abbrev pub longestName : ℕ
 longestName = 64
 
 -- how many entries it says to have; where the record of entry i starts, and how long it is
-unfoldable pub countAt : List ℕ → ℕ
-countAt s = be32 s 0
+unfoldable pub entryCount : List ℕ → ℕ
+entryCount s = be32 s 0
 
 unfoldable pub startAt : List ℕ → ℕ → ℕ
 startAt s i = be32 s (4 + 8 * i)
@@ -36,4 +36,4 @@ entriesOk s lo i (suc k) = recordOk s lo (startAt s i) (lenAt s i) && entriesOk 
 
 -- the directory is whole, and its records lie behind it, in order, inside
 unfoldable pub dirOk : List ℕ → Bool
-dirOk s = leb 4 (length s) && (leb (4 + 8 * countAt s) (length s) && entriesOk s (4 + 8 * countAt s) 0 (countAt s))
+dirOk s = leb 4 (length s) && (leb (4 + 8 * entryCount s) (length s) && entriesOk s (4 + 8 * entryCount s) 0 (entryCount s))

@@ -4,14 +4,21 @@ ghost use Prim.Native.Nat.{_+_, _*_, _<_};
 ghost use Rattle.model.specs.Directory.{partsOf};
 ghost use Rattle.big_endian.specs.Be.{fourBytes};
 ghost use Rattle.big_endian.specs.Maybe.{isSome};
-ghost use Rattle.directory.specs.Directory.{countAt, startAt, lenAt, recordOk, entriesOk};
+ghost use Rattle.directory.specs.Directory.{entryCount, startAt, lenAt, recordOk, entriesOk};
 
 // The most bytes of a zone name, which stands in each record of a book or a pack.
 pub const LONGEST_NAME: usize = 64;
 
+// The bytes of the count and of an entry, and where the first entry's length stands.
+const COUNT_SIZE: usize = 4;
+
+const ENTRY_SIZE: usize = 8;
+
+const LENGTH_AT: usize = 8;
+
 // How many records the directory says to have.
 pub fn count_of(s: &[u8]) -> usize
-    ensures { λ r. ⌜ (r ≡ countAt (now (s .entry))) × (r < fourBytes) ⌝ }
+    ensures { λ r. ⌜ (r ≡ entryCount (now (s .entry))) × (r < fourBytes) ⌝ }
 {
     big_endian::size_at(s, 0)
 }
@@ -21,7 +28,7 @@ pub fn start_at(s: &[u8], i: usize) -> usize
     requires { ⌜ i < fourBytes ⌝ }
     ensures { λ r. ⌜ (r ≡ startAt (now (s .entry)) i) × (r < fourBytes) ⌝ }
 {
-    big_endian::size_at(s, 4 + 8 * i)
+    big_endian::size_at(s, COUNT_SIZE + ENTRY_SIZE * i)
 }
 
 // How long it is.
@@ -29,7 +36,7 @@ pub fn len_at(s: &[u8], i: usize) -> usize
     requires { ⌜ i < fourBytes ⌝ }
     ensures { λ r. ⌜ (r ≡ lenAt (now (s .entry)) i) × (r < fourBytes) ⌝ }
 {
-    big_endian::size_at(s, 8 + 8 * i)
+    big_endian::size_at(s, LENGTH_AT + ENTRY_SIZE * i)
 }
 
 // Does a record of len bytes at start begin at lo or later, and end inside?
@@ -48,7 +55,7 @@ fn entries_ok(s: &[u8], n: usize) -> bool
     requires { ⌜ n < fourBytes ⌝ }
     ensures { λ r. ⌜ r ≡ entriesOk (now (s .entry)) (4 + 8 * n) 0 n ⌝ }
 {
-    let mut lo = 4 + 8 * n;
+    let mut lo = COUNT_SIZE + ENTRY_SIZE * n;
     let mut i: usize = 0;
     while i < n {
         let start = start_at(s, i);
@@ -66,11 +73,11 @@ fn entries_ok(s: &[u8], n: usize) -> bool
 pub fn dir_ok(s: &[u8]) -> bool
     ensures { λ r. ⌜ r ≡ isSome (partsOf (now (s .entry))) ⌝ }
 {
-    if s.len() < 4 {
+    if s.len() < COUNT_SIZE {
         return false;
     }
     let n = count_of(s);
-    if s.len() < 4 + 8 * n {
+    if s.len() < COUNT_SIZE + ENTRY_SIZE * n {
         return false;
     }
     entries_ok(s, n)

@@ -1,24 +1,18 @@
 -- What an instant or a length of time of the code means: a number of nanoseconds, an instant's from -10400-01-01T00:00:00Z, as the definitions count them.
 use Prim.Native.Nat.{ℕ, _+_, _*_, _≤_, _<_}
 use Rattle.instant.specs.declared.Instant.{Instant}
+use Rattle.model.specs.Instant.{second, firstSecond, lastSecond}
 
 abbrev pub nanos : Instant → ℕ
-nanos i = i .sec * 1000000000 + i .ns
+nanos i = i .sec * second + i .ns
 
 -- the nanoseconds are less than a second
 abbrev pub Exact : Instant → Type 0
-Exact i = i .ns < 1000000000
+Exact i = i .ns < second
 
 -- what a sum of lengths stays below: 2^63 seconds
 abbrev pub most : ℕ
 most = 9223372036854775808000000000
-
--- the seconds of the first and of the last instant
-abbrev pub firstSecond : ℕ
-firstSecond = 12654496799
-
-abbrev pub lastSecond : ℕ
-lastSecond = 643761727200
 
 -- the second behind the last year that the calendar has, 20799 counted from -10400
 abbrev pub yearsEnd : ℕ
@@ -29,7 +23,3 @@ pub record InRange (t : Instant) : Type 0 where
   pub low : firstSecond ≤ t .sec
   pub high : t .sec ≤ lastSecond
   pub ns : Exact t
-
--- the seconds of a day
-abbrev pub secondsOfDay : ℕ
-secondsOfDay = 86400

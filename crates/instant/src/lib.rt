@@ -8,6 +8,9 @@ ghost use Rattle.instant.specs.Instant.{nanos, most, Exact};
 // The nanoseconds of a second.
 pub const SECOND: u64 = 1000000000;
 
+// The same as a count of nanoseconds in an instant.
+pub const SECOND_32: u32 = SECOND as u32;
+
 // The seconds of a day and of a window.
 pub const DAY: u64 = 86400;
 
@@ -23,6 +26,12 @@ pub const LAST: u64 = 643761727200;
 
 pub const LAST_NS: u32 = 999999999;
 
+// A count of nanoseconds is less than so many seconds.
+const CARRY: u64 = 5;
+
+// These in nanoseconds.
+const CARRY_NS: u64 = CARRY * SECOND;
+
 pub struct Instant {
     pub sec: u64,
     pub ns: u32,
@@ -37,16 +46,16 @@ pub fn precedes(a: Instant, b: Instant) -> bool
 {
     if a.sec <= b.sec {
         let d = b.sec - a.sec;
-        if 4 < d {
+        if CARRY <= d {
             return true;
         }
-        (a.ns as u64) < (b.ns as u64) + d * 1000000000
+        (a.ns as u64) < (b.ns as u64) + d * SECOND
     } else {
         let d = a.sec - b.sec;
-        if 4 < d {
+        if CARRY <= d {
             return false;
         }
-        (a.ns as u64) + d * 1000000000 < (b.ns as u64)
+        (a.ns as u64) + d * SECOND < (b.ns as u64)
     }
 }
 
@@ -77,12 +86,12 @@ pub fn sum(a: Length, b: Length) -> Length
 {
     let ns = a.ns + b.ns;
     let sec = a.sec + b.sec;
-    if ns < 1000000000 {
+    if ns < SECOND_32 {
         return Length { sec, ns };
     }
     Length {
         sec: sec + 1,
-        ns: ns - 1000000000,
+        ns: ns - SECOND_32,
     }
 }
 
@@ -95,14 +104,14 @@ pub fn difference(a: Length, b: Length) -> Length
     if !precedes(b, a) {
         return Length { sec: 0, ns: 0 };
     }
-    let x = (a.ns as u64) + 5000000000 - (b.ns as u64);
-    let c = x / 1000000000;
-    let ns = (x % 1000000000) as u32;
+    let x = (a.ns as u64) + CARRY_NS - (b.ns as u64);
+    let c = x / SECOND;
+    let ns = (x % SECOND) as u32;
     if b.sec <= a.sec {
-        let sec = a.sec - b.sec + c - 5;
+        let sec = a.sec - b.sec + c - CARRY;
         return Length { sec, ns };
     }
-    let sec = c - 5 - (b.sec - a.sec);
+    let sec = c - CARRY - (b.sec - a.sec);
     Length { sec, ns }
 }
 

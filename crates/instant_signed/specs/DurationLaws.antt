@@ -10,7 +10,7 @@ use mir.Val.{SFits}
 use borrow.Author.Tests.{leb-true, leb-false, ltb-true, ltb-false, le-leb, lt-leb, lt-ltb, le-ltb, eq-eqb, ne-eqb}
 use Rattle.model.specs.Instant as M
 use Rattle.model.specs.Instant.{epoch, second, isBelow0, areOpposite, durationOf, negated}
-use Rattle.laws_base.specs.Test.{by-test, and-both, clash}
+use Rattle.laws_base.specs.Test.{by-test, and-both, clash, never}
 use Rattle.instant_signed.specs.Signed.{biased, unbiased, biased-plus, biased-minus, unbiased-high, unbiased-less}
 use Rattle.instant_signed.specs.Reads.{secondsFrom}
 use Rattle.instant_signed.specs.Durations.{signedPair, durationRead, fittingPair, negatedRead, negation}
@@ -18,9 +18,6 @@ use Rattle.instant_signed.specs.declared.Duration.{Duration}
 use Rattle.instant_signed.specs.declared.DurationRead.the-variants as S
 use Rattle.instant_signed.specs.declared.DurationMade.{DurationMade}
 use Rattle.instant_signed.specs.declared.DurationMade.the-variants.{Is, OutOfRange, Malformed}
-
-never : {P : Type 0} → _≡_ {A = ℕ} 0 1 → P
-never z = absurd (omega arith)
 
 -- ---- signs
 

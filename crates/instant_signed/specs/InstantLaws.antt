@@ -11,26 +11,23 @@ use mir.Val.{SFits, toZ, ofZ}
 use mir.Facts.{toZ-ofZ}
 use borrow.Author.Tests.{leb-true, ltb-true}
 use Rattle.model.specs.Answer.{gives, refuses}
-use Rattle.model.specs.Instant.{second, isBelow0, secondFrom, instantOf, instant}
-use Rattle.laws_base.specs.Test.{by-test, and-both}
-use Rattle.instant.specs.Instant.{nanos, InRange, firstSecond, lastSecond}
+use Rattle.model.specs.Instant.{second, isBelow0, secondFrom, instantOf, instant, firstSecond, lastSecond}
+use Rattle.laws_base.specs.Test.{by-test, and-both, never}
+use Rattle.instant.specs.Instant.{nanos, InRange}
 use Rattle.instant.specs.declared.Instant.{Instant}
 use Rattle.instant_signed.specs.Reads.{ofNanos, instantRead, secondsFrom}
 use Rattle.instant_signed.specs.ReadLaws.{isSecond, isRest}
 use Rattle.instant_signed.specs.declared.InstantRead.{InstantRead}
 use Rattle.instant_signed.specs.declared.InstantRead.the-variants as R
 
-never : {P : Type 0} → _≡_ {A = ℕ} 0 1 → P
-never z = absurd (omega arith)
-
 -- ---- an instant read
 
 -- a pair of seconds and nanoseconds is the instant t
-pub record Reads (s n : ℤ) (t : Instant) : Type 0 where
+pub record ReadsInstant (s n : ℤ) (t : Instant) : Type 0 where
   pub means : instantOf s n ≡ gives (nanos t)
   pub in-range : InRange t
 
-pub instant-read : (s n : ℤ) (t : Instant) → instantRead (instantOf s n) ≡ R.At t → Reads s n t
+pub instant-read : (s n : ℤ) (t : Instant) → instantRead (instantOf s n) ≡ R.At t → ReadsInstant s n t
 unfolding instantRead instantOf
 instant-read s n t e =
     by-test (isSecond s && isRest n)
@@ -66,7 +63,7 @@ module _ (s n : ℤ) (f : SFits w64 s) (g : SFits w64 n) {r : InstantRead} (e : 
   pub instant-no : r ≡ R.OutOfRange → instantOf s n ≡ refuses 8 0
   instant-no h = instant-refused s n (sym (whole s n f g (λ a b. instantRead (instantOf a b)) e) ∙ h)
 
-  pub instant-yes : {t : Instant} → r ≡ R.At t → Reads s n t
+  pub instant-yes : {t : Instant} → r ≡ R.At t → ReadsInstant s n t
   instant-yes {t} h = instant-read s n t (sym (whole s n f g (λ a b. instantRead (instantOf a b)) e) ∙ h)
 
 -- ---- an instant written

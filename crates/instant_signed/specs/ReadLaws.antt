@@ -9,9 +9,8 @@ use mir.Syntax.{w64}
 use mir.Val.{SFits}
 use borrow.Author.Tests.{leb-true, ltb-true, le-leb, lt-ltb}
 use Rattle.model.specs.Basic.{isIn}
-use Rattle.model.specs.Instant.{epoch, second, firstInstant, lastInstant, isBelow0, secondFrom, instantOf}
+use Rattle.model.specs.Instant.{epoch, second, firstInstant, lastInstant, isBelow0, secondFrom, instantOf, firstSecond, lastSecond}
 use Rattle.laws_base.specs.Test.{by-test, and-both, both-and, not-true, true-not, clash}
-use Rattle.instant.specs.Instant.{firstSecond, lastSecond}
 use Rattle.instant.specs.declared.Instant.{Instant}
 use Rattle.instant_signed.specs.Signed.{biased, biased-plus, biased-minus}
 use Rattle.instant_signed.specs.Reads.{ofNanos, instantRead}

@@ -3,3 +3,5 @@ pub mod Members
 pub mod Claim
 pub mod Made
 pub mod Front
+pub mod Every
+pub mod Mapped

@@ -5,6 +5,7 @@ use mathlib.Core.Option.{Option, none, some}
 use Prim.Native.Nat.{ℕ}
 use native.Mathlib.Omega.{arith}
 use Rattle.model.specs.Basic.{_>>=_, need}
+use Rattle.laws_base.specs.Test.{never}
 
 -- what is made, if anything, has P
 pub data Made {A : Type 0} (P : A → Type 0) : Option A → Type 0 where
@@ -16,7 +17,7 @@ made none f = nothing
 made (some a) f = value (f a refl)
 
 pub made-is : {A : Type 0} {P : A → Type 0} (o : Option A) (a : A) → Made P o → o ≡ some a → P a
-made-is none a h e = absurd (let z : _≡_ {A = ℕ} 0 1 = cc in omega arith)
+made-is none a h e = never (cc)
 made-is {P = P} (some b) a (value h) e = let p : b ≡ a = cc in subst P p h
 
 -- one step behind another

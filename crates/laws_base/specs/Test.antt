@@ -18,8 +18,12 @@ pub by-either : {A B P : Type 0} → (A → P) → (B → P) → A ⊎ B → P
 by-either f g (inl a) = f a
 by-either f g (inr b) = g b
 
+-- two constructors that differ are equal: `cc` gives this from it
+pub never : {P : Type 0} → _≡_ {A = ℕ} 0 1 → P
+never z = absurd (omega arith)
+
 pub clash : {P : Type 0} (b : Bool) → b ≡ true → b ≡ false → P
-clash b p q = absurd (let z : _≡_ {A = ℕ} 0 1 = cc in omega arith)
+clash b p q = never (cc)
 
 pub passed : (b : Bool) → T b → b ≡ true
 passed true t = refl

@@ -9,6 +9,10 @@ abbrev pub bit : Bool → ℕ
 bit true = 1
 bit false = 0
 
+bit-most : (b : Bool) → bit b ≤ 1
+bit-most true = omega arith
+bit-most false = omega arith
+
 -- of the n numbers from a on
 unfoldable pub cnt : (ℕ → Bool) → ℕ → ℕ → ℕ
 cnt W a zero = 0
@@ -38,3 +42,8 @@ module _ (W : ℕ → Bool) where
   pub span-one : (a : ℕ) → span W a (suc a) ≡ bit (W a)
   unfolding span cnt
   span-one a = let e : suc a - a ≡ 1 = omega arith in rw (e, add-zero) (omega arith)
+
+  pub cnt-most : (a n : ℕ) → cnt W a n ≤ n
+  unfolding cnt
+  cnt-most a zero = omega arith
+  cnt-most a (suc n) = let h = cnt-most a n in let k = bit-most (W (a + n)) in omega arith

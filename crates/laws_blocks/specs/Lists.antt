@@ -44,3 +44,12 @@ module _ (W : ℕ → Bool) where
   pub full-span : (a b : ℕ) → a ≤ b → Full a b → span W a b ≡ b - a
   full-span a b k h = let e : a + (b - a) ≡ b = omega arith in
       rw e at (span-full a (b - a) (rw e h))
+
+-- the borders of a list's first block
+abbrev pub firstStart : List Block → ℕ
+firstStart [] = 0
+firstStart (b ∷ l) = b .start
+
+abbrev pub firstEnd : List Block → ℕ
+firstEnd [] = 0
+firstEnd (b ∷ l) = b .end

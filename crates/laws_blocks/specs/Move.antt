@@ -8,12 +8,12 @@ use borrow.Author.Tests.{ltb-true, ltb-false, lt-ltb, le-ltb, leb-true, leb-fals
 use Rattle.model.specs.Blocks.{Block, block, put, clipped, insert, sorted, mergedFrom, merged, union, cut, subtract, total}
 use Rattle.laws_base.specs.Test.{by-test}
 
-abbrev pub moved : ℕ → Block → Block
-moved w b = block (b .start + w) (b .end + w)
+abbrev pub movedBlock : ℕ → Block → Block
+movedBlock w b = block (b .start + w) (b .end + w)
 
 unfoldable pub moves : ℕ → List Block → List Block
 moves w [] = []
-moves w (b ∷ l) = moved w b ∷ moves w l
+moves w (b ∷ l) = movedBlock w b ∷ moves w l
 
 max-moved : (w a b : ℕ) → max (a + w) (b + w) ≡ max a b + w
 max-moved w a b = omega arith
@@ -47,7 +47,7 @@ module _ (w : ℕ) where
   unfolding clipped moves
   clipped-moved lo hi s e = rw (max-moved w s lo, min-moved w e hi) (put-moved (max s lo) (min e hi) [])
 
-  insert-moved : (b : Block) (l : List Block) → insert (moved w b) (moves w l) ≡ moves w (insert b l)
+  insert-moved : (b : Block) (l : List Block) → insert (movedBlock w b) (moves w l) ≡ moves w (insert b l)
   unfolding insert moves
   insert-moved b [] = refl
   insert-moved b (c ∷ l) =
@@ -58,9 +58,9 @@ module _ (w : ℕ) where
   sorted-moved : (l : List Block) → sorted (moves w l) ≡ moves w (sorted l)
   unfolding sorted moves
   sorted-moved [] = refl
-  sorted-moved (b ∷ l) = ap (insert (moved w b)) (sorted-moved l) ∙ insert-moved b (sorted l)
+  sorted-moved (b ∷ l) = ap (insert (movedBlock w b)) (sorted-moved l) ∙ insert-moved b (sorted l)
 
-  merged-from-moved : (b : Block) (l : List Block) → mergedFrom (moved w b) (moves w l) ≡ moves w (mergedFrom b l)
+  merged-from-moved : (b : Block) (l : List Block) → mergedFrom (movedBlock w b) (moves w l) ≡ moves w (mergedFrom b l)
   unfolding mergedFrom moves
   merged-from-moved b [] = refl
   merged-from-moved b (c ∷ l) =

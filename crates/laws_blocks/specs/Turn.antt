@@ -12,8 +12,8 @@ use Rattle.laws_blocks.specs.Count.{bit, cnt, span, span-add, span-self,
 use Rattle.laws_blocks.specs.Lists.{Empty, Lists, none, next, idle-lists, next-lists}
 
 -- the test as seen from t, by distance
-abbrev pub after : (ℕ → Bool) → ℕ → ℕ → Bool
-after W t x = W (t + x)
+abbrev pub seenFrom : (ℕ → Bool) → ℕ → ℕ → Bool
+seenFrom W t x = W (t + x)
 
 -- the distance 0 stands for the last instant before t
 abbrev pub behind : (ℕ → Bool) → ℕ → ℕ → Bool
@@ -54,21 +54,21 @@ onward-more : (t hi u : ℕ) → u < hi - t → t + u < hi
 onward-more t hi u h = omega arith
 
 module _ (W : ℕ → Bool) (t : ℕ) where
-  pub onward-lists : (lo hi : ℕ) {l : List Block} → t ≤ lo → Lists W lo hi l → Lists (after W t) (lo - t) (hi - t) (onward t l)
+  pub onward-lists : (lo hi : ℕ) {l : List Block} → t ≤ lo → Lists W lo hi l → Lists (seenFrom W t) (lo - t) (hi - t) (onward t l)
   unfolding onward
-  onward-lists lo hi h (none k e) = idle-lists (after W t) (lo - t) (hi - t) (omega arith) (λ u a b. e (t + u) (onward-less t lo u a) (onward-more t hi u b))
+  onward-lists lo hi h (none k e) = idle-lists (seenFrom W t) (lo - t) (hi - t) (omega arith) (λ u a b. e (t + u) (onward-less t lo u a) (onward-more t hi u b))
   onward-lists lo hi h (next s e a b c i f r) =
-      next-lists (after W t) (lo - t) (hi - t) (s - t) (e - t) (omega arith) (omega arith) (omega arith)
+      next-lists (seenFrom W t) (lo - t) (hi - t) (s - t) (e - t) (omega arith) (omega arith) (omega arith)
       (λ u p q. i (t + u) (onward-less t lo u p) (onward-more t s u q))
       (λ u p q. f (t + u) (onward-less t s u p) (onward-more t e u q))
       (onward-lists e hi (omega arith) r)
 
-  cnt-after : (a n : ℕ) → cnt (after W t) a n ≡ cnt W (t + a) n
+  cnt-after : (a n : ℕ) → cnt (seenFrom W t) a n ≡ cnt W (t + a) n
   unfolding cnt
   cnt-after a zero = refl
   cnt-after a (suc n) = rw (cnt-after a n, add-assoc t a n)
 
-  pub span-after : (a b : ℕ) → span (after W t) a b ≡ span W (t + a) (t + b)
+  pub span-after : (a b : ℕ) → span (seenFrom W t) a b ≡ span W (t + a) (t + b)
   unfolding span
   span-after a b = let e : (t + b) - (t + a) ≡ b - a = omega arith in rw (e, cnt-after a (b - a))
 

@@ -15,7 +15,7 @@ use Rattle.model.specs.Footer as F
 use Rattle.model.specs.Footer.{Day, ChangeRule, Footer, fixed, rules, after, _>>=_, only, has, byte, atEnd, isDigit, isLetter, spanned, digits, isNameByte, name, offset, clock, monthText, dayText, changeRuleText, daylightText, footerText, parsed, footerOf}
 use Rattle.model.specs.Lines.{decimalFrom}
 use Rattle.laws_base.specs.Test.{by-test, by-either, or-true, clash, in-bounds, within, all-head}
-use Rattle.laws_bytes.specs.TzGrammar.{Decimal, more, Number, number, Sixty, sixty, Clock, hours, minutes, seconds, Letter, upper, lower, Quoted, letter, plus, minus, Word, three, longer, Name, bare, quoted, Offset, unsigned, west, east, Date, dateJ, dateN, dateM, Rule, untimed, timed, Ahead, hour, written, TzString, standard, daylight}
+use Rattle.laws_bytes.specs.TzGrammar.{Decimal, more, Number, number, Sixty, sixty, Clock, hours, minutes, seconds, Letter, upper, lower, Quoted, letter, plus, minus, Word, three, longer, Name, bare, quoted, Offset, unsigned, west, east, DateText, dateJ, dateN, dateM, RuleText, untimed, timed, DaylightText, hour, written, TzString, standard, daylight}
 use Rattle.laws_bytes.specs.TzSound.{some-digit, single, letter-of, tz-sound}
 
 -- the rest of a text, at its end or at a byte that fails the test
@@ -204,7 +204,7 @@ offset-gives w r (unsigned g) h =
 offset-gives w r (west {s = s} g) h = rw (clock-gives s r g h)
 offset-gives w r (east {s = s} g) h = rw (clock-gives s r g h)
 
-date-gives : {d : Day} (w r : List ℕ) → Date w d → Stops isDigit r → dayText (w ++ r) ≡ some (d, r)
+date-gives : {d : Day} (w r : List ℕ) → DateText w d → Stops isDigit r → dayText (w ++ r) ≡ some (d, r)
 unfolding dayText monthText Ends
 date-gives w r (dateJ {s = s} g) h = rw (number-gives s r g (inl h))
 date-gives w r (dateN g) h =
@@ -223,7 +223,7 @@ data Comma : List ℕ → Type 0 where
   end : Comma []
   comma : (s : List ℕ) → Comma (44 ∷ s)
 
-rule-gives : {x : ChangeRule} (w r : List ℕ) → Rule w x → Comma r → changeRuleText (w ++ r) ≡ some (x, r)
+rule-gives : {x : ChangeRule} (w r : List ℕ) → RuleText w x → Comma r → changeRuleText (w ++ r) ≡ some (x, r)
 unfolding changeRuleText
 rule-gives w r (untimed g) end = rw (date-gives w [] g tt)
 rule-gives w r (untimed g) (comma s) = rw (date-gives w (44 ∷ s) g refl)
@@ -232,11 +232,11 @@ rule-gives w r (timed {s = s} {t = t} g i) (comma q) = rw (append-assoc s (47 �
 
 -- ---- footers
 
-rule-last : {x : ChangeRule} (w : List ℕ) → Rule w x → changeRuleText w ≡ some (x, [])
+rule-last : {x : ChangeRule} (w : List ℕ) → RuleText w x → changeRuleText w ≡ some (x, [])
 rule-last w g = rw append-nil at (rule-gives w [] g end)
 
 -- behind the daylight offset and its comma: both rules
-rules-give : {start end : ChangeRule} (x y : List ℕ) (std dst : ℕ) → Rule x start → Rule y end →
+rules-give : {start end : ChangeRule} (x y : List ℕ) (std dst : ℕ) → RuleText x start → RuleText y end →
     after (changeRuleText (x ++ 44 ∷ y)) (λ start. byte 44 >>= λ _. changeRuleText >>= λ end. atEnd >>= λ done. only done (rules std dst start end)) ≡ some (rules std dst start end, [])
 rules-give x y std dst g h = rw (rule-gives x (44 ∷ y) g (comma y), rule-last y h)
 
@@ -248,7 +248,7 @@ digit-no-letter c e =
 offset-no-letter : {o : ℕ} (w r : List ℕ) → Offset w o → Stops isLetter (w ++ r)
 offset-no-letter w r g = offset-first isLetter digit-no-letter refl refl w r g
 
-ahead-gives : {dst : ℕ} {start end : ChangeRule} (std : ℕ) (b t x y : List ℕ) → Name b → Ahead std t dst → Rule x start → Rule y end →
+ahead-gives : {dst : ℕ} {start end : ChangeRule} (std : ℕ) (b t x y : List ℕ) → Name b → DaylightText std t dst → RuleText x start → RuleText y end →
     daylightText std (b ++ (t ++ 44 ∷ (x ++ 44 ∷ y))) ≡ some (rules std dst start end, [])
 unfolding daylightText
 ahead-gives std b t x y n hour g h = rw (name-gives b (44 ∷ (x ++ 44 ∷ y)) n refl) (rules-give x y std (std + 3600) g h)
@@ -281,7 +281,7 @@ unfolding footerText
 standard-gives a s n o =
     rw (name-gives a s n (rw append-nil at (offset-no-letter s [] o)), rw append-nil at (offset-gives s [] o tt))
 
-daylight-gives : {std dst : ℕ} {start end : ChangeRule} (a s b t x y : List ℕ) → Name a → Offset s std → Name b → Ahead std t dst → Rule x start → Rule y end →
+daylight-gives : {std dst : ℕ} {start end : ChangeRule} (a s b t x y : List ℕ) → Name a → Offset s std → Name b → DaylightText std t dst → RuleText x start → RuleText y end →
     footerText (a ++ s ++ b ++ t ++ 44 ∷ x ++ 44 ∷ y) ≡ some (rules std dst start end, [])
 unfolding footerText
 daylight-gives {std} a s b t x y n o m d g h =

@@ -8,6 +8,7 @@ use Prim.Native.Nat.{ℕ, _+_, _*_, _-_, _≤_}
 use Prim.Native.Char.{code}
 use lib.ListN.{length}
 use Rattle.model.specs.Footer.{Day, month, julian, plain, ChangeRule, Footer, empty, fixed, rules}
+use Rattle.model.specs.Offset.{offsetBias}
 
 -- ---- numbers
 
@@ -62,31 +63,31 @@ pub data Name : List ℕ → Type 0 where
 -- "the value added to the local time to arrive at Coordinated Universal Time". "If preceded by a '-', the timezone shall be east of the Prime
 -- Meridian; otherwise, it shall be west (which may be indicated by an optional preceding '+')."
 pub data Offset : List ℕ → ℕ → Type 0 where
-  unsigned : {s : List ℕ} {t : ℕ} → Clock s t → Offset s (93600 - t)
-  west : {s : List ℕ} {t : ℕ} → Clock s t → Offset (code "+" ∷ s) (93600 - t)
-  east : {s : List ℕ} {t : ℕ} → Clock s t → Offset (code "-" ∷ s) (93600 + t)
+  unsigned : {s : List ℕ} {t : ℕ} → Clock s t → Offset s (offsetBias - t)
+  west : {s : List ℕ} {t : ℕ} → Clock s t → Offset (code "+" ∷ s) (offsetBias - t)
+  east : {s : List ℕ} {t : ℕ} → Clock s t → Offset (code "-" ∷ s) (offsetBias + t)
 
-pub data Date : List ℕ → Day → Type 0 where
+pub data DateText : List ℕ → Day → Type 0 where
   -- "Jn The Julian day n (1 <= n <= 365). Leap days shall not be counted."
-  dateJ : {s : List ℕ} {n : ℕ} → Number 3 1 365 s n → Date (code "J" ∷ s) (julian n)
+  dateJ : {s : List ℕ} {n : ℕ} → Number 3 1 365 s n → DateText (code "J" ∷ s) (julian n)
   -- "n The zero-based Julian day (0 <= n <= 365). Leap days shall be counted"
-  dateN : {s : List ℕ} {n : ℕ} → Number 3 0 365 s n → Date s (plain n)
+  dateN : {s : List ℕ} {n : ℕ} → Number 3 0 365 s n → DateText s (plain n)
   -- "Mm.w.d The d'th day (0 <= d <= 6) of week w of month m of the year (1 <= w <= 5, 1 <= m <= 12 ..)"
   dateM : {s t u : List ℕ} {m w d : ℕ} → Number 2 1 12 s m → Number 1 1 5 t w → Number 1 0 6 u d →
-      Date (code "M" ∷ s ++ code "." ∷ t ++ code "." ∷ u) (month m w d)
+      DateText (code "M" ∷ s ++ code "." ∷ t ++ code "." ∷ u) (month m w d)
 
 -- "date[/time]". "The time has the same format as offset except that no leading sign (..) is allowed. The default, if time is not given, shall be
 -- 02:00:00."
-pub data Rule : List ℕ → ChangeRule → Type 0 where
-  untimed : {s : List ℕ} {d : Day} → Date s d → Rule s (record { day = d; time = 7200 })
-  timed : {s t : List ℕ} {d : Day} {n : ℕ} → Date s d → Clock t n → Rule (s ++ code "/" ∷ t) (record { day = d; time = n })
+pub data RuleText : List ℕ → ChangeRule → Type 0 where
+  untimed : {s : List ℕ} {d : Day} → DateText s d → RuleText s (record { day = d; time = 7200 })
+  timed : {s t : List ℕ} {d : Day} {n : ℕ} → DateText s d → Clock t n → RuleText (s ++ code "/" ∷ t) (record { day = d; time = n })
 
 -- ---- footers
 
 -- behind a daylight name: "If no offset follows dst, the alternative time is assumed to be one hour ahead of standard time."
-pub data Ahead (std : ℕ) : List ℕ → ℕ → Type 0 where
-  hour : Ahead std [] (std + 3600)
-  written : {s : List ℕ} {dst : ℕ} → Offset s dst → Ahead std s dst
+pub data DaylightText (std : ℕ) : List ℕ → ℕ → Type 0 where
+  hour : DaylightText std [] (std + 3600)
+  written : {s : List ℕ} {dst : ℕ} → Offset s dst → DaylightText std s dst
 
 -- "stdoffset[dst[offset][,start[/time],end[/time]]]", and "A daylight name needs both its rules."
 pub data TzString : List ℕ → Footer → Type 0 where
@@ -95,5 +96,5 @@ pub data TzString : List ℕ → Footer → Type 0 where
   -- stdoffset
   standard : {a s : List ℕ} {std : ℕ} → Name a → Offset s std → TzString (a ++ s) (fixed std)
   -- stdoffsetdst[offset],start[/time],end[/time]
-  daylight : {a s b t x y : List ℕ} {std dst : ℕ} {start end : ChangeRule} → Name a → Offset s std → Name b → Ahead std t dst → Rule x start → Rule y end →
+  daylight : {a s b t x y : List ℕ} {std dst : ℕ} {start end : ChangeRule} → Name a → Offset s std → Name b → DaylightText std t dst → RuleText x start → RuleText y end →
       TzString (a ++ s ++ b ++ t ++ code "," ∷ x ++ code "," ∷ y) (rules std dst start end)

@@ -13,7 +13,7 @@ use Rattle.model.specs.Basic.{isIn, all}
 use Rattle.model.specs.Footer as F
 use Rattle.model.specs.Footer.{ChangeRule, Footer, fixed, rules, Parser, after, _>>=_, pure, only, has, byte, atEnd, isDigit, isLetter, spanned, digits, isNameByte, name, offset, clock, monthText, dayText, changeRuleText, daylightText, footerText, parsed, footerOf}
 use Rattle.laws_base.specs.Test.{by-test, by-either, or-true, clash, in-bounds, all-head}
-use Rattle.laws_bytes.specs.TzGrammar.{Decimal, more, Number, number, Sixty, sixty, Clock, hours, minutes, seconds, Letter, upper, lower, Quoted, letter, plus, minus, Word, three, longer, Name, bare, quoted, Offset, unsigned, west, east, Date, dateJ, dateN, dateM, Rule, untimed, timed, hour, written, TzString, standard, daylight}
+use Rattle.laws_bytes.specs.TzGrammar.{Decimal, more, Number, number, Sixty, sixty, Clock, hours, minutes, seconds, Letter, upper, lower, Quoted, letter, plus, minus, Word, three, longer, Name, bare, quoted, Offset, unsigned, west, east, DateText, dateJ, dateN, dateM, RuleText, untimed, timed, hour, written, TzString, standard, daylight}
 
 -- the parser's answer to the text s: none, or the value of the front of it, and the rest
 data Reads {A : Type 0} (G : List ℕ → A → Type 0) (s : List ℕ) : Option (A × List ℕ) → Type 0 where
@@ -231,7 +231,7 @@ offset-read s =
     (λ r m. step (clock r) (clock-read r) (λ t w q e g. reads (43 ∷ w) q (m ∙ ap (λ (l : List ℕ). 43 ∷ l) e) (west g)))
     (step (clock s) (clock-read s) (λ t w q e g. reads w q e (unsigned g))))
 
-month-read : (s t : List ℕ) → s ≡ 77 ∷ t → Reads Date s (monthText t)
+month-read : (s t : List ℕ) → s ≡ 77 ∷ t → Reads DateText s (monthText t)
 unfolding monthText
 month-read s t m =
     step (F.number 2 1 12 t) (number-read 1 1 12 t) (λ a w r e g.
@@ -243,7 +243,7 @@ month-read s t m =
     (join-by 46 (77 ∷ w ++ 46 ∷ v) u z (join-by 46 (77 ∷ w) v x (m ∙ ap (λ (l : List ℕ). 77 ∷ l) e) n f) o i)
     (dateM g h k))))))
 
-day-read : (s : List ℕ) → Reads Date s (dayText s)
+day-read : (s : List ℕ) → Reads DateText s (dayText s)
 unfolding dayText
 day-read s =
     marked 77 s _
@@ -252,7 +252,7 @@ day-read s =
     (λ r m. step (F.number 3 1 365 r) (number-read 2 1 365 r) (λ n w q e g. reads (74 ∷ w) q (m ∙ ap (λ (l : List ℕ). 74 ∷ l) e) (dateJ g)))
     (step (F.number 3 0 365 s) (number-read 2 0 365 s) (λ n w q e g. reads w q e (dateN g))))
 
-rule-read : (s : List ℕ) → Reads Rule s (changeRuleText s)
+rule-read : (s : List ℕ) → Reads RuleText s (changeRuleText s)
 unfolding changeRuleText
 rule-read s =
     step (dayText s) (day-read s) (λ d w r e g.
@@ -276,7 +276,7 @@ whole s f g = reads s [] (sym (append-nil s)) g
 
 -- both rules, behind u and a comma
 rules-read : (s u r : List ℕ) (std dst : ℕ) → s ≡ u ++ 44 ∷ r →
-    ((x y : List ℕ) (start end : ChangeRule) → Rule x start → Rule y end → TzString (u ++ 44 ∷ x ++ 44 ∷ y) (rules std dst start end)) →
+    ((x y : List ℕ) (start end : ChangeRule) → RuleText x start → RuleText y end → TzString (u ++ 44 ∷ x ++ 44 ∷ y) (rules std dst start end)) →
     Reads (Whole s) s (after (changeRuleText r) (λ start. byte 44 >>= λ _. changeRuleText >>= λ end. atEnd >>= λ done. only done (rules std dst start end)))
 rules-read s u r std dst e k =
     step (changeRuleText r) (rule-read r) (λ start x q f g.

@@ -11,7 +11,7 @@ use lib.Dec.{T, eqb, ltb, leb}
 use borrow.Author.Tests.{eqb-true, eqb-false, ltb-true, ltb-false}
 use Rattle.model.specs.Basic.{if_then_else_, isIn}
 use Rattle.model.specs.Calendar.{isLeap, daysBeforeYear, daysInMonth, daysBeforeMonth, Date, date, isDate, dayNumber, yearOf, monthsBegun, monthOf, dateIn, dateOf, firstDay, lastDay}
-use Rattle.laws_base.specs.Claim.{Claim, le, lt, eq, both, if, Says, all, at-each, all₂, at-each₂, says, passes, fails}
+use Rattle.laws_base.specs.Claim.{Claim, le, lt, eq, both, if, Says, allBelow, at-each, all₂, at-each₂, says, passes, fails}
 use Rattle.laws_calendar.specs.Years.{dby-hi, dby-lo}
 
 -- ---- the length of a year
@@ -94,7 +94,7 @@ pub year-mono : {a b : ℕ} → a ≤ b → daysBeforeYear a ≤ daysBeforeYear 
 year-mono {a} {b} h = ⊎-elim (λ e. omega (arith, ap daysBeforeYear e)) (λ l. le-of-lt (below-year l)) (eq-or-lt-of-le h)
 
 -- the year begins on day n or before, and the next after it
-pub record Within (n y : ℕ) : Type 0 where
+pub record InYear (n y : ℕ) : Type 0 where
   pub from : daysBeforeYear y ≤ n
   pub to : n < daysBeforeYear (y + 1)
 
@@ -117,21 +117,21 @@ est-lo : (n : ℕ) → daysBeforeYear (est n) ≤ n + 3
 unfolding est
 est-lo n = omega (arith, dby-hi (400 * (n + 1) / 146097))
 
-one-less : (n e : ℕ) → daysBeforeYear e ≤ n + 3 → n < daysBeforeYear e → Within n (e - 1)
+one-less : (n e : ℕ) → daysBeforeYear e ≤ n + 3 → n < daysBeforeYear e → InYear n (e - 1)
 one-less n e lo t =
     let q : daysBeforeYear (e - 1 + 1) ≡ daysBeforeYear e = ap daysBeforeYear (sub-add-cancel (after-first n e t)) in
     record { from = omega (arith, year-step (e - 1), leap-few (isLeap (e - 1))); to = omega arith }
 
-pick-year : (n e : ℕ) → daysBeforeYear e ≤ n + 3 → n < daysBeforeYear (e + 1) → (b : Bool) → ltb n (daysBeforeYear e) ≡ b → Within n (if b then e - 1 else e)
+pick-year : (n e : ℕ) → daysBeforeYear e ≤ n + 3 → n < daysBeforeYear (e + 1) → (b : Bool) → ltb n (daysBeforeYear e) ≡ b → InYear n (if b then e - 1 else e)
 pick-year n e lo hi false t = record { from = ltb-false _ _ t; to = hi }
 pick-year n e lo hi true t = one-less n e lo (ltb-true _ _ t)
 
 -- a day lies in the year that yearOf says
-pub year-within : (n : ℕ) → Within n (yearOf n)
+pub year-within : (n : ℕ) → InYear n (yearOf n)
 unfolding yearOf est
 year-within n = pick-year n (400 * (n + 1) / 146097) (est-lo n) (est-hi n) _ refl
 
-no-later : {n a b : ℕ} → Within n a → Within n b → Dec (a ≤ b) → a ≤ b
+no-later : {n a b : ℕ} → InYear n a → InYear n b → Dec (a ≤ b) → a ≤ b
 no-later p q (yes h) = h
 no-later {n} {a} {b} p q (no f) = absurd (le-lt (year-mono (omega arith)))
   where
@@ -139,7 +139,7 @@ no-later {n} {a} {b} p q (no f) = absurd (le-lt (year-mono (omega arith)))
     le-lt h = omega arith
 
 -- and in no other
-pub same-year : {n y z : ℕ} → Within n y → Within n z → y ≡ z
+pub same-year : {n y z : ℕ} → InYear n y → InYear n z → y ≡ z
 same-year {n} {y} {z} p q = le-antisymm (no-later p q (decLe y z)) (no-later q p (decLe z y))
 
 -- ---- the months, by computing: 366 days of each kind of year, and 13 * 31 pairs of a month and a day
@@ -149,12 +149,12 @@ in-month l r =
     let m = monthOf l r in
     both (le 1 m) (both (le m 12) (both (le (daysBeforeMonth l m) r) (lt r (daysBeforeMonth l m + daysInMonth l m))))
 
-in-common : T (all (in-month false) 365)
-unfolding all in-month monthsBegun daysBeforeMonth daysInMonth
+in-common : T (allBelow (in-month false) 365)
+unfolding allBelow in-month monthsBegun daysBeforeMonth daysInMonth
 in-common = tt
 
-in-leap : T (all (in-month true) 366)
-unfolding all in-month monthsBegun daysBeforeMonth daysInMonth
+in-leap : T (allBelow (in-month true) 366)
+unfolding allBelow in-month monthsBegun daysBeforeMonth daysInMonth
 in-leap = tt
 
 -- day r of a year, from 0, is a day of month m
@@ -179,7 +179,7 @@ month-back l m d =
     (if) (both (le 1 m) (lt d (daysInMonth l m))) (both (lt r (365 + leapDay l)) (eq (monthOf l r) m))
 
 backs : (l : Bool) → T (all₂ (month-back l) 13 31)
-unfolding all all₂ month-back monthsBegun daysBeforeMonth daysInMonth
+unfolding allBelow all₂ month-back monthsBegun daysBeforeMonth daysInMonth
 backs true = tt
 backs false = tt
 
@@ -188,8 +188,8 @@ pub month-of : (l : Bool) (m d : ℕ) → 1 ≤ m → m < 13 → d < 31 → d < 
 unfolding month-back
 month-of l m d h k i j = at-each₂ (month-back l) 13 31 (backs l) m k d i (h, j)
 
-long : (l : Bool) → T (all (λ (m : ℕ). le (daysInMonth l m) 31) 13)
-unfolding all daysInMonth
+long : (l : Bool) → T (allBelow (λ (m : ℕ). le (daysInMonth l m) 31) 13)
+unfolding allBelow daysInMonth
 long true = tt
 long false = tt
 
@@ -220,7 +220,7 @@ day-of-date n =
     let i = month-in (isLeap (yearOf n)) (n - daysBeforeYear (yearOf n)) (omega (arith, year-step (yearOf n))) in
     omega arith
 
-pub has-within : {y m d : ℕ} → Has y m d → Within (dayNumber y m d) y
+pub has-within : {y m d : ℕ} → Has y m d → InYear (dayNumber y m d) y
 unfolding dayNumber
 has-within {y} {m} {d} v =
     let b = month-of (isLeap y) m (d - 1) (v .month-low) (suc-le-suc (v .month-high)) (omega (arith, at-most-31 (isLeap y) m (v .month-high))) (omega arith) in
@@ -296,16 +296,16 @@ day-from {y} {m} {d} v = omega (arith, has-within (is-had v), year-mono {a = 401
 pub day-to : {y m d : ℕ} → IsDate y m d → dayNumber y m d ≤ lastDay
 day-to {y} {m} {d} v = omega (arith, has-within (is-had v), year-mono {a = y + 1} {b = 20400} (omega arith), last-is)
 
-year-at-least : {n y : ℕ} → firstDay ≤ n → Within n y → Dec (401 ≤ y) → 401 ≤ y
+year-at-least : {n y : ℕ} → firstDay ≤ n → InYear n y → Dec (401 ≤ y) → 401 ≤ y
 year-at-least h w (yes g) = g
 year-at-least {n} {y} h w (no g) = absurd (omega (arith, year-mono {a = y + 1} {b = 401} (omega arith), first-is))
 
-year-at-most : {n y : ℕ} → n ≤ lastDay → Within n y → Dec (y ≤ 20399) → y ≤ 20399
+year-at-most : {n y : ℕ} → n ≤ lastDay → InYear n y → Dec (y ≤ 20399) → y ≤ 20399
 year-at-most h w (yes g) = g
 year-at-most {n} {y} h w (no g) = absurd (omega (arith, year-mono {a = 20400} {b = y} (omega arith), last-is))
 
 -- the year of a day of the years 0 to 20799
-pub year-below : {n y : ℕ} → n < 7597044 → Within n y → y < 20800
+pub year-below : {n y : ℕ} → n < 7597044 → InYear n y → y < 20800
 year-below {n} {y} h w = omega (arith, dby-lo y, dby-hi 20800, end-is)
 
 year-is : (n : ℕ) → dateOf n .year ≡ yearOf n

@@ -4,7 +4,7 @@ use mathlib.Core.Path.{_≡_, refl}
 use mathlib.Core.Bool.{true, false}
 use Prim.Native.Nat.{_*_}
 use Rattle.model.specs.Calendar.{isDate, date, dayNumber, dateOf, weekday, firstDay, dayOfYearZero, lastDay, calendar}
-use Rattle.model.specs.Instant.{epoch}
+use Rattle.model.specs.Instant.{epoch, daySeconds}
 
 first-day : dayNumber 401 1 1 ≡ firstDay
 unfolding calendar
@@ -18,7 +18,7 @@ last-day : dayNumber 20399 12 31 ≡ lastDay
 unfolding calendar
 last-day = refl
 
-epoch-second : dayNumber 12370 1 1 * 86400 ≡ epoch
+epoch-second : dayNumber 12370 1 1 * daySeconds ≡ epoch
 unfolding calendar
 epoch-second = refl
 

@@ -12,7 +12,7 @@ use borrow.Author.Tests.{ltb-true}
 use Rattle.model.specs.Basic.{given, each, joined}
 use Rattle.model.specs.Bytes.{be}
 use Rattle.model.specs.Calendar.{isSet}
-use Rattle.model.specs.Instant.{second, day}
+use Rattle.model.specs.Instant.{second, day, daySeconds}
 use Rattle.model.specs.Directory.{Part, partsOf}
 use Rattle.model.specs.Pack.{Named, packOf, find}
 use Rattle.model.specs.Tzif.{Zone, zoneOf}
@@ -20,12 +20,13 @@ use Rattle.model.specs.Answer.{Answer, gives, refuses, _>>=_, orRefuse}
 use Rattle.model.specs.Book.{Hours, Body, default, work, pause, holidays, Entry, timeOf, hoursOf, datesOf, bodyOf, entryOf, entriesOf, withinLimits, lastDefault}
 use Rattle.model.specs.Working.{Rule, Schedule, holidayRule}
 use Rattle.model.specs.Build.{lookup, defaultZone, ruleZone, noRules, withRule, zoneUsed, rulesOf, worksIn2001, build}
-use Rattle.laws_base.specs.Test.{by-test, and-both}
+use Rattle.laws_base.specs.Test.{by-test, and-both, never}
 use Rattle.laws_base.specs.Made.{Made, nothing, value, made, made-is, next, tested, anything}
 use Rattle.laws_zone.specs.Sound.{Sound}
 use Rattle.laws_zone.specs.Zones.{zone-sound, utc-sound}
 use Rattle.laws_demand3.specs.Windows.{RuleOk, OfRules, NearRule}
-use Rattle.laws_demand3.specs.Zones.{Each, ifGiven, usedBy, usedIn, zonesOf, WithinDay}
+use Rattle.laws_demand3.specs.Zones.{ifGiven, usedBy, usedIn, zonesOf, WithinDay}
+use Rattle.laws_base.specs.Every.{Every, every-both, every-map, every-apart}
 
 -- ---- what is answered, if anything, has P
 
@@ -38,7 +39,7 @@ done-by (gives a) f = done (f a refl)
 done-by (refuses n p) f = not-done
 
 done-is : {A : Type 0} {P : A → Type 0} (o : Answer A) (a : A) → Done P o → o ≡ gives a → P a
-done-is (refuses n p) a h e = absurd (let z : _≡_ {A = ℕ} 0 1 = cc in omega arith)
+done-is (refuses n p) a h e = never (cc)
 done-is {P = P} (gives b) a (done h) e = let p : b ≡ a = cc in subst P p h
 
 goes : {A B : Type 0} {P : A → Type 0} {Q : B → Type 0} {f : A → Answer B} (o : Answer A) → Done P o → ((a : A) → P a → Done Q (f a)) → Done Q (o >>= f)
@@ -69,11 +70,11 @@ given-made false a f = nothing
 
 time-made : (l : List ℕ) → Made (λ (t : ℕ). t < day) (timeOf l)
 unfolding timeOf
-time-made l = given-made (ltb (be 4 l) 86400 && ltb (be 4 (drop 4 l)) second) (be 4 l * second + be 4 (drop 4 l))
-    (λ e. below (be 4 l) (be 4 (drop 4 l)) (and-both (ltb (be 4 l) 86400) (ltb (be 4 (drop 4 l)) second) e))
+time-made l = given-made (ltb (be 4 l) daySeconds && ltb (be 4 (drop 4 l)) second) (be 4 l * second + be 4 (drop 4 l))
+    (λ e. below (be 4 l) (be 4 (drop 4 l)) (and-both (ltb (be 4 l) daySeconds) (ltb (be 4 (drop 4 l)) second) e))
   where
-    below : (s n : ℕ) → (ltb s 86400 ≡ true) × (ltb n second ≡ true) → s * second + n < day
-    below s n h = let a = ltb-true s 86400 (h .0) in let b = ltb-true n second (h .1) in omega arith
+    below : (s n : ℕ) → (ltb s daySeconds ≡ true) × (ltb n second ≡ true) → s * second + n < day
+    below s n h = let a = ltb-true s daySeconds (h .0) in let b = ltb-true n second (h .1) in omega arith
 
 hours-made : (l : List ℕ) → Made HoursOk (hoursOf l)
 unfolding hoursOf
@@ -99,16 +100,16 @@ entry-made p =
     tested (leb n 64 && leb (2 + n) (length (p .bytes))) (λ _ _.
     next (bodyOf (getD (p .bytes) 0 0) (drop (2 + n) (p .bytes))) (body-made (getD (p .bytes) 0 0) (drop (2 + n) (p .bytes))) (λ b h. value h))
 
-each-made : {A B : Type 0} {P : B → Type 0} (f : A → Option B) → ((a : A) → Made P (f a)) → (l : List A) → Made (Each P) (each f l)
+each-made : {A B : Type 0} {P : B → Type 0} (f : A → Option B) → ((a : A) → Made P (f a)) → (l : List A) → Made (Every P) (each f l)
 unfolding each
 each-made f k [] = value tt
 each-made f k (a ∷ l) = next (f a) (k a) (λ b h. next (each f l) (each-made f k l) (λ r i. value (h, i)))
 
-entries-made : (book : List ℕ) → Made (Each EntryOk) (entriesOf book)
+entries-made : (book : List ℕ) → Made (Every EntryOk) (entriesOf book)
 unfolding entriesOf
 entries-made book = next (partsOf book) (anything (partsOf book)) (λ l _. each-made entryOf entry-made l)
 
-pub entries-fit : (book : List ℕ) (l : List Entry) → entriesOf book ≡ some l → Each EntryOk l
+pub entries-fit : (book : List ℕ) (l : List Entry) → entriesOf book ≡ some l → Every EntryOk l
 entries-fit book l e = made-is (entriesOf book) l (entries-made book) e
 
 -- ---- zones
@@ -133,32 +134,20 @@ default-is files o z e = done-is (defaultZone files o) z (default-sound files o)
 pub zone-is : (files : List Named) (z : Zone) → Sound z → (e : Entry) (y : Zone) → ruleZone files z e ≡ gives y → Sound y
 zone-is files z s e y p = done-is (ruleZone files z e) y (rule-sound files z s e) p
 
-each-append : {A : Type 0} (P : A → Type 0) (l k : List A) → Each P l → Each P k → Each P (l ++ k)
-each-append P [] k a b = b
-each-append P (x ∷ l) k a b = (a .0, each-append P l k (a .1) b)
-
-each-left : {A : Type 0} (P : A → Type 0) (l k : List A) → Each P (l ++ k) → Each P l
-each-left P [] k a = tt
-each-left P (x ∷ l) k a = (a .0, each-left P l k (a .1))
-
-each-right : {A : Type 0} (P : A → Type 0) (l k : List A) → Each P (l ++ k) → Each P k
-each-right P [] k a = a
-each-right P (x ∷ l) k a = each-right P l k (a .1)
-
-given-done : {A : Type 0} {P : A → Type 0} (o : Answer A) → Done P o → Each P (ifGiven o)
+given-done : {A : Type 0} {P : A → Type 0} (o : Answer A) → Done P o → Every P (ifGiven o)
 given-done (gives a) (done h) = (h, tt)
 given-done (refuses n p) h = tt
 
-done-given : {A : Type 0} {P : A → Type 0} (o : Answer A) → Each P (ifGiven o) → Done P o
+done-given : {A : Type 0} {P : A → Type 0} (o : Answer A) → Every P (ifGiven o) → Done P o
 done-given (gives a) h = done (h .0)
 done-given (refuses n p) h = not-done
 
-used-sound : (files : List Named) (z : Zone) → Sound z → (l : List Entry) → Each Sound (usedIn files z l)
+used-sound : (files : List Named) (z : Zone) → Sound z → (l : List Entry) → Every Sound (usedIn files z l)
 unfolding usedIn
 used-sound files z s [] = tt
-used-sound files z s (e ∷ l) = each-append Sound (usedBy files z e (e .body)) (usedIn files z l) (used (e .body)) (used-sound files z s l)
+used-sound files z s (e ∷ l) = every-both Sound (usedBy files z e (e .body)) (usedIn files z l) (used (e .body)) (used-sound files z s l)
   where
-    used : (b : Body) → Each Sound (usedBy files z e b)
+    used : (b : Body) → Every Sound (usedBy files z e b)
     used default = tt
     used (work h) = given-done (ruleZone files z e) (rule-sound files z s e)
     used (pause h) = given-done (ruleZone files z e) (rule-sound files z s e)
@@ -175,9 +164,9 @@ module _ (P : Zone → Type 0) where
 
   -- what the records make, one after another
   record Rules (s : Schedule) : Type 0 where
-    work : Each Has (s .work)
-    breaks : Each Has (s .breaks)
-    holidays : Each Has (map holidayRule (s .holidays))
+    work : Every Has (s .work)
+    breaks : Every Has (s .breaks)
+    holidays : Every Has (map holidayRule (s .holidays))
     limit : 366 * day ≤ s .limit
 
   -- the zone that a record uses has P
@@ -199,21 +188,21 @@ module _ (P : Zone → Type 0) where
   }
 
   module _ (files : List Named) (z : Zone) where
-    zone-used : (e : Entry) (b : Body) → Each P (usedBy files z e b) → Done (Uses b) (zoneUsed files z e b)
+    zone-used : (e : Entry) (b : Body) → Every P (usedBy files z e b) → Done (Uses b) (zoneUsed files z e b)
     zone-used e default h = done tt
     zone-used e (work a) h = done-given (ruleZone files z e) h
     zone-used e (pause a) h = done-given (ruleZone files z e) h
     zone-used e (holidays a) h = done-given (ruleZone files z e) h
 
-    rules-done : (l : List Entry) → Each EntryOk l → Each P (usedIn files z l) → Done Rules (rulesOf files z l)
+    rules-done : (l : List Entry) → Every EntryOk l → Every P (usedIn files z l) → Done Rules (rulesOf files z l)
     unfolding rulesOf usedIn
     rules-done [] o h = done {a = noRules} (record { work = tt; breaks = tt; holidays = tt; limit = omega arith })
     rules-done (e ∷ l) o h =
-        goes (zoneUsed files z e (e .body)) (zone-used e (e .body) (each-left P (usedBy files z e (e .body)) (usedIn files z l) h)) (λ y u.
-        goes (rulesOf files z l) (rules-done l (o .1) (each-right P (usedBy files z e (e .body)) (usedIn files z l) h)) (λ s r.
+        goes (zoneUsed files z e (e .body)) (zone-used e (e .body) (every-apart P (usedBy files z e (e .body)) (usedIn files z l) h .0)) (λ y u.
+        goes (rulesOf files z l) (rules-done l (o .1) (every-apart P (usedBy files z e (e .body)) (usedIn files z l) h .1)) (λ s r.
         done (with-rule (e .body) y s (o .0) u r)))
 
-  build-done : (book pack : List ℕ) → ((l : List Entry) (files : List Named) (z : Zone) → entriesOf book ≡ some l → packOf pack ≡ some files → defaultZone files (lastDefault none l) ≡ gives z → Each P (usedIn files z l))
+  build-done : (book pack : List ℕ) → ((l : List Entry) (files : List Named) (z : Zone) → entriesOf book ≡ some l → packOf pack ≡ some files → defaultZone files (lastDefault none l) ≡ gives z → Every P (usedIn files z l))
       → Done Rules (build book pack)
   unfolding build
   build-done book pack f =
@@ -231,12 +220,8 @@ pub record Built (s : Schedule) : Type 0 where
   pub ok : OfRules RuleOk s
   pub limit : 366 * day ≤ s .limit
 
-each-map : {A : Type 0} (P Q : A → Type 0) → ((a : A) → P a → Q a) → (l : List A) → Each P l → Each Q l
-each-map P Q f [] h = tt
-each-map P Q f (a ∷ l) h = (f a (h .0), each-map P Q f l (h .1))
-
 of-rules : (P : Zone → Type 0) (Q : Rule → Type 0) → ((r : Rule) → Has P r → Q r) → (s : Schedule) → Rules P s → OfRules Q s
-of-rules P Q f s r = (each-map (Has P) Q f (s .work) (r .work), each-append Q (s .breaks) (map holidayRule (s .holidays)) (each-map (Has P) Q f (s .breaks) (r .breaks)) (each-map (Has P) Q f (map holidayRule (s .holidays)) (r .holidays)))
+of-rules P Q f s r = (every-map (Has P) Q f (s .work) (r .work), every-both Q (s .breaks) (map holidayRule (s .holidays)) (every-map (Has P) Q f (s .breaks) (r .breaks)) (every-map (Has P) Q f (map holidayRule (s .holidays)) (r .holidays)))
 
 pub built : (book pack : List ℕ) (s : Schedule) → build book pack ≡ gives s → Built s
 built book pack s e =
@@ -248,10 +233,10 @@ zones-are : (book pack : List ℕ) (l : List Entry) (files : List Named) (z : Zo
 unfolding zonesOf joined
 zones-are book pack l files z e g d = rw (e, g, d, append-nil)
 
-pub rules-have : (P : Zone → Type 0) (book pack : List ℕ) (s : Schedule) → build book pack ≡ gives s → Each P (zonesOf book pack) → OfRules (λ (r : Rule). P (r .zone)) s
+pub rules-have : (P : Zone → Type 0) (book pack : List ℕ) (s : Schedule) → build book pack ≡ gives s → Every P (zonesOf book pack) → OfRules (λ (r : Rule). P (r .zone)) s
 rules-have P book pack s e h =
     of-rules P (λ (r : Rule). P (r .zone)) (λ r k. k .zone) s
     (done-is (build book pack) s (build-done P book pack (λ l files z a b d. rw (zones-are book pack l files z a b d) at h)) e)
 
-pub near-rules : (book pack : List ℕ) (s : Schedule) → build book pack ≡ gives s → Each WithinDay (zonesOf book pack) → OfRules NearRule s
+pub near-rules : (book pack : List ℕ) (s : Schedule) → build book pack ≡ gives s → Every WithinDay (zonesOf book pack) → OfRules NearRule s
 near-rules = rules-have WithinDay

@@ -14,10 +14,11 @@ use Rattle.model.specs.Walk.{Way, on, back, at, ahead, search, searchIn, timeFr
 use Rattle.laws_blocks.specs.Count.{cnt, span, span-add, span-self}
 use Rattle.laws_blocks.specs.Lists.{Lists, empty-span}
 use Rattle.laws_blocks.specs.Totals.{lists-total}
-use Rattle.laws_blocks.specs.Turn.{after, behind, onward-lists, backward-lists}
+use Rattle.laws_blocks.specs.Turn.{seenFrom, behind, onward-lists, backward-lists}
 use Rattle.laws_demand3.specs.Walks.{Crossed, Found, Outcome, met, lacks, over, found-once, outcome-once, outcome-on, search-outcome, search-finds}
 use Rattle.laws_demand3.specs.Distance.{outcome-onward, found-distance, found-backward, first-work}
 use Rattle.laws_demand3.specs.Windows.{RuleOk, NearRule, OfRules, works, window-lists}
+use Rattle.laws_base.specs.Test.{never}
 
 -- -9998-01-01T00:00Z
 abbrev pub since : ℕ
@@ -60,11 +61,11 @@ found-of W limit end t d x (met {x = y} h f) e = let q : y ≡ x = cc in rw q at
   where
     pair : (y : ℕ) → y ≤ end → Found W limit t d y → (y ≤ end) × Found W limit t d y
     pair y h f = (h, f)
-found-of W limit end t d x (lacks s) e = absurd (let z : _≡_ {A = ℕ} 0 1 = cc in omega arith)
-found-of W limit end t d x (over s c) e = absurd (let z : _≡_ {A = ℕ} 0 1 = cc in omega arith)
+found-of W limit end t d x (lacks s) e = never (cc)
+found-of W limit end t d x (over s c) e = never (cc)
 
 over-of : (W : ℕ → Bool) (limit end t d p : ℕ) {a : Answer ℕ} → Outcome W limit end t d a → a ≡ refuses 7 p → span W t end < d
-over-of W limit end t d p (met h f) e = absurd (let z : _≡_ {A = ℕ} 0 1 = cc in omega arith)
+over-of W limit end t d p (met h f) e = never (cc)
 over-of W limit end t d p (lacks s) e = absurd (let z : _≡_ {A = ℕ} 6 7 = cc in omega arith)
 over-of W limit end t d p (over s c) e = s
 
@@ -137,7 +138,7 @@ module _ (s : Schedule) where
 
     -- ---- searches
 
-    ahead-lists : (t x y : ℕ) → since ≤ t → x ≤ y → t + y ≤ lastInstant → Lists (after W t) x y (ahead on s t x y)
+    ahead-lists : (t x y : ℕ) → since ≤ t → x ≤ y → t + y ≤ lastInstant → Lists (seenFrom W t) x y (ahead on s t x y)
     unfolding ahead
     ahead-lists t x y h o k =
         let e : (t + x) - t ≡ x = omega arith in
@@ -155,13 +156,13 @@ module _ (s : Schedule) where
     add-outcome t d h k p =
         let e : t + (lastInstant - t) ≡ lastInstant = omega arith in
         rw e at (outcome-onward W t (s .limit) (lastInstant - t) d
-        (search-outcome (after W t) (s .limit) (lastInstant - t) (ahead on s t) (λ x y a b. ahead-lists t x y h a (omega arith)) d p))
+        (search-outcome (seenFrom W t) (s .limit) (lastInstant - t) (ahead on s t) (λ x y a b. ahead-lists t x y h a (omega arith)) d p))
 
     add-finds : (t d x : ℕ) → since ≤ t → x ≤ lastInstant → 0 < d → Found W (s .limit) t d x → move on s t d ≡ gives x
     add-finds t d x h k p f =
         let o = f .after in
         let e : t + (x - t) ≡ x = omega arith in
-        rw (search-finds (after W t) (s .limit) (lastInstant - t) (ahead on s t) (x - t) (omega arith) (λ u v a b c g. ahead-lists t u v h b (omega arith)) d p (found-distance W t (s .limit) d x f), e)
+        rw (search-finds (seenFrom W t) (s .limit) (lastInstant - t) (ahead on s t) (x - t) (omega arith) (λ u v a b c g. ahead-lists t u v h b (omega arith)) d p (found-distance W t (s .limit) d x f), e)
 
     -- taking off what was added leads to where the work behind t begins
     sub-finds : (t d x : ℕ) → since ≤ t → x ≤ lastInstant → 0 < d → Found W (s .limit) t d x

@@ -16,13 +16,15 @@ use Rattle.model.specs.Working.{Schedule}
 use Rattle.model.specs.Build.{build}
 use Rattle.model.specs.Walk.{Way, on, back, at, begun, timeFrom, timeBetween, search}
 use Rattle.model.specs.Calls.{Reply, betweenCall, moved, moveCall, between, add, sub, said}
-use Rattle.laws_demand3.specs.Pairs.{Pair, nanos, IsInstant, IsDuration, shown}
-use Rattle.laws_demand3.specs.Zones.{Each, zonesOf, WithinDay}
+use Rattle.laws_demand3.specs.Pairs.{Pair, nanosOf, IsInstant, IsDuration, listedPair}
+use Rattle.laws_demand3.specs.Zones.{zonesOf, WithinDay}
+use Rattle.laws_base.specs.Every.{Every}
 use Rattle.laws_demand3.specs.Diff.{diff, diff-add, diff-same, neg-pos, pos-diff, nat-diff}
 use Rattle.laws_demand3.specs.SignedPairs.{At, at-read, at-shown, shown-at, pairOf, pair-at, at-instant, instant-at, at-order, at-since, Plain, plain, plain-sum, lengthOf, length-shown, length-nanos}
 use Rattle.laws_demand3.specs.Built.{built, near-rules}
 use Rattle.laws_demand3.specs.Demand as counted
 use Rattle.laws_demand3.specs.Demand.{move, time}
+use Rattle.laws_base.specs.Test.{never}
 
 -- ---- the statement
 
@@ -31,46 +33,58 @@ pub record Given (p : Pair) : Type 0 where
   pub instant : IsInstant p
   pub since : negℤ (pos 377673580800) ≤ℤ p .sec
 
--- what is said of an answer is its numbers (`said`): "Window counts stand outside demand 3."
-module _ (book pack : List ℕ) where
+-- what is answered for one book and one pack, in numbers: "Window counts stand outside demand 3." "Adding and taking off are `add` and `sub`."
+pub record Calls : Type 0 where
+  pub between : Pair → Pair → Answer (List ℤ)
+  pub adding : Pair → Pair → Answer (List ℤ)
+  pub takingOff : Pair → Pair → Answer (List ℤ)
+
+module _ (k : Calls) where
   -- "Working time .. is the duration that `between` gives, signed .., and summed and compared in exact nanoseconds": from a to b it is w
   abbrev pub WorkingTime : Pair → Pair → ℤ → Type 0
-  WorkingTime a b w = (d : Pair) × (said (between book pack (a .sec) (a .ns) (b .sec) (b .ns)) ≡ gives (shown d)) × (nanos d ≡ w)
-
-  -- "Adding and taking off are `add` and `sub`."
-  abbrev pub adding : Pair → Pair → Answer (List ℤ)
-  adding t d = said (add book pack (t .sec) (t .ns) (d .sec) (d .ns))
-
-  abbrev pub takingOff : Pair → Pair → Answer (List ℤ)
-  takingOff t d = said (sub book pack (t .sec) (t .ns) (d .sec) (d .ns))
+  WorkingTime a b w = (d : Pair) × (k .between a b ≡ gives (listedPair d)) × (nanosOf d ≡ w)
 
   -- if adding d to t gives x, then
   pub record Added (t d x : Pair) : Type 0 where
     -- "x is the earliest of all instants to which working time from t is exactly d;"
     pub instant : IsInstant x
-    pub exact : WorkingTime t x (nanos d)
-    pub earliest : (y : Pair) → IsInstant y → WorkingTime t y (nanos d) → nanos x ≤ℤ nanos y
+    pub exact : WorkingTime t x (nanosOf d)
+    pub earliest : (y : Pair) → IsInstant y → WorkingTime t y (nanosOf d) → nanosOf x ≤ℤ nanosOf y
     -- "taking d off x is not refused and gives a z"
     pub z : Pair
-    pub taken : takingOff x d ≡ gives (shown z)
+    pub taken : k .takingOff x d ≡ gives (listedPair z)
     -- "at or after t,"
     pub instant-z : IsInstant z
-    pub after : nanos t ≤ℤ nanos z
+    pub after : nanosOf t ≤ℤ nanosOf z
     -- "with zero working time from t to z;"
     pub idle : WorkingTime t z (pos 0)
     -- "adding d to z gives x again;"
-    pub again : adding z d ≡ gives (shown x)
+    pub again : k .adding z d ≡ gives (listedPair x)
     -- "and for every e >= 0 where d + e is a duration, adding e to x gives the very instant or refusal that adding d + e to t gives."
-    pub further : (e f : Pair) → IsDuration e → pos 0 ≤ℤ nanos e → IsDuration f → nanos f ≡ nanos d +ℤ nanos e → adding x e ≡ adding t f
+    pub further : (e f : Pair) → IsDuration e → pos 0 ≤ℤ nanosOf e → IsDuration f → nanosOf f ≡ nanosOf d +ℤ nanosOf e → k .adding x e ≡ k .adding t f
 
   pub record Demand3 : Type 0 where
     -- "working time from a to c is that from a to b plus that from b to c, in whatever order they lie."
     pub additive : (a b c : Pair) → Given a → Given b → Given c → (x y : ℤ) × WorkingTime a b x × WorkingTime b c y × WorkingTime a c (x +ℤ y)
     -- "For every t and d > 0, if adding d to t gives x, then .."
-    pub added : (t d x : Pair) → Given t → IsDuration d → pos 0 <ℤ nanos d → adding t d ≡ gives (shown x) → Added t d x
+    pub added : (t d x : Pair) → Given t → IsDuration d → pos 0 <ℤ nanosOf d → k .adding t d ≡ gives (listedPair x) → Added t d x
     -- "If adding d to t is refused as out of range, there is no instant at all to which working time from t is d." "Out of range is 7."
-    pub beyond : (t d : Pair) (place : ℕ) → Given t → IsDuration d → pos 0 <ℤ nanos d → adding t d ≡ refuses 7 place
-        → (y : Pair) → IsInstant y → WorkingTime t y (nanos d) → ⊥
+    pub beyond : (t d : Pair) (place : ℕ) → Given t → IsDuration d → pos 0 <ℤ nanosOf d → k .adding t d ≡ refuses 7 place
+        → (y : Pair) → IsInstant y → WorkingTime t y (nanosOf d) → ⊥
+
+-- the numbers that the definitions give
+abbrev pub adding : List ℕ → List ℕ → Pair → Pair → Answer (List ℤ)
+adding book pack t d = said (add book pack (t .sec) (t .ns) (d .sec) (d .ns))
+
+abbrev pub takingOff : List ℕ → List ℕ → Pair → Pair → Answer (List ℤ)
+takingOff book pack t d = said (sub book pack (t .sec) (t .ns) (d .sec) (d .ns))
+
+abbrev pub asDefined : List ℕ → List ℕ → Calls
+asDefined book pack = record {
+  between = λ a b. said (between book pack (a .sec) (a .ns) (b .sec) (b .ns));
+  adding = adding book pack;
+  takingOff = takingOff book pack;
+}
 
 -- ---- the proof
 
@@ -102,13 +116,13 @@ module _ (s : Schedule) where
 
 gives-of : {A : Type 0} (r : Answer ℕ) (f : ℕ → A) (v : A) → (r >>= λ x. gives (f x)) ≡ gives v → (x : ℕ) × (r ≡ gives x) × (f x ≡ v)
 gives-of (gives x) f v e = (x, refl, cc)
-gives-of (refuses n p) f v e = absurd (let z : _≡_ {A = ℕ} 0 1 = cc in omega arith)
+gives-of (refuses n p) f v e = never (cc)
 
 refuses-of : {A : Type 0} (r : Answer ℕ) (f : ℕ → A) (n p : ℕ) → (r >>= λ x. gives (f x)) ≡ refuses n p → r ≡ refuses n p
-refuses-of (gives x) f n p e = absurd (let z : _≡_ {A = ℕ} 0 1 = cc in omega arith)
+refuses-of (gives x) f n p e = never (cc)
 refuses-of (refuses m q) f n p e = cc
 
-same-nanos : (c d : Pair) → _≡_ {A = Answer (List ℤ)} (gives (shown c)) (gives (shown d)) → nanos c ≡ nanos d
+same-nanos : (c d : Pair) → _≡_ {A = Answer (List ℤ)} (gives (listedPair c)) (gives (listedPair d)) → nanosOf c ≡ nanosOf d
 same-nanos c d e = let f : c .sec ≡ d .sec = cc in let g : c .ns ≡ d .ns = cc in rw (f, g)
 
 module _ (book pack : List ℕ) (s : Schedule) (e : build book pack ≡ gives s) where
@@ -116,21 +130,21 @@ module _ (book pack : List ℕ) (s : Schedule) (e : build book pack ≡ gives s)
     abbrev spent : Duration
     spent = record { minus = ltb n m; size = timeBetween s (min m n) (max m n) }
 
-    between-said : said (between book pack (a .sec) (a .ns) (b .sec) (b .ns)) ≡ gives (shown (lengthOf spent))
+    between-said : said (between book pack (a .sec) (a .ns) (b .sec) (b .ns)) ≡ gives (listedPair (lengthOf spent))
     unfolding betweenCall
     between-said = rw (e, at-read a m p, at-read b n q) (ap gives (length-shown spent))
 
-    spent-nanos : nanos (lengthOf spent) ≡ diff (time s m n) (time s n m)
+    spent-nanos : nanosOf (lengthOf spent) ≡ diff (time s m n) (time s n m)
     spent-nanos = length-nanos spent ∙ time-signed s m n
 
-    time-is : WorkingTime book pack a b (diff (time s m n) (time s n m))
+    time-is : WorkingTime (asDefined book pack) a b (diff (time s m n) (time s n m))
     time-is = (lengthOf spent, between-said, spent-nanos)
 
-    is-time : (w : ℤ) → WorkingTime book pack a b w → w ≡ diff (time s m n) (time s n m)
+    is-time : (w : ℤ) → WorkingTime (asDefined book pack) a b w → w ≡ diff (time s m n) (time s n m)
     is-time w h = sym (h .2) ∙ same-nanos (h .0) (lengthOf spent) (sym (h .1) ∙ between-said) ∙ spent-nanos
 
     -- a positive working time goes forward
-    time-pos : (k : ℕ) → 0 < k → WorkingTime book pack a b (pos k) → time s m n ≡ k
+    time-pos : (k : ℕ) → 0 < k → WorkingTime (asDefined book pack) a b (pos k) → time s m n ≡ k
     time-pos k h w = go (decLe m n)
       where
         f : time s m n ≡ time s n m + k
@@ -141,7 +155,7 @@ module _ (book pack : List ℕ) (s : Schedule) (e : build book pack ≡ gives s)
         go (no o) = absurd (let g = time-back s m n (omega arith) in let i = f in omega arith)
 
     -- forward it is the time
-    time-on : m ≤ n → WorkingTime book pack a b (pos (time s m n))
+    time-on : m ≤ n → WorkingTime (asDefined book pack) a b (pos (time s m n))
     time-on h = (lengthOf spent, between-said, spent-nanos ∙ rw (time-back s n m h) (sym (pos-diff (time s m n))))
 
   -- what adding and taking off a duration that is not negative says
@@ -163,11 +177,11 @@ not-negative (pos n) h = leZ-yes (le→leb 0 n (omega arith))
 not-negative (negsuc n) h = absurd (h .lt)
 
 -- a duration above zero, as a number
-positive : (d : Pair) → IsDuration d → pos 0 <ℤ nanos d → (n : ℕ) × (Plain d n) × (0 < n)
-positive d i h = let a = plain d i (not-negative (nanos d) h) in (a .0, a .1, ltb→lt 0 (a .0) (rw (a .1 .size) at (h .lt)))
+positive : (d : Pair) → IsDuration d → pos 0 <ℤ nanosOf d → (n : ℕ) × (Plain d n) × (0 < n)
+positive d i h = let a = plain d i (not-negative (nanosOf d) h) in (a .0, a .1, ltb→lt 0 (a .0) (rw (a .1 .size) at (h .lt)))
 
-module _ (book pack : List ℕ) (s : Schedule) (e : build book pack ≡ gives s) (near : Each WithinDay (zonesOf book pack)) where
-  adds : (a b c : Pair) → Given a → Given b → Given c → (x y : ℤ) × WorkingTime book pack a b x × WorkingTime book pack b c y × WorkingTime book pack a c (x +ℤ y)
+module _ (book pack : List ℕ) (s : Schedule) (e : build book pack ≡ gives s) (near : Every WithinDay (zonesOf book pack)) where
+  adds : (a b c : Pair) → Given a → Given b → Given c → (x y : ℤ) × WorkingTime (asDefined book pack) a b x × WorkingTime (asDefined book pack) b c y × WorkingTime (asDefined book pack) a c (x +ℤ y)
   adds a b c g h k =
       let p = given-at a g in let q = given-at b h in let r = given-at c k in
       let m = p .0 in let n = q .0 in let o = r .0 in
@@ -180,11 +194,11 @@ module _ (book pack : List ℕ) (s : Schedule) (e : build book pack ≡ gives s)
         (w .0, w .1, w .2 ∙ sym (diff-add (time s m n) (time s n m) (time s n o) (time s o n) ∙ diff-same (time s m n + time s n o) (time s n m + time s o n) (time s m o) (time s o m) (omega arith))),
       )
 
-  is-added : (t d x : Pair) → Given t → IsDuration d → pos 0 <ℤ nanos d → adding book pack t d ≡ gives (shown x) → Added book pack t d x
+  is-added : (t d x : Pair) → Given t → IsDuration d → pos 0 <ℤ nanosOf d → adding book pack t d ≡ gives (listedPair x) → Added (asDefined book pack) t d x
   is-added t d x g i h f =
       let p = given-at t g in let q = positive d i h in
       let m = p .0 in let k = q .0 in
-      let r = gives-of (move on s m k) instant (shown x) (sym (adding-is book pack s e t d m k (p .1) (q .1)) ∙ f) in
+      let r = gives-of (move on s m k) instant (listedPair x) (sym (adding-is book pack s e t d m k (p .1) (q .1)) ∙ f) in
       let n = r .0 in
       let a = counted.added s (built book pack s e .ok) (near-rules book pack s e near) m k n (p .2) (p .1 .upto) (q .2) (r .1) in
       let tm = p .1 .from in let a1 = a .sooner in let a2 = a .within in let a3 = a .later in let a4 = a .before-x in
@@ -209,7 +223,7 @@ module _ (book pack : List ℕ) (s : Schedule) (e : build book pack ≡ gives s)
             adding-is book pack s e x b n (l .0) ax (l .1) ∙ ap (λ y. y >>= λ x. gives (instant x)) (a .further (l .0)) ∙ sym (adding-is book pack s e t c m (k + l .0) (p .1) o));
       }
 
-  none-beyond : (t d : Pair) (place : ℕ) → Given t → IsDuration d → pos 0 <ℤ nanos d → adding book pack t d ≡ refuses 7 place → (y : Pair) → IsInstant y → WorkingTime book pack t y (nanos d) → ⊥
+  none-beyond : (t d : Pair) (place : ℕ) → Given t → IsDuration d → pos 0 <ℤ nanosOf d → adding book pack t d ≡ refuses 7 place → (y : Pair) → IsInstant y → WorkingTime (asDefined book pack) t y (nanosOf d) → ⊥
   none-beyond t d place g i h f y iy wy =
       let p = given-at t g in let q = positive d i h in let j = instant-at y iy in
       counted.beyond s (built book pack s e .ok) (near-rules book pack s e near) (p .0) (q .0) place (p .2) (p .1 .upto) (q .2)
@@ -218,5 +232,5 @@ module _ (book pack : List ℕ) (s : Schedule) (e : build book pack ≡ gives s)
       (time-pos book pack s e t y (p .0) (j .0) (p .1) (j .1) (q .0) (q .2) (rw (q .1 .size) at wy))
 
 -- "If a book builds, no zone of it has two offsets over 24 hours apart, and all instants given are from -9998-01-01T00:00Z on: .."
-pub demand-3 : (book pack : List ℕ) (s : Schedule) → build book pack ≡ gives s → Each WithinDay (zonesOf book pack) → Demand3 book pack
+pub demand-3 : (book pack : List ℕ) (s : Schedule) → build book pack ≡ gives s → Every WithinDay (zonesOf book pack) → Demand3 (asDefined book pack)
 demand-3 book pack s e near = record { additive = adds book pack s e near; added = is-added book pack s e near; beyond = none-beyond book pack s e near }

@@ -8,6 +8,7 @@ use lib.Dec.{leb, leb→le, le→leb}
 use lib.IntN.{ℤ, pos, negsuc, negℤ, _+ℤ_, _*ℤ_, subℕ}
 use lib.Signed.{leZ, _≤ℤ_, leZ-yes}
 use borrow.Author.Tests.{lt-ltb, le-ltb, le-leb, lt-leb}
+use Rattle.laws_base.specs.Test.{never}
 
 -- a - b
 unfoldable pub diff : ℕ → ℕ → ℤ
@@ -104,7 +105,7 @@ nat-diff a b n e = go (form a b) e
   where
     go : {z : ℤ} → Form a b z → pos n ≡ z → a ≡ b + n
     go (nat m f) e = let g : n ≡ m = cc in omega arith
-    go (neg m f) e = absurd (let z : _≡_ {A = ℕ} 0 1 = cc in omega arith)
+    go (neg m f) e = never (cc)
 
 -- orders of differences
 pub le-diff : (a b c d : ℕ) → diff a b ≤ℤ diff c d → a + d ≤ c + b

@@ -10,23 +10,23 @@ use Rattle.model.specs.Answer.{Answer, gives, _>>=_}
 use Rattle.laws_base.specs.Test.{by-test}
 use Rattle.laws_blocks.specs.Count.{span, span-add, span-self, span-one}
 use Rattle.laws_blocks.specs.Lists.{Empty}
-use Rattle.laws_blocks.specs.Turn.{after, behind, span-after, span-behind}
+use Rattle.laws_blocks.specs.Turn.{seenFrom, behind, span-after, span-behind}
 use Rattle.laws_demand3.specs.Walks.{Crossed, Found, Stopped, Outcome, met, lacks, over}
 
 -- ---- on from t
 
 -- the answer as an instant
-abbrev pub shifted : ℕ → Answer ℕ → Answer ℕ
-shifted t a = a >>= λ x. gives (t + x)
+abbrev pub asInstant : ℕ → Answer ℕ → Answer ℕ
+asInstant t a = a >>= λ x. gives (t + x)
 
 module _ (W : ℕ → Bool) (t : ℕ) where
-  span-start : (b : ℕ) → span (after W t) 0 b ≡ span W t (t + b)
+  span-start : (b : ℕ) → span (seenFrom W t) 0 b ≡ span W t (t + b)
   span-start b = span-after W t 0 b ∙ ap (λ x. span W x (t + b)) (add-zero t)
 
-  crossed-onward : (limit p : ℕ) → Crossed (after W t) limit 0 p → Crossed W limit t (t + p)
+  crossed-onward : (limit p : ℕ) → Crossed (seenFrom W t) limit 0 p → Crossed W limit t (t + p)
   crossed-onward limit p c q a b = let v = c (q - t) (omega arith) (omega arith) in let v1 = v .1 in let v2 = v .2 in (t + v .0, omega arith, omega arith, v .3)
 
-  found-onward : (limit d x : ℕ) → Found (after W t) limit 0 d x → Found W limit t d (t + x)
+  found-onward : (limit d x : ℕ) → Found (seenFrom W t) limit 0 d x → Found W limit t d (t + x)
   found-onward limit d x f = let a = f .after in let v = f .ends in let v1 = v .1 in record {
     after = omega arith;
     sum = sym (span-start x) ∙ f .sum;
@@ -34,7 +34,7 @@ module _ (W : ℕ → Bool) (t : ℕ) where
     crossed = crossed-onward limit x (f .crossed);
   }
 
-  stopped-onward : (limit d end : ℕ) → Stopped (after W t) limit 0 d end → Stopped W limit t d (t + end)
+  stopped-onward : (limit d end : ℕ) → Stopped (seenFrom W t) limit 0 d end → Stopped W limit t d (t + end)
   stopped-onward limit d end s = let a = s .inside in record {
     gap = t + s .gap;
     from = omega arith;
@@ -44,12 +44,12 @@ module _ (W : ℕ → Bool) (t : ℕ) where
   }
 
   -- a search on from t
-  pub outcome-onward : (limit end d : ℕ) {a : Answer ℕ} → Outcome (after W t) limit end 0 d a → Outcome W limit (t + end) t d (shifted t a)
+  pub outcome-onward : (limit end d : ℕ) {a : Answer ℕ} → Outcome (seenFrom W t) limit end 0 d a → Outcome W limit (t + end) t d (asInstant t a)
   outcome-onward limit end d (met {x = x} h f) = met {x = t + x} (omega arith) (found-onward limit d x f)
   outcome-onward limit end d (lacks s) = lacks (stopped-onward limit d end s)
   outcome-onward limit end d (over s c) = over (rw (← (span-start end)) s) (crossed-onward limit end c)
 
-  pub found-distance : (limit d x : ℕ) → Found W limit t d x → Found (after W t) limit 0 d (x - t)
+  pub found-distance : (limit d x : ℕ) → Found W limit t d x → Found (seenFrom W t) limit 0 d (x - t)
   found-distance limit d x f = let a = f .after in let v = f .ends in let v1 = v .1 in
       let e : t + (x - t) ≡ x = omega arith in record {
         after = omega arith;

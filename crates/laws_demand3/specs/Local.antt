@@ -6,12 +6,13 @@ use native.Mathlib.Omega.{arith}
 use lib.Dec.{leb, ltb}
 use borrow.Author.Tests.{leb-true, leb-false, lt-ltb, le-ltb, ltb-true}
 use Rattle.model.specs.Calendar.{firstDay, lastDay, dayOfYearZero}
-use Rattle.model.specs.Instant.{second, day, firstInstant, lastInstant}
+use Rattle.model.specs.Instant.{second, day, firstInstant, lastInstant, daySeconds}
 use Rattle.model.specs.Tzif.{Zone}
 use Rattle.model.specs.Zone.{offsetAt, secondOf, resolve, steady}
 use Rattle.model.specs.Working.{localDay, firstDate, lastDate}
 use Rattle.laws_base.specs.Test.{by-test}
 use Rattle.laws_zone.specs.Sound.{Sound, dawn}
+use Rattle.model.specs.Offset.{offsetBias}
 
 -- offsets are kept with 26 hours added
 abbrev pub bias : ℕ
@@ -23,7 +24,7 @@ offsetNanos z t = offsetAt z (t / second) * second
 
 -- the instant of a time of day on a day, before it is brought into the range
 unfoldable pub raw : Zone → ℕ → ℕ → ℕ
-raw z d time = secondOf z (d * 86400 + time / second + 93600) * second + time % second
+raw z d time = secondOf z (d * daySeconds + time / second + offsetBias) * second + time % second
 
 -- brought into the range
 pub data Clamped (r : ℕ) : ℕ → Type 0 where
@@ -44,7 +45,7 @@ module _ (z : Zone) (s : Sound z) where
   pub raw-takes : (d time : ℕ) → firstDay ≤ d → (w : ℕ) × (dawn ≤ w) × (raw z d time + offsetAt z w * second ≡ d * day + time + bias)
   unfolding raw
   raw-takes d time h =
-      let k = s .some (d * 86400 + time / second + 93600) (omega arith) in
+      let k = s .some (d * daySeconds + time / second + offsetBias) (omega arith) in
       let k2 = k .2 in
       (k .0, k .1, omega arith)
 
@@ -59,8 +60,8 @@ module _ (z : Zone) (s : Sound z) where
   pub raw-least : (u d time : ℕ) → firstDay ≤ d → u + offsetNanos z u ≡ d * day + time + bias → (raw z d time + offsetNanos z (raw z d time) ≡ d * day + time + bias) × (raw z d time ≤ u)
   unfolding raw offsetNanos
   raw-least u d time h e =
-      let k = s .least (u / second) (d * 86400 + time / second + 93600) (omega arith) (omega arith) in
-      let v = secondOf z (d * 86400 + time / second + 93600) in
+      let k = s .least (u / second) (d * daySeconds + time / second + offsetBias) (omega arith) (omega arith) in
+      let v = secondOf z (d * daySeconds + time / second + offsetBias) in
       let q : (v * second + time % second) / second ≡ v = omega arith in
       let k0 = k .0 in let k1 = k .1 in
       (rw q (omega arith), omega arith)

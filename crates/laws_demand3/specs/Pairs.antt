@@ -9,8 +9,8 @@ pub record Pair : Type 0 where
   pub sec : ℤ
   pub ns : ℤ
 
-abbrev pub nanos : Pair → ℤ
-nanos p = p .sec *ℤ pos 1000000000 +ℤ p .ns
+abbrev pub nanosOf : Pair → ℤ
+nanosOf p = p .sec *ℤ pos 1000000000 +ℤ p .ns
 
 -- "First: -377,705,023,201 s, 0 ns. Last: 253,402,207,200 s, 999,999,999 ns."
 pub record IsInstant (p : Pair) : Type 0 where
@@ -28,5 +28,5 @@ pub record IsDuration (p : Pair) : Type 0 where
   pub below : p .sec <ℤ pos 0 → p .ns ≤ℤ pos 0
 
 -- the two numbers as an answer lists them
-abbrev pub shown : Pair → List ℤ
-shown p = p .sec ∷ p .ns ∷ []
+abbrev pub listedPair : Pair → List ℤ
+listedPair p = p .sec ∷ p .ns ∷ []

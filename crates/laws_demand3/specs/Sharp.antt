@@ -17,9 +17,12 @@ use Rattle.model.specs.Working.{Schedule}
 use Rattle.model.specs.Build.{build}
 use Rattle.model.specs.Calls.{between, said}
 use Rattle.model.specs.All.{everything}
-use Rattle.laws_demand3.specs.Pairs.{Pair, nanos, shown}
-use Rattle.laws_demand3.specs.Zones.{Each, WithinDay, usedIn, zonesOf}
-use Rattle.laws_demand3.specs.Demand3.{Given, WorkingTime, Demand3, demand-3}
+use Rattle.laws_demand3.specs.Pairs.{Pair, nanosOf, listedPair}
+use Rattle.laws_demand3.specs.Zones.{WithinDay, usedIn, zonesOf}
+use Rattle.laws_base.specs.Every.{Every}
+use Rattle.laws_demand3.specs.Demand3.{Given, WorkingTime, Demand3, asDefined, demand-3}
+use Rattle.model.specs.Instant.{daySeconds}
+use Rattle.model.specs.Offset.{offsetBias}
 
 -- a default zone "z", and work on Mondays from 23:59:59.5 for 24 hours
 abbrev book : List ℕ
@@ -39,30 +42,30 @@ change = 390359520000 + 1768262400
 
 -- the offset of the zone at the change is that at the start and n more; the book has no other zone
 abbrev Apart : ℕ → Type 0
-Apart n = (length (zonesOf book (pack n)) ≡ 1) × Each (λ z. offsetAt z change ≡ offsetAt z 0 + n) (zonesOf book (pack n))
+Apart n = (length (zonesOf book (pack n)) ≡ 1) × Every (λ z. offsetAt z change ≡ offsetAt z 0 + n) (zonesOf book (pack n))
 
 -- ---- 86,400 s apart
 
-near-apart : Apart 86400
+near-apart : Apart daySeconds
 unfolding everything usedIn zonesOf
 near-apart = (refl, (refl, tt))
 
-near-builds : (s : Schedule) × (build book (pack 86400) ≡ gives s)
+near-builds : (s : Schedule) × (build book (pack daySeconds) ≡ gives s)
 unfolding everything
 near-builds = (_, refl)
 
-step : (a b : Bool) → (if a then 180000 else 93600) ≤ (if b then 180000 else 93600) + 86400
+step : (a b : Bool) → (if a then 180000 else offsetBias) ≤ (if b then 180000 else offsetBias) + daySeconds
 step true true = omega arith
 step true false = omega arith
 step false true = omega arith
 step false false = omega arith
 
-near-premise : Each WithinDay (zonesOf book (pack 86400))
+near-premise : Every WithinDay (zonesOf book (pack daySeconds))
 unfolding everything usedIn zonesOf
 near-premise = ((λ u v _ _. step (leb change u) (leb change v)), tt)
 
-pub holds-at-24-hours : Demand3 book (pack 86400)
-holds-at-24-hours = demand-3 book (pack 86400) (near-builds .0) (near-builds .1) near-premise
+pub holds-at-24-hours : Demand3 (asDefined book (pack daySeconds))
+holds-at-24-hours = demand-3 book (pack daySeconds) (near-builds .0) (near-builds .1) near-premise
 
 -- ---- 86,401 s apart
 
@@ -103,13 +106,13 @@ rest : worked b c ≡ gives (pos 0 ∷ pos 0 ∷ [])
 unfolding everything
 rest = refl
 
-number : (p q d : Pair) (w : ℤ) → worked p q ≡ gives (shown d) → WorkingTime book (pack 86401) p q w → w ≡ nanos d
+number : (p q d : Pair) (w : ℤ) → worked p q ≡ gives (listedPair d) → WorkingTime (asDefined book (pack 86401)) p q w → w ≡ nanosOf d
 number p q d w e h =
-    let f : gives (shown (h .0)) ≡ gives (shown d) = sym (h .1) ∙ e in
+    let f : gives (listedPair (h .0)) ≡ gives (listedPair d) = sym (h .1) ∙ e in
     let g : h .0 .sec ≡ d .sec = cc in let k : h .0 .ns ≡ d .ns = cc in
     sym (h .2) ∙ rw (g, k)
 
-pub fails-beyond-24-hours : Demand3 book (pack 86401) → ⊥
+pub fails-beyond-24-hours : Demand3 (asDefined book (pack 86401)) → ⊥
 fails-beyond-24-hours h =
     let w = h .additive a b c given-a given-b given-c in
     let x : w .0 ≡ pos 86399000000000 = number a b (second 86399) (w .0) front (w .2) in

@@ -13,13 +13,13 @@ use Rattle.model.specs.Instant.{epoch, second, firstInstant, lastInstant, signe
 use Rattle.model.specs.Answer.{gives}
 use Rattle.laws_base.specs.Test.{by-test}
 use Rattle.laws_demand3.specs.Diff.{diff, Form, nat, neg, form, is-nat, is-neg, diff-same, diff-add, neg-pos, diff-mul, up, down, as-diff, pos-diff, le-diff, diff-order}
-use Rattle.laws_demand3.specs.Pairs.{Pair, nanos, IsInstant, IsDuration, shown}
+use Rattle.laws_demand3.specs.Pairs.{Pair, nanosOf, IsInstant, IsDuration, listedPair}
 
 -- nanoseconds up to 1970
 abbrev origin : ℕ
 origin = epoch * second
 
-nanos-diff : (p : Pair) → nanos p ≡ diff (up (p .sec) * second + up (p .ns)) (down (p .sec) * second + down (p .ns))
+nanos-diff : (p : Pair) → nanosOf p ≡ diff (up (p .sec) * second + up (p .ns)) (down (p .sec) * second + down (p .ns))
 nanos-diff p = ap (λ x. x *ℤ pos second +ℤ p .ns) (as-diff (p .sec)) ∙ ap (λ x. diff (up (p .sec)) (down (p .sec)) *ℤ pos second +ℤ x) (as-diff (p .ns)) ∙ simp (diff-mul, diff-add)
 
 -- ---- instants
@@ -45,7 +45,7 @@ at-read p t a =
     rw (a .sec, a .ns, second-from (t / second), le-leb (firstInstant / second) (t / second) (omega arith), le-leb (t / second) (lastInstant / second) (omega arith), lt-ltb (t % second) second (omega arith))
     (ap gives (omega arith))
 
-pub at-nanos : (p : Pair) (t : ℕ) → At p t → nanos p ≡ diff t origin
+pub at-nanos : (p : Pair) (t : ℕ) → At p t → nanosOf p ≡ diff t origin
 at-nanos p t a = rw (a .sec, a .ns, diff-mul, pos-diff (t % second), diff-add) (diff-same (t / second * second + t % second) (epoch * second + 0) t origin (omega arith))
 
 signed-second : (s : ℕ) → (if leb epoch s then pos (s - epoch) else negℤ (pos (epoch - s))) ≡ diff s epoch
@@ -54,12 +54,12 @@ signed-second s =
     (λ e. rw e (is-nat s epoch (s - epoch) (omega (arith, leb-true epoch s e))))
     (λ e. rw e (neg-pos (epoch - s) ∙ diff-same 0 (epoch - s) s epoch (omega (arith, leb-false epoch s e))))
 
-pub at-shown : (p : Pair) (t : ℕ) → At p t → instant t ≡ shown p
+pub at-shown : (p : Pair) (t : ℕ) → At p t → instant t ≡ listedPair p
 unfolding instant
 at-shown p t a = rw (signed-second (t / second), a .sec, a .ns)
 
 -- the pair of an instant
-pub shown-at : (p : Pair) (t : ℕ) → firstInstant ≤ t → t ≤ lastInstant → instant t ≡ shown p → At p t
+pub shown-at : (p : Pair) (t : ℕ) → firstInstant ≤ t → t ≤ lastInstant → instant t ≡ listedPair p → At p t
 unfolding instant
 shown-at p t h k e =
     let f : diff (t / second) epoch ∷ pos (t % second) ∷ [] ≡ p .sec ∷ p .ns ∷ [] = rw (signed-second (t / second)) at e in
@@ -97,7 +97,7 @@ instant-at p i = go (p .sec) (p .ns) refl refl (i .first) (i .last) (i .low) (i 
         ((epoch - suc a) * second + b, record { from = omega arith; upto = omega arith; sec = e ∙ rw u (is-neg (epoch - suc a) epoch a (omega arith)); ns = f ∙ rw v })
 
 -- the order of instants
-pub at-order : (p q : Pair) (t u : ℕ) → At p t → At q u → t ≤ u → nanos p ≤ℤ nanos q
+pub at-order : (p q : Pair) (t u : ℕ) → At p t → At q u → t ≤ u → nanosOf p ≤ℤ nanosOf q
 at-order p q t u a b h = rw (at-nanos p t a, at-nanos q u b) (diff-order t origin u origin (omega arith))
 
 pub at-since : (p : Pair) (t : ℕ) → At p t → negℤ (pos 377673580800) ≤ℤ p .sec → (epoch - 377673580800) * second ≤ t
@@ -110,7 +110,7 @@ at-since p t a h =
 -- the pair p is the duration n, not below zero
 pub record Plain (p : Pair) (n : ℕ) : Type 0 where
   pub read : durationOf (p .sec) (p .ns) ≡ gives (record { minus = false; size = n })
-  pub size : nanos p ≡ pos n
+  pub size : nanosOf p ≡ pos n
 
 plain-read : (a b : ℕ) → b < second → durationOf (pos a) (pos b) ≡ gives (record { minus = false; size = a * second + b })
 unfolding durationOf
@@ -119,7 +119,7 @@ plain-read a b h =
     (λ e. rw (lt-ltb b second h, e))
     (λ e. by-test (eqb b 0) (λ f. rw (lt-ltb b second h, e, f)) (λ f. rw (lt-ltb b second h, e, f)))
 
-pub plain : (p : Pair) → IsDuration p → pos 0 ≤ℤ nanos p → (n : ℕ) × Plain p n
+pub plain : (p : Pair) → IsDuration p → pos 0 ≤ℤ nanosOf p → (n : ℕ) × Plain p n
 unfolding up down
 plain p i h = go (p .sec) (p .ns) refl refl (i .small) (i .above) (i .below)
   where
@@ -134,9 +134,9 @@ plain p i h = go (p .sec) (p .ns) refl refl (i .small) (i .above) (i .below)
     go (negsuc a) (negsuc b) e f k l m = absurd (let x = rw (e, f) at low in omega arith)
 
 -- the sum of two durations, where it is one
-pub plain-sum : (d e f : Pair) (m n : ℕ) → Plain d m → Plain e n → IsDuration f → nanos f ≡ nanos d +ℤ nanos e → Plain f (m + n)
+pub plain-sum : (d e f : Pair) (m n : ℕ) → Plain d m → Plain e n → IsDuration f → nanosOf f ≡ nanosOf d +ℤ nanosOf e → Plain f (m + n)
 plain-sum d e f m n p q i h =
-    let s : nanos f ≡ pos (m + n) = h ∙ rw (p .size, q .size) in
+    let s : nanosOf f ≡ pos (m + n) = h ∙ rw (p .size, q .size) in
     let r = plain f i (rw s (leZ-yes (le→leb 0 (m + n) (omega arith)))) in
     let t : r .0 ≡ m + n = pos-same (sym (r .1 .size) ∙ s) in
     rw t at (r .1)
@@ -148,11 +148,11 @@ plain-sum d e f m n p q i h =
 abbrev pub lengthOf : Duration → Pair
 lengthOf d = record { sec = signed (d .minus) (d .size / second); ns = signed (d .minus) (d .size % second) }
 
-pub length-shown : (d : Duration) → duration d ≡ shown (lengthOf d)
+pub length-shown : (d : Duration) → duration d ≡ listedPair (lengthOf d)
 unfolding duration
 length-shown d = refl
 
-pub length-nanos : (d : Duration) → nanos (lengthOf d) ≡ signed (d .minus) (d .size)
+pub length-nanos : (d : Duration) → nanosOf (lengthOf d) ≡ signed (d .minus) (d .size)
 length-nanos d = go (d .minus) (d .size)
   where
     go : (m : Bool) (n : ℕ) → signed m (n / second) *ℤ pos second +ℤ signed m (n % second) ≡ signed m n

@@ -17,7 +17,7 @@ use Rattle.model.specs.Working.{Schedule}
 use Rattle.model.specs.Build.{build}
 use Rattle.model.specs.Walk.{begun, timeFrom, timeBetween}
 use Rattle.model.specs.Calls.{betweenCall, between, said}
-use Rattle.laws_demand3.specs.Pairs.{Pair, IsInstant, shown}
+use Rattle.laws_demand3.specs.Pairs.{Pair, IsInstant, listedPair}
 use Rattle.laws_demand3.specs.SignedPairs.{at-shown, instant-at, Plain}
 use Rattle.laws_demand3.specs.Demand.{nothing, nothing-off}
 use Rattle.laws_demand3.specs.Demand3.{adding, takingOff, adding-is, taking-is}
@@ -104,12 +104,12 @@ zero-plain : Plain zeroPair 0
 unfolding durationOf
 zero-plain = record { read = refl; size = refl }
 
-pub add-zero-is : (book pack : List ℕ) (s : Schedule) → build book pack ≡ gives s → (t : Pair) → IsInstant t → adding book pack t zeroPair ≡ gives (shown t)
+pub add-zero-is : (book pack : List ℕ) (s : Schedule) → build book pack ≡ gives s → (t : Pair) → IsInstant t → adding book pack t zeroPair ≡ gives (listedPair t)
 add-zero-is book pack s e t i =
     let a = instant-at t i in
     adding-is book pack s e t zeroPair (a .0) 0 (a .1) zero-plain ∙ rw (nothing s (a .0)) (ap gives (at-shown t (a .0) (a .1)))
 
-pub sub-zero-is : (book pack : List ℕ) (s : Schedule) → build book pack ≡ gives s → (t : Pair) → IsInstant t → takingOff book pack t zeroPair ≡ gives (shown t)
+pub sub-zero-is : (book pack : List ℕ) (s : Schedule) → build book pack ≡ gives s → (t : Pair) → IsInstant t → takingOff book pack t zeroPair ≡ gives (listedPair t)
 sub-zero-is book pack s e t i =
     let a = instant-at t i in
     taking-is book pack s e t zeroPair (a .0) 0 (a .1) zero-plain ∙ rw (nothing-off s (a .0)) (ap gives (at-shown t (a .0) (a .1)))

@@ -20,8 +20,10 @@ use Rattle.laws_blocks.specs.Lists.{Lists}
 use Rattle.laws_blocks.specs.Members.{InBlocks, covers, NonEmpty, in-covers, not-covers, append-in, append-nonempty, clipped-in, clipped-nonempty}
 use Rattle.laws_blocks.specs.Left.{left-lists}
 use Rattle.laws_zone.specs.Sound.{Sound}
-use Rattle.laws_demand3.specs.Zones.{Each, WithinDay}
+use Rattle.laws_demand3.specs.Zones.{WithinDay}
+use Rattle.laws_base.specs.Every.{Every}
 use Rattle.laws_demand3.specs.Local.{raw, Clamped, kept, early, late, raw-takes, in-range, first-from, last-upto}
+use Rattle.model.specs.Offset.{offsetBias}
 
 -- what every rule of a built book has
 pub record RuleOk (r : Rule) : Type 0 where
@@ -34,7 +36,7 @@ offRules s = s .breaks ++ map holidayRule (s .holidays)
 
 -- P holds of each rule of the schedule
 abbrev pub OfRules : (Rule → Type 0) → Schedule → Type 0
-OfRules P s = Each P (s .work) × Each P (offRules s)
+OfRules P s = Every P (s .work) × Every P (offRules s)
 
 abbrev pub NearRule : Rule → Type 0
 NearRule r = WithinDay (r .zone)
@@ -42,11 +44,11 @@ NearRule r = WithinDay (r .zone)
 -- ---- local times
 
 -- the local date at an instant
-day-low : (z : Zone) → Sound z → (t : ℕ) → firstInstant ≤ t → localDay z t * day + 93600 * second ≤ t + offsetAt z (t / second) * second
+day-low : (z : Zone) → Sound z → (t : ℕ) → firstInstant ≤ t → localDay z t * day + offsetBias * second ≤ t + offsetAt z (t / second) * second
 unfolding localDay
 day-low z s t h = let a = s .low (t / second) in omega arith
 
-day-high : (z : Zone) (t : ℕ) → t + offsetAt z (t / second) * second < (localDay z t + 1) * day + 93600 * second
+day-high : (z : Zone) (t : ℕ) → t + offsetAt z (t / second) * second < (localDay z t + 1) * day + offsetBias * second
 unfolding localDay
 day-high z t = omega arith
 
@@ -272,7 +274,7 @@ module _ (lo hi : ℕ) where
   all-nonempty [] = tt
   all-nonempty (r ∷ l) = append-nonempty (blocksOf lo hi r) (blocksOfAll lo hi l) (rule-nonempty r) (all-nonempty l)
 
-  all-covers : (l : List Rule) → Each RuleOk l → Each NearRule l → (u : ℕ) → (firstDay + 5) * day ≤ lo → hi ≤ lastInstant → lo ≤ u → u < hi → covers (blocksOfAll lo hi l) u ≡ someHolds l u
+  all-covers : (l : List Rule) → Every RuleOk l → Every NearRule l → (u : ℕ) → (firstDay + 5) * day ≤ lo → hi ≤ lastInstant → lo ≤ u → u < hi → covers (blocksOfAll lo hi l) u ≡ someHolds l u
   unfolding joined someHolds
   all-covers [] o n u a b c e = refl
   all-covers (r ∷ l) o n u a b c e =

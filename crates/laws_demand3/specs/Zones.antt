@@ -11,6 +11,7 @@ use Rattle.model.specs.Answer.{Answer, gives, refuses, _>>=_, orRefuse}
 use Rattle.model.specs.Book.{Body, default, work, pause, holidays, Entry, entriesOf, lastDefault}
 use Rattle.model.specs.Build.{defaultZone, ruleZone}
 use Rattle.laws_zone.specs.Sound.{dawn}
+use Rattle.model.specs.Instant.{daySeconds}
 
 -- an answer that is given, alone in a list
 abbrev pub ifGiven : {A : Type 0} → Answer A → List A
@@ -36,12 +37,7 @@ zonesOf book pack =
     defaultZone files (lastDefault none l) >>= λ z.
     gives (usedIn files z l)))
 
--- P holds of each in the list
-abbrev pub Each : {A : Type 0} → (A → Type 0) → List A → Type 0
-Each P [] = Unit {0}
-Each P (a ∷ l) = P a × Each P l
-
 -- No two of the zone's offsets are over 24 hours apart. Asked of the seconds from -10000-01-01 on, and no call looks at an earlier one: so this
 -- asks no more than demand 3 does, which speaks of all instants.
 abbrev pub WithinDay : Zone → Type 0
-WithinDay z = (u v : ℕ) → dawn ≤ u → dawn ≤ v → offsetAt z u ≤ offsetAt z v + 86400
+WithinDay z = (u v : ℕ) → dawn ≤ u → dawn ≤ v → offsetAt z u ≤ offsetAt z v + daySeconds

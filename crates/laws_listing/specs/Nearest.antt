@@ -16,7 +16,7 @@ use Rattle.model.specs.Blocks.{Block, block, merged, mergedFrom}
 use Rattle.model.specs.Working.{Schedule, working}
 use Rattle.model.specs.Walk.{Way, on, reach, onward, ahead, begun, listed, stretches, PeriodSoFar, nothing, growing, ended, tooFar, periodIn, periodFrom, capped, period}
 use Rattle.laws_base.specs.Test.{by-test, clash}
-use Rattle.laws_blocks.specs.Lists.{Lists, none, next}
+use Rattle.laws_blocks.specs.Lists.{Lists, none, next, firstStart, firstEnd}
 use Rattle.laws_blocks.specs.Stretches.{begun-enough}
 use Rattle.laws_skip.specs.WindowEnds.{Inside, lists-inside}
 use Rattle.laws_skip.specs.Schedules.{ahead-inside}
@@ -223,15 +223,6 @@ module _ (look : ℕ → ℕ → List Block) (limit end : ℕ) (inside : (x y : 
           ∙ sym (nearest-near limit end b (l ++ listed n look (min (x + week) end) end) t)))
 
 -- ---- the first of the blocks made one
-
--- the borders of the first block
-abbrev firstStart : List Block → ℕ
-firstStart [] = 0
-firstStart (b ∷ l) = b .start
-
-abbrev firstEnd : List Block → ℕ
-firstEnd [] = 0
-firstEnd (b ∷ l) = b .end
 
 not-same : (e a : ℕ) → e ≤ a → (a ≡ e → ⊥) → e < a
 not-same e a h k = go (decLt e a)

@@ -29,7 +29,8 @@ use Rattle.laws_blocks.specs.Members.{halves, covers, From, Chain, Ends, chain-
 use Rattle.laws_blocks.specs.Left.{lists-in}
 use Rattle.laws_blocks.specs.Turn.{behind, backward-lists}
 use Rattle.laws_blocks.specs.Stretches.{Maximal, lists-covers, merged-stretches, stretches-unique, listed-none, listed-more, listed-lists}
-use Rattle.laws_demand3.specs.Zones.{Each, WithinDay, zonesOf}
+use Rattle.laws_demand3.specs.Zones.{WithinDay, zonesOf}
+use Rattle.laws_base.specs.Every.{Every}
 use Rattle.laws_demand3.specs.Windows.{RuleOk, NearRule, OfRules, works, window-lists}
 use Rattle.laws_demand3.specs.Built.{built, near-rules}
 use Rattle.laws_demand3.specs.Demand.{since}
@@ -285,7 +286,7 @@ module _ (s : Schedule) (ok : OfRules RuleOk s) (near : OfRules NearRule s) wher
       (λ c. in-second a (max (t - week) a) t A B p q u c ∙ sym (lists-covers (works s) (max (t - week) a) t (window-lists s ok near (max (t - week) a) t (omega arith) (omega arith) l) u c k))
       (halves u (max (t - week) a))
 
-module _ (book pack : List ℕ) (s : Schedule) (e : build book pack ≡ gives s) (days : Each WithinDay (zonesOf book pack)) (lo t : ℕ) (h : since ≤ lo) (k : t ≤ lastInstant) where
+module _ (book pack : List ℕ) (s : Schedule) (e : build book pack ≡ gives s) (days : Every WithinDay (zonesOf book pack)) (lo t : ℕ) (h : since ≤ lo) (k : t ≤ lastInstant) where
   ok : OfRules RuleOk s
   ok = built book pack s e .ok
 

@@ -21,21 +21,21 @@ use Rattle.model.specs.Build.{defaultZone, zoneUsed, noRules, withRule, rulesOf
 use Rattle.laws_base.specs.Test.{and-both}
 use Rattle.laws_blocks.specs.Move.{moves}
 use Rattle.laws_zone.specs.Sound.{Sound}
-use Rattle.laws_demand3.specs.Zones.{Each}
+use Rattle.laws_base.specs.Every.{Every, every-both}
 use Rattle.laws_demand3.specs.Windows.{RuleOk, OfRules, offRules}
 use Rattle.laws_demand3.specs.Built.{HoursOk, BodyOk, EntryOk, entries-fit, default-is, zone-is}
-use Rattle.laws_skip.specs.Steady.{WeeklyRules, shift-weekly, repeats-week, each-both}
+use Rattle.laws_skip.specs.Steady.{WeeklyRules, shift-weekly, repeats-week}
 use Rattle.laws_skip.specs.Records.{step-gave, or-gave, test-gave}
 use Rattle.laws_skip.specs.Counts.{Few, work-seven, off-seven, working-seven}
-use Rattle.laws_skip.specs.Skips.{skipTime, skipIn, Answers}
+use Rattle.laws_skip.specs.Skips.{skipTime, skipSearch, SearchAnswers}
 use Rattle.laws_skip.specs.Schedules.{between-skipping, between-exact, between-most, search-skipping}
 
 -- ---- the rules that records make
 
 record Made (s : Schedule) (l : List Entry) : Type 0 where
-  work-ok : Each RuleOk (s .work)
-  breaks-ok : Each RuleOk (s .breaks)
-  holidays-ok : Each RuleOk (map holidayRule (s .holidays))
+  work-ok : Every RuleOk (s .work)
+  breaks-ok : Every RuleOk (s .breaks)
+  holidays-ok : Every RuleOk (map holidayRule (s .holidays))
   weekly : WeeklyRules s
   work-many : length (s .work) ≡ tally works l
   breaks-many : length (s .breaks) ≡ tally pauses l
@@ -99,7 +99,7 @@ module _ (files : List Named) (z : Zone) (sound : Sound z) where
     enough = (let a = m .enough in omega arith);
   }
 
-  rules-made : (l : List Entry) → Each EntryOk l → (s : Schedule) → rulesOf files z l ≡ gives s → Made s l
+  rules-made : (l : List Entry) → Every EntryOk l → (s : Schedule) → rulesOf files z l ≡ gives s → Made s l
   unfolding rulesOf sum
   rules-made [] f s e =
       let p : noRules ≡ s = cc in
@@ -137,7 +137,7 @@ rules-well book l e lim files z d s r =
     let w0 = w .0 in let w1 = w .1 in let w2 = w .2 in
     let a = m .work-many in let b = m .breaks-many in let c = m .holidays-many in let i = m .enough in
     record {
-      ok = (m .work-ok, each-both RuleOk (s .breaks) (map holidayRule (s .holidays)) (m .breaks-ok) (m .holidays-ok));
+      ok = (m .work-ok, every-both RuleOk (s .breaks) (map holidayRule (s .holidays)) (m .breaks-ok) (m .holidays-ok));
       weekly = m .weekly;
       few = record { works = omega arith; pauses = omega arith; free = omega arith };
       limit = omega arith;
@@ -178,7 +178,7 @@ module _ (book pack : List ℕ) (s : Schedule) (e : build book pack ≡ gives s)
 
   -- `add` and `sub` with skipping: the answer of the plain search, and of one that is found both bounds
   pub search-same : (w : Way) (t d : ℕ)
-      → Answers (ahead w s t) (λ y. repeats s (at w t y)) (reach w t) d (skipIn (ahead w s t) (λ y. repeats s (at w t y)) (s .limit) (reach w t) d) (search w s t d)
+      → SearchAnswers (ahead w s t) (λ y. repeats s (at w t y)) (reach w t) d (skipSearch (ahead w s t) (λ y. repeats s (at w t y)) (s .limit) (reach w t) d) (search w s t d)
   search-same w t d = search-skipping s (well .ok) (well .weekly) w t d (well .limit)
 
   -- 672 blocks suffice

@@ -16,9 +16,9 @@ use Rattle.model.specs.Working.{Rule, Schedule, holidayRule, localDay, firstDat
 use Rattle.laws_base.specs.Test.{by-test}
 use Rattle.laws_zone.specs.Sound.{Sound}
 use Rattle.laws_blocks.specs.Count672.{left-length}
-use Rattle.laws_demand3.specs.Zones.{Each}
+use Rattle.laws_base.specs.Every.{Every, every-apart}
 use Rattle.laws_demand3.specs.Windows.{RuleOk, OfRules, offRules, all-nonempty}
-use Rattle.laws_skip.specs.Steady.{each-apart}
+use Rattle.laws_skip.specs.Steady.{}
 use Rattle.laws_demand3.specs.Local.{off-low, off-high, day-is, first-near, last-near}
 
 -- ---- dates
@@ -72,7 +72,7 @@ module _ (lo hi k : ℕ) (h : hi ≤ lo + k * day) where
   pub rule-length : (r : Rule) → RuleOk r → length (blocksOf lo hi r) ≤ k + 7
   rule-length r ok = let a = blocks-length lo hi r in let b = dates-length (r .zone) (ok .sound) lo hi k h in omega arith
 
-  pub rules-length : (l : List Rule) → Each RuleOk l → length (blocksOfAll lo hi l) ≤ length l * (k + 7)
+  pub rules-length : (l : List Rule) → Every RuleOk l → length (blocksOfAll lo hi l) ≤ length l * (k + 7)
   unfolding joined
   rules-length [] ok = omega arith
   rules-length (r ∷ l) ok =
@@ -120,7 +120,7 @@ module _ (s : Schedule) (ok : OfRules RuleOk s) (few : Few s) where
     work-fourteen = let a = rules-length lo hi 14 h (s .work) (ok .0) in let b = few .works in omega arith
 
     pub breaks-fourteen : length (blocksOfAll lo hi (s .breaks)) ≤ 336
-    breaks-fourteen = let a = rules-length lo hi 14 h (s .breaks) (each-apart RuleOk (s .breaks) (map holidayRule (s .holidays)) (ok .1) .0) in let b = few .pauses in omega arith
+    breaks-fourteen = let a = rules-length lo hi 14 h (s .breaks) (every-apart RuleOk (s .breaks) (map holidayRule (s .holidays)) (ok .1) .0) in let b = few .pauses in omega arith
 
     pub bare-fourteen : length (working (bare s) lo hi) ≤ 672
     unfolding working

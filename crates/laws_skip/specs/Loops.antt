@@ -15,7 +15,7 @@ use Rattle.model.specs.Instant.{week}
 use Rattle.model.specs.Answer.{Answer, gives, refuses}
 use Rattle.model.specs.Blocks.{Block, total}
 use Rattle.model.specs.Walk.{begun, found, gap, left, searchBlocks}
-use Rattle.laws_skip.specs.Skips.{Previous, fresh, known, keep, maySkip, stops, goes, resolved, turn, Counted, counted, skipFrom, skipIn, Summed, summed, mayReuse, skipTime}
+use Rattle.laws_skip.specs.Skips.{Previous, fresh, known, keep, maySkip, stops, goes, resolved, turn, Counted, counted, skipFrom, skipSearch, Summed, summed, mayReuse, skipTime}
 
 -- ---- between
 
@@ -34,14 +34,14 @@ plus-more : (w x y : ℕ) (r : Summed) → y ≡ x + w → plus w 0 (plus x 0 r)
 plus-more w x y r e = let p : w + (x + r .time) ≡ y + r .time = omega arith in let q : 0 + (0 + r .count) ≡ 0 + r .count = omega arith in λ i. record { time = p i; count = q i }
 
 -- one window less is begun behind it
-begun-less : (x y : ℕ) → x < y → begun (y - x) ≡ suc (begun (y - min (x + week) y))
+pub begun-less : (x y : ℕ) → x < y → begun (y - x) ≡ suc (begun (y - min (x + week) y))
 begun-less x y h = go (decLe (x + week) y)
   where
     go : Dec (x + week ≤ y) → begun (y - x) ≡ suc (begun (y - min (x + week) y))
-    go (yes k) = let e : min (x + week) y ≡ x + week = omega arith in rw e (more k)
+    go (yes k) = let e : min (x + week) y ≡ x + week = omega arith in rw e (further k)
       where
-        more : x + week ≤ y → begun (y - x) ≡ suc (begun (y - (x + week)))
-        more k = omega arith
+        further : x + week ≤ y → begun (y - x) ≡ suc (begun (y - (x + week)))
+        further k = omega arith
     go (no k) = let e : min (x + week) y ≡ y = omega arith in rw e (omega arith)
 
 module _ (work : ℕ → ℕ → List Block) (rep : ℕ → Bool) where
@@ -91,10 +91,10 @@ unfoldable pub searchRest : (ℕ → ℕ → List Block) → (ℕ → Bool) → 
 searchRest look rep limit end x last d prev = skipFrom (begun (end - x)) look rep limit end x last d prev
 
 -- with windows resolved before it
-abbrev pub more : ℕ → Counted → Counted
-more c r = counted (r .answer) (c + r .count)
+abbrev pub countedMore : ℕ → Counted → Counted
+countedMore c r = counted (r .answer) (c + r .count)
 
-more-none : (r : Counted) → more 0 r ≡ r
+more-none : (r : Counted) → countedMore 0 r ≡ r
 more-none r = let q : 0 + r .count ≡ r .count = omega arith in λ i. record { answer = r .answer; count = q i }
 
 module _ (look : ℕ → ℕ → List Block) (rep : ℕ → Bool) (limit end : ℕ) where
@@ -102,8 +102,8 @@ module _ (look : ℕ → ℕ → List Block) (rep : ℕ → Bool) (limit end : �
   unfolding searchRest skipFrom
   search-done x last d prev h = let e : begun (end - x) ≡ 0 = omega arith in rw e
 
-  pub search-start : (d : ℕ) → 0 < d → searchRest look rep limit end 0 0 d fresh ≡ skipIn look rep limit end d
-  unfolding searchRest skipIn
+  pub search-start : (d : ℕ) → 0 < d → searchRest look rep limit end 0 0 d fresh ≡ skipSearch look rep limit end d
+  unfolding searchRest skipSearch
   search-start d h = let e : end - 0 ≡ end = omega arith in rw (e, ne-eqb d 0 (λ f. omega arith))
 
   pub search-stops : (x last d : ℕ) (prev : Previous) (a : Answer ℕ) → x < end → turn look rep limit x (min (x + week) end) last d prev ≡ stops a
@@ -112,7 +112,7 @@ module _ (look : ℕ → ℕ → List Block) (rep : ℕ → Bool) (limit end : �
   search-stops x last d prev a h e = rw (begun-less x end h, e, skipFrom)
 
   pub search-goes : (x last d c m e : ℕ) (prev p : Previous) → x < end → turn look rep limit x (min (x + week) end) last d prev ≡ goes c m e p
-      → searchRest look rep limit end x last d prev ≡ more c (searchRest look rep limit end (min (x + week) end) m e p)
+      → searchRest look rep limit end x last d prev ≡ countedMore c (searchRest look rep limit end (min (x + week) end) m e p)
   unfolding searchRest skipFrom
   search-goes x last d c m e prev p h f = rw (begun-less x end h, f, skipFrom)
 
@@ -128,7 +128,7 @@ module _ (look : ℕ → ℕ → List Block) (rep : ℕ → Bool) (limit end : �
 
     pub search-left : (e m : ℕ) → searchBlocks limit (min (x + week) end) last d (look x (min (x + week) end)) ≡ left e m
         → searchRest look rep limit end x last d prev
-        ≡ more 1 (searchRest look rep limit end (min (x + week) end) m e
+        ≡ countedMore 1 (searchRest look rep limit end (min (x + week) end) m e
         (keep (eqb (min (x + week) end - x) week && ltb 0 (total (look x (min (x + week) end)))) (total (look x (min (x + week) end))) (min (x + week) end - m)))
     unfolding turn resolved
     search-left e m f =
@@ -137,7 +137,7 @@ module _ (look : ℕ → ℕ → List Block) (rep : ℕ → Bool) (limit end : �
 
   -- a window that is not: it is whole, and its time is less than what is left
   pub search-reuses : (x last d k g : ℕ) → x + week ≤ end → rep x ≡ true → k < d
-      → searchRest look rep limit end x last d (known k g) ≡ more 0 (searchRest look rep limit end (x + week) (x + week - g) (d - k) (known k g))
+      → searchRest look rep limit end x last d (known k g) ≡ countedMore 0 (searchRest look rep limit end (x + week) (x + week - g) (d - k) (known k g))
   unfolding turn
   search-reuses x last d k g h r m =
       let f : min (x + week) end ≡ x + week = omega arith in

@@ -24,8 +24,8 @@ use Rattle.laws_skip.specs.WindowEnds.{Inside, onward-total, backward-no
 use Rattle.laws_skip.specs.Schedules.{working-inside}
 
 -- of n windows, how many may not be skipped
-abbrev pub needed : (ℕ → Bool) → ℕ → ℕ
-needed maySkip n = length (filter (λ k. not (maySkip k)) (run 0 n))
+abbrev pub notSkipped : (ℕ → Bool) → ℕ → ℕ
+notSkipped maySkip n = length (filter (λ k. not (maySkip k)) (run 0 n))
 
 -- window k and the one before it are whole, in a walk that ends at the distance z
 abbrev pub whole : ℕ → ℕ → Bool
@@ -131,13 +131,13 @@ module _ (may : ℕ → ℕ → Bool) (look : ℕ → ℕ → List Block) (rep :
 
 -- ---- the least number of windows
 
-pub needed-between : (s : Schedule) (a b : ℕ) → neededBetween s a b ≡ needed (maySkipBetween s a b) (begun (b - a))
+pub needed-between : (s : Schedule) (a b : ℕ) → neededBetween s a b ≡ notSkipped (maySkipBetween s a b) (begun (b - a))
 needed-between s a b =
     let look = ahead on s a in
     let rep : ℕ → Bool = λ x. repeats s (a + x) in
     needed-from anyTime look rep (b - a) 0 (begun (b - a)) 0 0 0 0 (starts anyTime look rep (b - a) 0)
 
-pub needed-search : (w : Way) (s : Schedule) (t d x : ℕ) → neededSearch w s t d x ≡ needed (maySkipSearch w s t d) (begun x)
+pub needed-search : (w : Way) (s : Schedule) (t d x : ℕ) → neededSearch w s t d x ≡ notSkipped (maySkipSearch w s t d) (begun x)
 needed-search w s t d x =
     let look = ahead w s t in
     let rep : ℕ → Bool = λ y. repeats s (at w t y) in

@@ -16,10 +16,10 @@ use Rattle.model.specs.Skip.{ruleSteady, noneNear, repeats}
 use Rattle.laws_base.specs.Test.{by-test, and-both, both-and, clash, not-true, true-not, all-head}
 use Rattle.laws_zone.specs.Changes.{any-none, none-any, same-steady}
 use Rattle.laws_zone.specs.Sound.{Sound}
-use Rattle.laws_demand3.specs.Zones.{Each}
+use Rattle.laws_base.specs.Every.{Every, every-apart, every-both}
 use Rattle.laws_demand3.specs.Windows.{RuleOk, OfRules}
 use Rattle.laws_demand3.specs.Local.{off-low, off-high, day-is, first-near, first-upto, last-near, last-from}
-use Rattle.laws_skip.specs.Steady.{each-apart, each-both}
+use Rattle.laws_skip.specs.Steady.{}
 
 -- the borders from t to u, whole weeks apart
 unfoldable pub repeatsTo : Schedule → ℕ → ℕ → Bool
@@ -61,7 +61,7 @@ module _ (z : Zone) (s : Sound z) where
 
 -- ---- the tests
 
-all-each : {A : Type 0} (p q : A → Bool) (P : A → Type 0) → ((a : A) → P a → p a ≡ true → q a ≡ true) → (l : List A) → Each P l → all p l ≡ true → all q l ≡ true
+all-each : {A : Type 0} (p q : A → Bool) (P : A → Type 0) → ((a : A) → P a → p a ≡ true → q a ≡ true) → (l : List A) → Every P l → all p l ≡ true → all q l ≡ true
 unfolding all
 all-each p q P f [] h e = refl
 all-each p q P f (a ∷ l) h e = let k = all-head p a l e in rw (f a (h .0) (k .0)) (all-each p q P f l (h .1) (k .1))
@@ -69,7 +69,7 @@ all-each p q P f (a ∷ l) h e = let k = all-head p a l e in rw (f a (h .0) (k .
 OkHolidays : Holidays → Type 0
 OkHolidays h = RuleOk (holidayRule h)
 
-holidays-ok : (l : List Holidays) → Each RuleOk (map holidayRule l) → Each OkHolidays l
+holidays-ok : (l : List Holidays) → Every RuleOk (map holidayRule l) → Every OkHolidays l
 unfolding OkHolidays
 holidays-ok [] h = tt
 holidays-ok (d ∷ l) h = (h .0, holidays-ok l (h .1))
@@ -102,11 +102,11 @@ module _ (s : Schedule) (ok : OfRules RuleOk s) where
       let m = and-both (all (ruleSteady a b) (s .work ++ s .breaks)) (all (noneNear a b) (s .holidays)) (k .1) in
       let x = leb-true (firstInstant + 11 * day) t (r .0) in let y = leb-true b lastInstant (r .1) in
       let i : t ≤ v = upto t v p in let j : v ≤ u = upto v u q in
-      let oks = each-apart RuleOk (s .breaks) (map holidayRule (s .holidays)) (ok .1) in
+      let oks = every-apart RuleOk (s .breaks) (map holidayRule (s .holidays)) (ok .1) in
       both-and (leb (firstInstant + 11 * day) v && leb d lastInstant) (all (ruleSteady c d) (s .work ++ s .breaks) && all (noneNear c d) (s .holidays))
       (both-and (leb (firstInstant + 11 * day) v) (leb d lastInstant) (le-leb (firstInstant + 11 * day) v (omega arith)) (le-leb d lastInstant (omega arith)))
       (both-and (all (ruleSteady c d) (s .work ++ s .breaks)) (all (noneNear c d) (s .holidays))
-      (all-each (ruleSteady a b) (ruleSteady c d) RuleOk (λ o h f. steady-part (o .zone) (h .sound) a b c d (omega arith) (omega arith) (omega arith) f) (s .work ++ s .breaks) (each-both RuleOk (s .work) (s .breaks) (ok .0) (oks .0)) (m .0))
+      (all-each (ruleSteady a b) (ruleSteady c d) RuleOk (λ o h f. steady-part (o .zone) (h .sound) a b c d (omega arith) (omega arith) (omega arith) f) (s .work ++ s .breaks) (every-both RuleOk (s .work) (s .breaks) (ok .0) (oks .0)) (m .0))
       (all-each (noneNear a b) (noneNear c d) OkHolidays (λ o h f. none-part o h a b c d (back-apart t v x p) (on-apart v u q) f) (s .holidays) (holidays-ok (s .holidays) (oks .1)) (m .1)))
     where
       upto : (t u : ℕ) → Apart t u → t ≤ u

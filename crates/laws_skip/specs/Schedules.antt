@@ -14,11 +14,13 @@ use Rattle.laws_blocks.specs.Lists.{Lists}
 use Rattle.laws_blocks.specs.Members.{covers}
 use Rattle.laws_blocks.specs.Left.{left-chain, chain-lists}
 use Rattle.laws_blocks.specs.Move.{moves}
-use Rattle.laws_blocks.specs.Turn.{after, behind, onward-lists, backward-lists}
+use Rattle.laws_blocks.specs.Turn.{seenFrom, behind, onward-lists, backward-lists}
 use Rattle.laws_demand3.specs.Windows.{RuleOk, OfRules, offRules, all-in, all-nonempty}
 use Rattle.laws_skip.specs.Steady.{WeeklyRules, repeats-week}
 use Rattle.laws_skip.specs.WindowEnds.{Inside, lists-inside, onward-moved, backward-moved}
-use Rattle.laws_skip.specs.Skips.{skipIn, skipTime, Answers, skip-in, time-skips, count-exact, needed-most}
+use Rattle.laws_skip.specs.Skips.{skipSearch, skipTime, SearchAnswers, skip-in, time-skips, count-exact, needed-most}
+use Rattle.laws_blocks.specs.Totals.{lists-most}
+use Rattle.model.specs.Blocks.{total}
 
 -- ---- the blocks of a window, whatever the rules
 
@@ -27,6 +29,10 @@ unfolding working
 working-lists s lo hi h =
     let c = left-chain lo hi (blocksOfAll lo hi (s .work)) (blocksOfAll lo hi (offRules s)) (all-nonempty lo hi (s .work)) (all-nonempty lo hi (offRules s)) (all-in lo hi (s .work)) in
     chain-lists (covers (working s lo hi)) lo hi (working s lo hi) h (c .0) (c .1) (λ u a b. refl)
+
+-- their time is no more than the window's length
+pub working-most : (s : Schedule) (lo hi : ℕ) → lo ≤ hi → total (working s lo hi) ≤ hi - lo
+working-most s lo hi h = lists-most (covers (working s lo hi)) lo hi (working-lists s lo hi h)
 
 pub working-inside : (s : Schedule) (lo hi : ℕ) → lo ≤ hi → Inside lo hi (working s lo hi)
 working-inside s lo hi h = lists-inside (covers (working s lo hi)) lo hi (working-lists s lo hi h)
@@ -38,7 +44,7 @@ ahead-inside on s t x y h k =
     let W = covers (working s (t + x) (t + y)) in
     let e : t + x - t ≡ x = omega arith in
     let f : t + y - t ≡ y = omega arith in
-    rw (e, f) at (lists-inside (after W t) (t + x - t) (t + y - t) (onward-lists W t (t + x) (t + y) (omega arith) (working-lists s (t + x) (t + y) (omega arith))))
+    rw (e, f) at (lists-inside (seenFrom W t) (t + x - t) (t + y - t) (onward-lists W t (t + x) (t + y) (omega arith) (working-lists s (t + x) (t + y) (omega arith))))
 ahead-inside back s t x y h k =
     let W = covers (working s (t - y) (t - x)) in
     let e : t - (t - x) ≡ x = omega arith in
@@ -68,7 +74,7 @@ module _ (s : Schedule) (ok : OfRules RuleOk s) (weekly : WeeklyRules s) where
 
   -- `add` and `sub`, for a search limit of 14 days or more
   pub search-skipping : (w : Way) (t d : ℕ) → 2 * week ≤ s .limit
-      → Answers (ahead w s t) (λ y. repeats s (at w t y)) (reach w t) d (skipIn (ahead w s t) (λ y. repeats s (at w t y)) (s .limit) (reach w t) d) (search w s t d)
+      → SearchAnswers (ahead w s t) (λ y. repeats s (at w t y)) (reach w t) d (skipSearch (ahead w s t) (λ y. repeats s (at w t y)) (s .limit) (reach w t) d) (search w s t d)
   search-skipping w t d far = skip-in (ahead w s t) (λ y. repeats s (at w t y)) (s .limit) (reach w t) far (ahead-week w t) (ahead-inside w s t) d
 
   module _ (a b : ℕ) (h : a ≤ b) where

@@ -16,7 +16,7 @@ use Rattle.model.specs.Answer.{Answer, gives, refuses}
 use Rattle.model.specs.Blocks.{Block, total}
 use Rattle.model.specs.Walk.{begun, timeFrom, Step, found, gap, left, searchBlocks, searchFrom, searchIn}
 use Rattle.model.specs.Skip.{neededFrom, anyTime, someTime}
-use Rattle.laws_base.specs.Test.{by-test, and-both, clash}
+use Rattle.laws_base.specs.Test.{by-test, and-both, clash, never}
 use Rattle.laws_blocks.specs.Move.{moves, total-moved}
 use Rattle.laws_skip.specs.WindowEnds.{Inside, lastEnd, end-any, end-inside, end-moved, search-blocks-all, Spent, is-found, is-gap, is-left, search-blocks-means}
 
@@ -27,9 +27,9 @@ pub data Previous : Type 0 where
   fresh : Previous
   known : ℕ → ℕ → Previous
 
-abbrev pub timeIn : Previous → ℕ
-timeIn fresh = 0
-timeIn (known k g) = k
+abbrev pub timeKept : Previous → ℕ
+timeKept fresh = 0
+timeKept (known k g) = k
 
 abbrev pub edgeIn : Previous → ℕ
 edgeIn fresh = 0
@@ -62,7 +62,7 @@ resolved limit x y last d l =
 unfoldable pub turn : (ℕ → ℕ → List Block) → (ℕ → Bool) → ℕ → ℕ → ℕ → ℕ → ℕ → Previous → Turn
 turn look rep limit x y last d prev =
     let r = resolved limit x y last d (look x y) in
-    if maySkip prev d (eqb (y - x) week && rep x) then goes 0 (y - edgeIn prev) (d - timeIn prev) prev else r
+    if maySkip prev d (eqb (y - x) week && rep x) then goes 0 (y - edgeIn prev) (d - timeKept prev) prev else r
 
 -- an answer and how many windows were resolved
 pub record Counted : Type 0 where
@@ -82,8 +82,8 @@ skipFrom (suc n) look rep limit end x last d prev =
       | goes c m e p ↦ (let r = skipFrom n look rep limit end y m e p in counted (r .answer) (c + r .count))
     ]
 
-unfoldable pub skipIn : (ℕ → ℕ → List Block) → (ℕ → Bool) → ℕ → ℕ → ℕ → Counted
-skipIn look rep limit end d = if eqb d 0 then counted (gives 0) 0 else skipFrom (begun end) look rep limit end 0 0 d fresh
+unfoldable pub skipSearch : (ℕ → ℕ → List Block) → (ℕ → Bool) → ℕ → ℕ → ℕ → Counted
+skipSearch look rep limit end d = if eqb d 0 then counted (gives 0) 0 else skipFrom (begun end) look rep limit end 0 0 d fresh
 
 -- ---- it gives what the plain search gives
 
@@ -137,7 +137,7 @@ pub record Agrees (look : ℕ → ℕ → List Block) (rep : ℕ → Bool) (end 
   pub exact : (z : ℕ) → a ≡ gives z → r .count ≡ neededFrom (begun (z - x)) someTime look rep end x time d
 
 -- a whole search
-pub record Answers (look : ℕ → ℕ → List Block) (rep : ℕ → Bool) (end d : ℕ) (r : Counted) (a : Answer ℕ) : Type 0 where
+pub record SearchAnswers (look : ℕ → ℕ → List Block) (rep : ℕ → Bool) (end d : ℕ) (r : Counted) (a : Answer ℕ) : Type 0 where
   pub same-answer : r .answer ≡ a
   pub within : (z : ℕ) → a ≡ gives z → z ≤ end
   pub exact : (z : ℕ) → a ≡ gives z → r .count ≡ neededFrom (begun z) someTime look rep end 0 0 d
@@ -210,7 +210,7 @@ module _ (look : ℕ → ℕ → List Block) (rep : ℕ → Bool) (limit end : �
       (ap (λ t. if t then 0 else 1) (sym (test-same x last time d prev v) ∙ p))))
     where
       skipped : (prev : Previous) → Holding look end x last time prev → maySkip prev d (eqb (min (x + week) end - x) week && rep x) ≡ true
-          → Same look rep end x (min (x + week) end) time d (goes 0 (min (x + week) end - edgeIn prev) (d - timeIn prev) prev) (searchBlocks limit (min (x + week) end) last d (look x (min (x + week) end)))
+          → Same look rep end x (min (x + week) end) time d (goes 0 (min (x + week) end - edgeIn prev) (d - timeKept prev) prev) (searchBlocks limit (min (x + week) end) last d (look x (min (x + week) end)))
       skipped fresh v p = clash false p refl
       skipped (known k g) (e, w) p =
           let s = and-both (ltb k d) (eqb (min (x + week) end - x) week && rep x) p in
@@ -268,8 +268,8 @@ module _ (look : ℕ → ℕ → List Block) (rep : ℕ → Bool) (limit end : �
   unfolding skipFrom searchFrom
   search-skips zero x last time d prev h o v = record {
     same-answer = refl;
-    inside = λ z e. absurd (let q : _≡_ {A = ℕ} 0 1 = cc in omega arith);
-    exact = λ z e. absurd (let q : _≡_ {A = ℕ} 0 1 = cc in omega arith);
+    inside = λ z e. never (cc);
+    exact = λ z e. never (cc);
   }
   search-skips (suc n) x last time d prev h o v =
       step (turn look rep limit x (min (x + week) end) last d prev) (searchBlocks limit (min (x + week) end) last d (look x (min (x + week) end))) (turn-same x last time d prev h o v)
@@ -295,8 +295,8 @@ module _ (look : ℕ → ℕ → List Block) (rep : ℕ → Bool) (limit end : �
       }
       step t s same-gap rec = record {
         same-answer = refl;
-        inside = λ w f. absurd (let q : _≡_ {A = ℕ} 0 1 = cc in omega arith);
-        exact = λ w f. absurd (let q : _≡_ {A = ℕ} 0 1 = cc in omega arith);
+        inside = λ w f. never (cc);
+        exact = λ w f. never (cc);
       }
       step t s (same-left {c = c} {m = m} {e = e} {p = p} i j k w) rec = agrees-on x time d c e i j h (rec m e p k w)
 
@@ -304,8 +304,8 @@ module _ (look : ℕ → ℕ → List Block) (rep : ℕ → Bool) (limit end : �
   unfolding neededFrom
   needed-none d = refl
 
-  pub skip-in : (d : ℕ) → Answers look rep end d (skipIn look rep limit end d) (searchIn look limit end d)
-  unfolding skipIn searchIn
+  pub skip-in : (d : ℕ) → SearchAnswers look rep end d (skipSearch look rep limit end d) (searchIn look limit end d)
+  unfolding skipSearch searchIn
   skip-in d =
       by-test (eqb d 0)
       (λ p. rw p (record {

@@ -23,7 +23,7 @@ use Rattle.laws_base.specs.Members.{any-in}
 use Rattle.laws_zone.specs.Changes.{any-none}
 use Rattle.laws_zone.specs.Sound.{Sound}
 use Rattle.laws_blocks.specs.Move.{moves, moves-append, clipped-moved, union-moved, subtract-moved}
-use Rattle.laws_demand3.specs.Zones.{Each}
+use Rattle.laws_base.specs.Every.{Every, every-apart}
 use Rattle.laws_demand3.specs.Windows.{RuleOk, OfRules}
 use Rattle.laws_demand3.specs.Local.{bias, offsetNanos, raw, Clamped, kept, early, late, off-low, off-high, raw-some, raw-least, in-range, same-off, day-is, first-from, last-upto, first-upto, last-from}
 
@@ -275,21 +275,13 @@ far-of h S E d e f =
     (λ p. by-test (leb d y) (λ q. clash (isIn x y d) (rw (p, q)) n) (λ q. inr (leb-false d y q)))
     (λ p. inl (leb-false x d p))
 
-pub each-apart : {A : Type 0} (P : A → Type 0) (l k : List A) → Each P (l ++ k) → Each P l × Each P k
-each-apart P [] k h = (tt, h)
-each-apart P (a ∷ l) k h = let r = each-apart P l k (h .1) in ((h .0, r .0), r .1)
-
-pub each-both : {A : Type 0} (P : A → Type 0) (l k : List A) → Each P l → Each P k → Each P (l ++ k)
-each-both P [] k a b = b
-each-both P (x ∷ l) k a b = (a .0, each-both P l k (a .1) b)
-
 blocks-append : (lo hi : ℕ) (l k : List Rule) → blocksOfAll lo hi (l ++ k) ≡ blocksOfAll lo hi l ++ blocksOfAll lo hi k
 unfolding joined
 blocks-append lo hi [] k = refl
 blocks-append lo hi (r ∷ l) k = rw (blocks-append lo hi l k) (sym (append-assoc (blocksOf lo hi r) (blocksOfAll lo hi l) (blocksOfAll lo hi k)))
 
 module _ (S E : ℕ) (low : firstInstant ≤ S) (up : E ≤ lastInstant) where
-  rules-week : (lo hi : ℕ) → S + 4 * day ≤ lo → lo ≤ hi → hi + week + 4 * day ≤ E → (l : List Rule) → Each RuleOk l → Each Weekly l → all (ruleSteady S E) l ≡ true
+  rules-week : (lo hi : ℕ) → S + 4 * day ≤ lo → lo ≤ hi → hi + week + 4 * day ≤ E → (l : List Rule) → Every RuleOk l → Every Weekly l → all (ruleSteady S E) l ≡ true
       → blocksOfAll (lo + week) (hi + week) l ≡ moves week (blocksOfAll lo hi l)
   unfolding joined moves
   rules-week lo hi a h b [] ok w e = refl
@@ -302,7 +294,7 @@ module _ (S E : ℕ) (low : firstInstant ≤ S) (up : E ≤ lastInstant) where
       (rules-week lo hi a h b l (ok .1) (w .1) (k .1))
       ∙ sym (moves-append week (blocksOf lo hi r) (blocksOfAll lo hi l))
 
-  holidays-none : (lo hi : ℕ) → S + 4 * day ≤ lo → lo ≤ hi → hi + 4 * day ≤ E → (l : List Holidays) → Each RuleOk (map holidayRule l) → all (noneNear S E) l ≡ true
+  holidays-none : (lo hi : ℕ) → S + 4 * day ≤ lo → lo ≤ hi → hi + 4 * day ≤ E → (l : List Holidays) → Every RuleOk (map holidayRule l) → all (noneNear S E) l ≡ true
       → blocksOfAll lo hi (map holidayRule l) ≡ []
   unfolding joined
   holidays-none lo hi a h b [] ok e = refl
@@ -312,7 +304,7 @@ module _ (S E : ℕ) (low : firstInstant ≤ S) (up : E ≤ lastInstant) where
 
 -- the work and break rules show the same dates each week
 abbrev pub WeeklyRules : Schedule → Type 0
-WeeklyRules s = Each Weekly (s .work) × Each Weekly (s .breaks)
+WeeklyRules s = Every Weekly (s .work) × Every Weekly (s .breaks)
 
 module _ (s : Schedule) (ok : OfRules RuleOk s) (w : WeeklyRules s) where
   working-week : (S E lo hi : ℕ) → firstInstant ≤ S → E ≤ lastInstant → S + 4 * day ≤ lo → lo ≤ hi → hi + week + 4 * day ≤ E
@@ -320,7 +312,7 @@ module _ (s : Schedule) (ok : OfRules RuleOk s) (w : WeeklyRules s) where
       → working s (lo + week) (hi + week) ≡ moves week (working s lo hi)
   unfolding working
   working-week S E lo hi low up a h b p q n =
-      let oks = each-apart RuleOk (s .breaks) (map holidayRule (s .holidays)) (ok .1) in
+      let oks = every-apart RuleOk (s .breaks) (map holidayRule (s .holidays)) (ok .1) in
       ap₂ subtract
       (ap union (rules-week S E low up lo hi a h b (s .work) (ok .0) (w .0) p) ∙ union-moved week (blocksOfAll lo hi (s .work)))
       (ap union (blocks-append (lo + week) (hi + week) (s .breaks) (map holidayRule (s .holidays))

@@ -9,9 +9,9 @@ use lib.Dec.{leb, ltb}
 use borrow.Author.Tests.{leb-true, leb-false, le-ltb, lt-leb}
 use Rattle.model.specs.Blocks.{Block, block, total}
 use Rattle.model.specs.Walk.{Step, found, gap, left, searchBlocks, onward, backward}
-use Rattle.laws_base.specs.Test.{by-test}
+use Rattle.laws_base.specs.Test.{by-test, never}
 use Rattle.laws_blocks.specs.Lists.{Lists, none, next}
-use Rattle.laws_blocks.specs.Move.{moved, moves, moves-append}
+use Rattle.laws_blocks.specs.Move.{movedBlock, moves, moves-append}
 
 -- each block lies in [lo, hi] and is not empty
 abbrev pub Inside : ℕ → ℕ → List Block → Type 0
@@ -91,8 +91,8 @@ module _ (limit lo hi : ℕ) (l : List Block) (i : Inside lo hi l) (last d : ℕ
     where
       by : (s : Step) → Spent lo hi last d l s → s ≡ left e m → (e ≡ d - total l) × (total l < d) × (m ≡ lastEnd l last)
       by s (is-left {e = x} {m = y} a b c) f = let q : x ≡ e = cc in let r : y ≡ m = cc in (omega arith, b, omega arith)
-      by s is-gap f = absurd (let q : _≡_ {A = ℕ} 0 1 = cc in omega arith)
-      by s (is-found a b) f = absurd (let q : _≡_ {A = ℕ} 0 1 = cc in omega arith)
+      by s is-gap f = never (cc)
+      by s (is-found a b) f = never (cc)
 
 -- ---- a week apart, as distances
 
@@ -122,5 +122,5 @@ pub backward-moved : (t w lo hi : ℕ) (l : List Block) → hi + w ≤ t → Ins
 unfolding moves
 backward-moved t w lo hi [] h i = ap (moves w) (backward-none t) ∙ sym (backward-none t)
 backward-moved t w lo hi (b ∷ l) h i =
-    rw (backward-cons t (moved w b) (moves w l), backward-cons t b l, moves-append w (backward t (moves w l)) (block (t - (b .end + w)) (t - (b .start + w)) ∷ []), backward-moved t w lo hi l h (i .3))
+    rw (backward-cons t (movedBlock w b) (moves w l), backward-cons t b l, moves-append w (backward t (moves w l)) (block (t - (b .end + w)) (t - (b .start + w)) ∷ []), backward-moved t w lo hi l h (i .3))
     (ap (λ x. backward t l ++ (x ∷ [])) (same-block (t - (b .end + w) + w) (t - b .end) (t - (b .start + w) + w) (t - b .start) (omega arith) (omega arith)))

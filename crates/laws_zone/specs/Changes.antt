@@ -10,7 +10,8 @@ use lib.Dec.{leb, ltb, eqb}
 use borrow.Author.Tests.{le-leb, lt-ltb, leb-true, leb-false, ltb-true, eq-eqb, eqb-true}
 use Rattle.model.specs.Basic.{run, any}
 use Rattle.model.specs.Footer.{Footer, empty, fixed, rules, ChangeRule, changeIn}
-use Rattle.model.specs.Tzif.{Zone, Change, greatestOffset}
+use Rattle.model.specs.Tzif.{Zone, Change}
+use Rattle.model.specs.Offset.{greatestOffset}
 use Rattle.model.specs.Zone.{latest, yearAt, ruledAt, offsetFrom, offsetAt, footerChanges, changesIn, isChange, steady}
 use Rattle.laws_base.specs.Test.{by-test, by-either, and-both, both-and, not-true, true-not, clash}
 use Rattle.laws_base.specs.Members.{Member, filter-passes, filter-keeps, in-map, in-right, in-run}

@@ -10,12 +10,12 @@ use Rattle.model.specs.Basic.{if_then_else_}
 use Rattle.model.specs.Calendar.{isLeap, daysBeforeMonth, daysInMonth, dayNumber, weekday}
 use Rattle.model.specs.Footer.{month, julian, dayIn}
 use Rattle.laws_base.specs.Test.{by-test}
-use Rattle.laws_base.specs.Claim.{le, eq, both, if, all, at-each, all₂, at-each₂}
+use Rattle.laws_base.specs.Claim.{le, eq, both, if, allBelow, at-each, all₂, at-each₂}
 
 -- ---- Mm.w.d
 
 -- n is the day d (Sunday is 0) of week w, in a month of k days that begins on the day f
-pub record Named (f k w d n : ℕ) : Type 0 where
+pub record WeekdayOfMonth (f k w d n : ℕ) : Type 0 where
   pub from : f ≤ n
   pub to : n < f + k
   -- Monday is 0 in `weekday`
@@ -24,7 +24,7 @@ pub record Named (f k w d n : ℕ) : Type 0 where
   pub last : w ≡ 5 → f + k ≤ n + 7
 
 lengths : (m : ℕ) → m < 13 → 1 ≤ m → ((28 ≤ daysInMonth true m) × (daysInMonth true m ≤ 31)) × ((28 ≤ daysInMonth false m) × (daysInMonth false m ≤ 31))
-unfolding daysInMonth all
+unfolding daysInMonth allBelow
 lengths =
     at-each (λ m. (if) (le 1 m) (both (both (le 28 (daysInMonth true m)) (le (daysInMonth true m) 31)) (both (le 28 (daysInMonth false m)) (le (daysInMonth false m) 31)))) 13 tt
 
@@ -43,7 +43,7 @@ shift-on : (f d k : ℕ) → d ≤ 6 → weekday (f + shift f d + 7 * k) ≡ (d 
 shift-on f d k h = omega arith
 
 module _ (f k w d : ℕ) (a : 28 ≤ k) (b : k ≤ 31) (p : 1 ≤ w) (q : w ≤ 5) (h : d ≤ 6) where
-  kept : f + shift f d + 7 * (w - 1) < f + k → Named f k w d (f + shift f d + 7 * (w - 1))
+  kept : f + shift f d + 7 * (w - 1) < f + k → WeekdayOfMonth f k w d (f + shift f d + 7 * (w - 1))
   kept l = record {
     from = omega arith;
     to = l;
@@ -52,7 +52,7 @@ module _ (f k w d : ℕ) (a : 28 ≤ k) (b : k ≤ 31) (p : 1 ≤ w) (q : w ≤ 
     last = λ five. omega arith;
   }
 
-  back : f + k ≤ f + shift f d + 7 * (w - 1) → Named f k w d (f + shift f d + 7 * (w - 1) - 7)
+  back : f + k ≤ f + shift f d + 7 * (w - 1) → WeekdayOfMonth f k w d (f + shift f d + 7 * (w - 1) - 7)
   back l =
       let five : w ≡ 5 = omega (arith, shift-lt f d) in
       let e : f + shift f d + 7 * (w - 1) - 7 ≡ f + shift f d + 7 * 3 = omega arith in
@@ -64,7 +64,7 @@ module _ (f k w d : ℕ) (a : 28 ≤ k) (b : k ≤ 31) (p : 1 ≤ w) (q : w ≤ 
         last = λ _. omega arith;
       })
 
-pub month-named : (y m w d : ℕ) → 1 ≤ m → m ≤ 12 → 1 ≤ w → w ≤ 5 → d ≤ 6 → Named (dayNumber y m 1) (daysInMonth (isLeap y) m) w d (dayIn y (month m w d))
+pub month-named : (y m w d : ℕ) → 1 ≤ m → m ≤ 12 → 1 ≤ w → w ≤ 5 → d ≤ 6 → WeekdayOfMonth (dayNumber y m 1) (daysInMonth (isLeap y) m) w d (dayIn y (month m w d))
 unfolding dayIn
 month-named y m w d a b p q h =
     let f = dayNumber y m 1 in
@@ -81,7 +81,7 @@ abbrev pub ordinal : ℕ → ℕ → ℕ
 ordinal m d = daysBeforeMonth false m + d
 
 counted : (m : ℕ) → m < 13 → (d : ℕ) → d < 32 → 1 ≤ d → d ≤ daysInMonth false m → daysBeforeMonth true m + (d - 1) ≡ ordinal m d - 1 + (if leb 60 (ordinal m d) then 1 else 0)
-unfolding daysBeforeMonth daysInMonth all all₂
+unfolding daysBeforeMonth daysInMonth allBelow all₂
 counted =
     at-each₂ (λ m d. (if) (le 1 d) ((if) (le d (daysInMonth false m)) (eq (daysBeforeMonth true m + (d - 1)) (ordinal m d - 1 + (if leb 60 (ordinal m d) then 1 else 0))))) 13 32 tt
 

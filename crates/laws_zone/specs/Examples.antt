@@ -10,18 +10,20 @@ use Rattle.model.specs.Basic.{_>>=_}
 use Rattle.model.specs.Bytes.{hex, text}
 use Rattle.model.specs.Calendar.{isLeap, dayNumber}
 use Rattle.model.specs.Footer.{ChangeRule, julian, plain, fixed, rules, dayIn, changeIn}
-use Rattle.model.specs.Tzif.{Zone, Change, zoneOf, offsetBias}
+use Rattle.model.specs.Tzif.{Zone, Change, zoneOf}
+use Rattle.model.specs.Offset.{offsetBias}
 use Rattle.model.specs.Zone.{latest, offsetFrom, offsetAt, secondOf}
 use Rattle.model.specs.All.{everything}
 use Rattle.laws_base.specs.Test.{by-test, by-either}
 use Rattle.laws_calendar.specs.Dates.{year-step}
 use Rattle.laws_zone.specs.FooterChanges.{latest-is, latest-le, latest-of-all, daylight}
+use Rattle.model.specs.Instant.{daySeconds}
 
 -- ---- times
 
 -- the second of a date, from the year 0 on, and a time of day
 abbrev at : ℕ → ℕ → ℕ → ℕ → ℕ → ℕ → ℕ
-at y m d hours minutes seconds = dayNumber (10400 + y) m d * 86400 + hours * 3600 + minutes * 60 + seconds
+at y m d hours minutes seconds = dayNumber (10400 + y) m d * daySeconds + hours * 3600 + minutes * 60 + seconds
 
 -- the offsets of so many minutes east and west of Greenwich
 abbrev east : ℕ → ℕ

@@ -11,13 +11,14 @@ use lib.Dec.{leb, ltb, leb→le}
 use borrow.Author.Tests.{le-leb, lt-leb}
 use Rattle.model.specs.Basic.{run, maximum, filter, if_then_else_}
 use Rattle.model.specs.Calendar.{isLeap, daysBeforeYear, daysBeforeMonth, daysInMonth, dayNumber, weekday}
-use Rattle.model.specs.Footer.{Day, month, julian, plain, ChangeRule, rules, dayIn, changeIn}
+use Rattle.model.specs.Footer.{Day, month, julian, plain, ChangeRule, rules, dayIn, changeIn, latestClock}
 use Rattle.model.specs.Zone.{latest, yearAt, ruledAt}
 use Rattle.laws_base.specs.Test.{by-test, by-either, test-of}
 use Rattle.laws_base.specs.Members.{Member, filter-passes, filter-keeps, in-map, in-run, max-above, max-below}
-use Rattle.laws_base.specs.Claim.{le, both, all, at-each}
+use Rattle.laws_base.specs.Claim.{le, both, allBelow, at-each}
 use Rattle.laws_calendar.specs.Years.{dby-hi, dby-lo, year-from, year-to}
-use Rattle.model.specs.Tzif.{greatestOffset, offsetBias, latestClock}
+use Rattle.model.specs.Offset.{greatestOffset, offsetBias}
+use Rattle.model.specs.Instant.{daySeconds}
 
 -- ---- what the grammar allows
 
@@ -41,7 +42,7 @@ abbrev begins : ℕ → ℕ
 begins m = daysBeforeMonth false m
 
 months : (m : ℕ) → m < 13 → (begins m ≤ daysBeforeMonth true m) × ((daysBeforeMonth true m ≤ begins m + 1) × (begins m ≤ 334))
-unfolding daysBeforeMonth daysInMonth all
+unfolding daysBeforeMonth daysInMonth allBelow
 months = at-each (λ m. both (le (begins m) (daysBeforeMonth true m)) (both (le (daysBeforeMonth true m) (begins m + 1)) (le (begins m) 334))) 13 tt
 
 begins-lo : (b : Bool) (m : ℕ) → m ≤ 12 → begins m ≤ daysBeforeMonth b m
@@ -161,11 +162,11 @@ module _ (change : ℕ → ℕ) (u : ℕ) where
 -- ---- the change of a year
 
 module _ (o : ℕ) (r : ChangeRule) (ho : o ≤ greatestOffset) (f : ChangeRuleFits r) where
-  change-hi : (y : ℕ) → changeIn o r y ≤ daysBeforeYear y * 86400 + 32238000
+  change-hi : (y : ℕ) → changeIn o r y ≤ daysBeforeYear y * daySeconds + 32238000
   unfolding changeIn
   change-hi y = omega (arith, day-hi y (r .day) (f .day-fits))
 
-  change-lo : (y : ℕ) → daysBeforeYear y * 86400 ≤ changeIn o r y + 792000
+  change-lo : (y : ℕ) → daysBeforeYear y * daySeconds ≤ changeIn o r y + 792000
   unfolding changeIn
   change-lo y = omega (arith, day-lo y (r .day) (f .day-fits))
 
@@ -174,21 +175,21 @@ module _ (o : ℕ) (r : ChangeRule) (ho : o ≤ greatestOffset) (f : ChangeRuleF
   change-rises a b h = omega (arith, day-rises a b (r .day) (f .day-fits) h)
 
   -- .. and within its year a change varies by at most two weeks
-  pub change-varies : (y z : ℕ) → 1 ≤ z → changeIn o r z + daysBeforeYear y * 86400 ≤ changeIn o r y + daysBeforeYear z * 86400 + 1209600
+  pub change-varies : (y z : ℕ) → 1 ≤ z → changeIn o r z + daysBeforeYear y * daySeconds ≤ changeIn o r y + daysBeforeYear z * daySeconds + 1209600
   unfolding changeIn
   change-varies y z h = omega (arith, day-varies y z (r .day) (f .day-fits), day-lo z (r .day) (f .day-fits), dby-lo z)
 
   -- when it comes, the clock that it ends shows its time on its day
-  pub change-reads : (y : ℕ) → 1 ≤ y → changeIn o r y + o ≡ dayIn y (r .day) * 86400 + r .time + offsetBias
+  pub change-reads : (y : ℕ) → 1 ≤ y → changeIn o r y + o ≡ dayIn y (r .day) * daySeconds + r .time + offsetBias
   unfolding changeIn
   change-reads y h = omega (arith, day-lo y (r .day) (f .day-fits), dby-lo y)
 
   -- the change of two years before u's year has come, and that of two years after it has not
   pub two-before : (u : ℕ) → 2 ≤ yearAt u → changeIn o r (yearAt u - 2) ≤ u
-  two-before u h = omega (arith, change-hi (yearAt u - 2), year-from (u / 86400), dby-hi (yearAt u - 2), dby-lo (yearAt u))
+  two-before u h = omega (arith, change-hi (yearAt u - 2), year-from (u / daySeconds), dby-hi (yearAt u - 2), dby-lo (yearAt u))
 
   pub two-after : (u y : ℕ) → yearAt u + 2 ≤ y → u < changeIn o r y
-  two-after u y h = omega (arith, change-lo y, year-to (u / 86400), dby-hi (yearAt u), dby-lo y)
+  two-after u y h = omega (arith, change-lo y, year-to (u / daySeconds), dby-hi (yearAt u), dby-lo y)
 
   -- no year's change at or before u is later than the one that `latest` takes
   pub latest-of-all : (u y : ℕ) → changeIn o r y ≤ u → changeIn o r y ≤ latest (changeIn o r) u

@@ -4,11 +4,11 @@ use mathlib.Core.Option.{some}
 use mathlib.Core.List.{List}
 use Prim.Native.Nat.{ℕ, _≤_}
 use native.Mathlib.Omega.{arith}
-use Rattle.model.specs.Footer.{Day, ChangeRule, Footer, empty, fixed, rules, footerOf}
-use Rattle.laws_bytes.specs.TzGrammar.{Number, number, Sixty, sixty, Clock, hours, minutes, seconds, Offset, unsigned, west, east, Date, dateJ, dateN, dateM, Rule, untimed, timed, Ahead, hour, written, TzString, standard, daylight}
+use Rattle.model.specs.Footer.{Day, ChangeRule, Footer, empty, fixed, rules, footerOf, latestClock}
+use Rattle.laws_bytes.specs.TzGrammar.{Number, number, Sixty, sixty, Clock, hours, minutes, seconds, Offset, unsigned, west, east, DateText, dateJ, dateN, dateM, RuleText, untimed, timed, DaylightText, hour, written, TzString, standard, daylight}
 use Rattle.laws_bytes.specs.TzSound.{tz-sound}
 use Rattle.laws_zone.specs.FooterChanges.{DayFits, ChangeRuleFits}
-use Rattle.model.specs.Tzif.{greatestOffset, latestClock}
+use Rattle.model.specs.Offset.{greatestOffset}
 
 abbrev Bounds : ℕ → ℕ → ℕ → Type 0
 Bounds lo hi n = (lo ≤ n) × (n ≤ hi)
@@ -30,7 +30,7 @@ offset-in (unsigned g) = let h = clock-in g in (omega arith, omega arith)
 offset-in (west g) = let h = clock-in g in (omega arith, omega arith)
 offset-in (east g) = let h = clock-in g in (omega arith, omega arith)
 
-date-fits : {d : Day} {s : List ℕ} → Date s d → DayFits d
+date-fits : {d : Day} {s : List ℕ} → DateText s d → DayFits d
 date-fits (dateJ g) = number-in g
 date-fits (dateN g) = number-in g .1
 date-fits (dateM g h k) =
@@ -38,7 +38,7 @@ date-fits (dateM g h k) =
     let w = number-in h in
     (m .0, m .1, w .0, w .1, number-in k .1)
 
-rule-fits : {r : ChangeRule} {s : List ℕ} → Rule s r → ChangeRuleFits r
+rule-fits : {r : ChangeRule} {s : List ℕ} → RuleText s r → ChangeRuleFits r
 rule-fits (untimed g) = record { day-fits = date-fits g; time-fits = omega arith }
 rule-fits (timed g h) = record { day-fits = date-fits g; time-fits = clock-in h }
 
@@ -54,7 +54,7 @@ FooterFits (rules std dst start end) = OffsetFits std × OffsetFits dst × Chang
 offset-fits : {o : ℕ} {s : List ℕ} → Offset s o → OffsetFits o
 offset-fits g = let b = offset-in g in (omega arith, omega arith)
 
-ahead-fits : {std dst : ℕ} {s : List ℕ} → Bounds 3601 183599 std → Ahead std s dst → OffsetFits dst
+ahead-fits : {std dst : ℕ} {s : List ℕ} → Bounds 3601 183599 std → DaylightText std s dst → OffsetFits dst
 ahead-fits b hour = (omega arith, omega arith)
 ahead-fits b (written g) = offset-fits g
 

@@ -9,7 +9,8 @@ use native.Mathlib.Decide.{decLe, decLt}
 use lib.Dec.{leb, ltb}
 use borrow.Author.Tests.{le-leb, lt-ltb, leb-true, ltb-true, eq-eqb, eqb-true}
 use Rattle.model.specs.Basic.{filter, leastOr}
-use Rattle.model.specs.Tzif.{Zone, greatestOffset}
+use Rattle.model.specs.Tzif.{Zone}
+use Rattle.model.specs.Offset.{greatestOffset}
 use Rattle.model.specs.Zone.{offsetAt, changesIn, reads, jumps, secondOf}
 use Rattle.laws_base.specs.Test.{and-both, both-and}
 use Rattle.laws_base.specs.Members.{Member, filter-passes, filter-keeps, in-map, or-in, or-least}

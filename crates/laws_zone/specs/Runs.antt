@@ -6,7 +6,8 @@ use mathlib.Core.Logic.{_⊎_, inr, ⊎-elim}
 use Prim.Native.Nat.{ℕ, _+_, _-_, _≤_, _<_}
 use native.Mathlib.Omega.{arith}
 use native.Mathlib.Decide.{decLt}
-use Rattle.model.specs.Tzif.{Zone, greatestOffset}
+use Rattle.model.specs.Tzif.{Zone}
+use Rattle.model.specs.Offset.{greatestOffset}
 use Rattle.model.specs.Zone.{offsetAt, steady}
 use Rattle.laws_base.specs.Test.{by-test}
 use Rattle.laws_zone.specs.Sound.{Sound, dawn}

@@ -2,7 +2,8 @@
 use mathlib.Core.Path.{_≡_}
 use mathlib.Core.Bool.{true}
 use Prim.Native.Nat.{ℕ, _+_, _≤_}
-use Rattle.model.specs.Tzif.{Zone, greatestOffset}
+use Rattle.model.specs.Tzif.{Zone}
+use Rattle.model.specs.Offset.{greatestOffset}
 use Rattle.model.specs.Zone.{offsetAt, steady, secondOf}
 
 -- the second of -10000-01-01T00:00:00Z: no call looks at an earlier one
@@ -11,7 +12,7 @@ dawn = 12622780800
 
 -- the first local second, with the 26 hours added, that is asked for: one more than the greatest offset
 abbrev pub firstLocal : ℕ
-firstLocal = 187200
+firstLocal = greatestOffset + 1
 
 pub record Sound (z : Zone) : Type 0 where
   -- offsets, with the 26 hours added, lie from -93,599 s to 93,599 s

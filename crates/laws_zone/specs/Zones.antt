@@ -11,7 +11,8 @@ use borrow.Author.Tests.{leb-true, ltb-true}
 use Rattle.model.specs.Basic.{isIn, all}
 use Rattle.model.specs.Bytes.{words, pieces, lifted}
 use Rattle.model.specs.Footer.{Footer, empty, fixed, rules, changeIn, footerOf}
-use Rattle.model.specs.Tzif.{Header, headerOf, sizeOf, offsetIn, typeOk, rising, countsOk, zeroOr, Table, Zone, Change, changesOf, lineOf, tableIn, tableOf, zoneOf, greatestOffset, mostTypes, mostTransitions, typeSize, headerSize}
+use Rattle.model.specs.Tzif.{Header, headerOf, sizeOf, offsetIn, typeOk, rising, countsOk, zeroOr, Table, Zone, Change, changesOf, lineOf, tableIn, tableOf, zoneOf, mostTypes, mostTransitions, typeSize, headerSize}
+use Rattle.model.specs.Offset.{greatestOffset}
 use Rattle.model.specs.Zone.{utc, latest, ruledAt, offsetFrom, offsetAt, secondOf}
 use Rattle.laws_base.specs.Test.{by-test, and-both, in-bounds, all-head}
 use Rattle.laws_base.specs.Made.{Made, value, made, made-is, next, tested, anything}

@@ -9,7 +9,7 @@ use lib.ListN.{length, getD, take, drop}
 use Rattle.model.specs.Basic.{if_then_else_, _>>=_, given, need, each, sum}
 use Rattle.model.specs.Bytes.{be, pieces, lifted}
 use Rattle.model.specs.Calendar.{isDate, dayNumber, isSet}
-use Rattle.model.specs.Instant.{second}
+use Rattle.model.specs.Instant.{second, daySeconds}
 use Rattle.model.specs.Directory.{Part, partsOf}
 
 pub record Hours : Type 0 where
@@ -31,7 +31,7 @@ pub record Entry : Type 0 where
 
 -- "4 bytes seconds and 4 bytes nanoseconds": "Time of day: second 0 to 86,399 and nanoseconds"
 unfoldable pub timeOf : List ℕ → Option ℕ
-timeOf l = given (ltb (be 4 l) 86400 && ltb (be 4 (drop 4 l)) second) (be 4 l * second + be 4 (drop 4 l))
+timeOf l = given (ltb (be 4 l) daySeconds && ltb (be 4 (drop 4 l)) second) (be 4 l * second + be 4 (drop 4 l))
 
 -- "weekday byte, then start and end, each 4 bytes seconds and 4 bytes nanoseconds"
 unfoldable pub hoursOf : List ℕ → Option Hours

@@ -33,6 +33,10 @@ unfoldable pub hex : ℕ → ℕ → List ℕ
 hex zero v = []
 hex (suc w) v = (v / 256 ^ w % 256) ∷ hex w v
 
+-- the byte that ends a line
+abbrev pub newline : ℕ
+newline = 10
+
 -- the bytes of an ASCII text
 unfoldable pub text : String → List ℕ
 text String.[] = []

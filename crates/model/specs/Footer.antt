@@ -7,7 +7,10 @@ use mathlib.Core.List.{List, [], _∷_}
 use Prim.Native.Nat.{ℕ, zero, suc, _+_, _*_, _-_, _%_}
 use lib.Dec.{leb, ltb, eqb}
 use Rattle.model.specs.Basic.{if_then_else_, isIn}
+use Rattle.model.specs.Instant.{daySeconds}
+use Rattle.model.specs.Offset.{offsetBias}
 use Rattle.model.specs.Calendar.{isLeap, daysBeforeYear, daysInMonth, dayNumber, weekday}
+use Prim.Native.Char.{code}
 
 infixl 1 _>>=_
 -- a day of the year: Mm.w.d, Jn and n
@@ -26,6 +29,10 @@ pub data Footer : Type 0 where
   fixed : ℕ → Footer
   -- standard offset, daylight offset, start and end of daylight time
   rules : ℕ → ℕ → ChangeRule → ChangeRule → Footer
+
+-- the latest time that a footer may write, 24:59:59, in seconds
+abbrev pub latestClock : ℕ
+latestClock = 89999
 
 -- ---- the grammar. A parser takes what it reads from the front of the text and hands on the rest
 
@@ -60,10 +67,10 @@ atEnd [] = some (true, [])
 atEnd (x ∷ s) = some (false, x ∷ s)
 
 abbrev pub isDigit : ℕ → Bool
-isDigit c = isIn 48 57 c
+isDigit c = isIn (code "0") (code "9") c
 
 abbrev pub isLetter : ℕ → Bool
-isLetter c = isIn 65 90 c || isIn 97 122 c
+isLetter c = isIn (code "A") (code "Z") c || isIn (code "a") (code "z") c
 
 -- how many bytes from the front pass, and what is behind them
 unfoldable pub spanned : (ℕ → Bool) → List ℕ → ℕ × List ℕ
@@ -74,7 +81,7 @@ spanned t (c ∷ s) = let r = spanned t s in if t c then (suc (r .0), r .1) else
 unfoldable pub digits : ℕ → ℕ → Parser ℕ
 digits zero v s = some (v, s)
 digits (suc k) v [] = some (v, [])
-digits (suc k) v (c ∷ s) = let r = digits k (v * 10 + (c - 48)) s in if isDigit c then r else some (v, c ∷ s)
+digits (suc k) v (c ∷ s) = let r = digits k (v * 10 + (c - code "0")) s in if isDigit c then r else some (v, c ∷ s)
 
 -- a number of 1 to k digits, from lo to hi
 unfoldable pub number : ℕ → ℕ → ℕ → Parser ℕ
@@ -89,56 +96,56 @@ sixty = number 1 0 5 >>= λ a. number 1 0 9 >>= λ b. pure (a * 10 + b)
 unfoldable pub clock : Parser ℕ
 clock = do
   h ← number 2 0 24
-  m ← has 58
+  m ← has (code ":")
   if not m then pure (h * 3600) else (do
     n ← sixty
-    s ← has 58
+    s ← has (code ":")
     if not s then pure (h * 3600 + n * 60) else (do
       x ← sixty
       pure (h * 3600 + n * 60 + x)))
 
 -- a byte of a name: a letter; between < and > also a digit, + or -
 unfoldable pub isNameByte : Bool → ℕ → Bool
-isNameByte quoted c = isLetter c || (quoted && (isDigit c || (eqb c 43 || eqb c 45)))
+isNameByte quoted c = isLetter c || (quoted && (isDigit c || (eqb c (code "+") || eqb c (code "-"))))
 
 -- three bytes or more, plain or between < and >
 unfoldable pub name : Parser Bool
 name = do
-  quoted ← has 60
+  quoted ← has (code "<")
   n ← (λ s. some (spanned (isNameByte quoted) s))
   ok ← only (leb 3 n) true
-  if quoted then byte 62 else pure ok
+  if quoted then byte (code ">") else pure ok
 
 -- an offset: POSIX counts west of Greenwich
 unfoldable pub offset : Parser ℕ
 offset = do
-  east ← has 45
-  plus ← (if east then pure false else has 43)
+  east ← has (code "-")
+  plus ← (if east then pure false else has (code "+"))
   t ← clock
-  pure (if east then 93600 + t else 93600 - t)
+  pure (if east then offsetBias + t else offsetBias - t)
 
 -- behind the M: month, week and weekday
 unfoldable pub monthText : Parser Day
 monthText = do
   m ← number 2 1 12
-  _ ← byte 46
+  _ ← byte (code ".")
   w ← number 1 1 5
-  _ ← byte 46
+  _ ← byte (code ".")
   d ← number 1 0 6
   pure (month m w d)
 
 unfoldable pub dayText : Parser Day
 dayText = do
-  m ← has 77
+  m ← has (code "M")
   if m then monthText else (do
-    j ← has 74
+    j ← has (code "J")
     if j then (number 3 1 365 >>= λ n. pure (julian n)) else (number 3 0 365 >>= λ n. pure (plain n)))
 
 -- "/time" is 02:00:00 where it isn't written
 unfoldable pub changeRuleText : Parser ChangeRule
 changeRuleText = do
   d ← dayText
-  timed ← has 47
+  timed ← has (code "/")
   t ← (if timed then clock else pure 7200)
   pure (record { day = d; time = t })
 
@@ -146,10 +153,10 @@ changeRuleText = do
 unfoldable pub daylightText : ℕ → Parser Footer
 daylightText std = do
   _ ← name
-  short ← has 44
-  dst ← (if short then pure (std + 3600) else (offset >>= λ o. byte 44 >>= λ _. pure o))
+  short ← has (code ",")
+  dst ← (if short then pure (std + 3600) else (offset >>= λ o. byte (code ",") >>= λ _. pure o))
   start ← changeRuleText
-  _ ← byte 44
+  _ ← byte (code ",")
   end ← changeRuleText
   done ← atEnd
   only done (rules std dst start end)
@@ -182,7 +189,7 @@ dayIn y (plain n) = daysBeforeYear y + n
 
 -- the second at which the change comes in the year y, by a clock that shows the given offset
 unfoldable pub changeIn : ℕ → ChangeRule → ℕ → ℕ
-changeIn o r y = dayIn y (r .day) * 86400 + r .time + 93600 - o
+changeIn o r y = dayIn y (r .day) * daySeconds + r .time + offsetBias - o
 
 unfoldable pub footers : Unit {0}
 unfolding spanned digits number sixty clock isNameByte name offset monthText dayText changeRuleText daylightText footerText footerOf dayIn changeIn

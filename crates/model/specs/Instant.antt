@@ -1,5 +1,6 @@
 -- Instants and durations. Document 01, "Instant, duration, date, time of day". Outside they are pairs of signed numbers, seconds and nanoseconds.
 -- Inside, an instant is the number of nanoseconds from -10400-01-01T00:00:00Z, and a duration a sign and a number of nanoseconds.
+use mathlib.Core.Path.{_≡_, refl}
 use mathlib.Core.Bool.{Bool, true, false, not, _&&_, _||_}
 use mathlib.Core.List.{List, [], _∷_}
 use Prim.Native.Nat.{ℕ, suc, _+_, _*_, _-_, _/_, _%_, _^_}
@@ -16,6 +17,15 @@ epoch = 390359520000
 abbrev pub second : ℕ
 second = 1000000000
 
+-- "Time of day: second 0 to 86,399"
+abbrev pub daySeconds : ℕ
+daySeconds = 86400
+
+-- of a window
+abbrev pub weekSeconds : ℕ
+weekSeconds = 604800
+
+-- in nanoseconds
 abbrev pub day : ℕ
 day = 86400000000000
 
@@ -23,11 +33,20 @@ abbrev pub week : ℕ
 week = 604800000000000
 
 -- "First: -377,705,023,201 s, 0 ns. Last: 253,402,207,200 s, 999,999,999 ns."
+abbrev pub firstSecond : ℕ
+firstSecond = 12654496799
+
+abbrev pub lastSecond : ℕ
+lastSecond = 643761727200
+
+range-seconds : (firstSecond + 377705023201 ≡ epoch) × (lastSecond ≡ epoch + 253402207200)
+range-seconds = (refl, refl)
+
 abbrev pub firstInstant : ℕ
-firstInstant = (epoch - 377705023201) * second
+firstInstant = firstSecond * second
 
 abbrev pub lastInstant : ℕ
-lastInstant = (epoch + 253402207200) * second + 999999999
+lastInstant = lastSecond * second + 999999999
 
 -- ---- signed numbers
 
@@ -50,7 +69,7 @@ secondFrom (negsuc n) = epoch - suc n
 -- Refusal 8: "instant or its nanoseconds out of range"
 unfoldable pub instantOf : ℤ → ℤ → Answer ℕ
 instantOf s n =
-    orRefuse 8 0 (given (isIn (firstInstant / second) (lastInstant / second) (secondFrom s) && (not (isBelow0 n) && ltb (natAbs n) second))
+    orRefuse 8 0 (given (isIn firstSecond lastSecond (secondFrom s) && (not (isBelow0 n) && ltb (natAbs n) second))
     (secondFrom s * second + natAbs n))
 
 -- the seconds, counted from 1970, and the nanoseconds of an instant

@@ -3,6 +3,7 @@ pub mod Bytes
 pub mod Calendar
 pub mod Answer
 pub mod Instant
+pub mod Offset
 pub mod Directory
 pub mod Pack
 pub mod Footer

@@ -7,13 +7,14 @@ use lib.Dec.{leb, ltb, eqb}
 use lib.ListN.{length, getD}
 use lib.IntN.{ℤ, pos, negsuc}
 use Rattle.model.specs.Basic.{if_then_else_, _>>=_, given, isIn, all, each, joined, sameList}
-use Rattle.model.specs.Bytes.{text}
+use Rattle.model.specs.Bytes.{text, newline}
 use Rattle.model.specs.Instant.{signed}
 use Rattle.model.specs.Answer.{Answer, gives, refuses}
 use Rattle.model.specs.Working.{Schedule}
 use Rattle.model.specs.Build.{build}
 use Rattle.model.specs.Walk.{Way, on, back}
 use Rattle.model.specs.Calls.{Reply, betweenCall, moveCall, periodCall}
+use Prim.Native.Char.{code}
 
 -- c before the first line
 abbrev pub onFirst : ℕ → List (List ℕ) → List (List ℕ)
@@ -23,26 +24,26 @@ onFirst c (l ∷ ls) = (c ∷ l) ∷ ls
 -- the lines, each ended by a newline or by the end of the text
 unfoldable pub linesOf : List ℕ → List (List ℕ)
 linesOf [] = []
-linesOf (c ∷ s) = let r = linesOf s in if eqb c 10 then [] ∷ r else onFirst c r
+linesOf (c ∷ s) = let r = linesOf s in if eqb c newline then [] ∷ r else onFirst c r
 
 -- "one space apart"
 unfoldable pub fieldsOf : List ℕ → List (List ℕ)
 fieldsOf [] = [] ∷ []
-fieldsOf (c ∷ s) = let r = fieldsOf s in if eqb c 32 then [] ∷ r else onFirst c r
+fieldsOf (c ∷ s) = let r = fieldsOf s in if eqb c (code " ") then [] ∷ r else onFirst c r
 
 unfoldable pub decimalFrom : ℕ → List ℕ → ℕ
 decimalFrom v [] = v
-decimalFrom v (c ∷ s) = decimalFrom (v * 10 + (c - 48)) s
+decimalFrom v (c ∷ s) = decimalFrom (v * 10 + (c - code "0")) s
 
 -- "Fields are decimal, minus allowed"; not "a number outside signed 64 bits"
 unfoldable pub magnitude : Bool → List ℕ → Option ℤ
 magnitude minus s =
     let n = decimalFrom 0 s in
-    given (ltb 0 (length s) && (all (isIn 48 57) s && leb n (if minus then 2 ^ 63 else 2 ^ 63 - 1))) (signed minus n)
+    given (ltb 0 (length s) && (all (isIn (code "0") (code "9")) s && leb n (if minus then 2 ^ 63 else 2 ^ 63 - 1))) (signed minus n)
 
 unfoldable pub numberOf : List ℕ → Option ℤ
 numberOf [] = none
-numberOf (c ∷ s) = if eqb c 45 then magnitude true s else magnitude false (c ∷ s)
+numberOf (c ∷ s) = if eqb c (code "-") then magnitude true s else magnitude false (c ∷ s)
 
 pub data Query : Type 0 where
   askBetween : ℤ → ℤ → ℤ → ℤ → Query
@@ -77,12 +78,12 @@ replyTo s (askPeriod w a b) = periodCall w s a b
 
 unfoldable pub digitsFrom : ℕ → ℕ → List ℕ → List ℕ
 digitsFrom zero n l = l
-digitsFrom (suc k) n l = let r = digitsFrom k (n / 10) ((48 + n % 10) ∷ l) in if ltb n 10 then (48 + n) ∷ l else r
+digitsFrom (suc k) n l = let r = digitsFrom k (n / 10) ((code "0" + n % 10) ∷ l) in if ltb n 10 then (code "0" + n) ∷ l else r
 
 -- a space and the number
 unfoldable pub shown : ℤ → List ℕ
-shown (pos n) = 32 ∷ digitsFrom 20 n []
-shown (negsuc n) = 32 ∷ 45 ∷ digitsFrom 20 (suc n) []
+shown (pos n) = code " " ∷ digitsFrom 20 n []
+shown (negsuc n) = code " " ∷ code "-" ∷ digitsFrom 20 (suc n) []
 
 -- "Of all answers the window count alone isn't fixed": `count` says what is printed, given the least and the most that are right
 abbrev pub Count : Type 0

@@ -1,15 +1,11 @@
 -- The next change of a zone's offset after a second.
 use mathlib.Core.Bool.{Bool}
 use mathlib.Core.Option.{Option, none, some}
-use Prim.Native.Nat.{ℕ, zero, suc, _-_, _/_}
+use Prim.Native.Nat.{ℕ, zero, suc, _-_}
 use Rattle.model.specs.Basic.{if_then_else_}
-use Rattle.model.specs.Instant.{second, lastInstant}
+use Rattle.model.specs.Instant.{lastSecond}
 use Rattle.model.specs.Tzif.{Zone}
 use Rattle.model.specs.Zone.{isChange}
-
--- the last second of the range: "Last: 253,402,207,200 s, 999,999,999 ns."
-abbrev pub lastSecond : ℕ
-lastSecond = lastInstant / second
 
 -- the first of the n seconds from v on at which the test passes
 unfoldable pub firstOf : (ℕ → Bool) → ℕ → ℕ → Option ℕ
@@ -17,7 +13,7 @@ firstOf t v zero = none
 firstOf t v (suc n) = let r = firstOf t (suc v) n in if t v then some v else r
 
 -- the first second after u, up to the last of the range, at which the zone's offset differs from its offset a second before; none if there is no such second.
--- Computing it goes from second to second; crate next_change, NextLaws, has what it means (`next-means`) and a shorter way to compute it (`steady-next`)
+-- Computing it goes from second to second; crate zone_next_change, NextLaws, has what it means (`next-means`) and a shorter way to compute it (`steady-next`)
 unfoldable pub nextChange : Zone → ℕ → Option ℕ
 nextChange z u = firstOf (isChange z) (suc u) (lastSecond - u)
 

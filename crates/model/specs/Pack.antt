@@ -3,11 +3,12 @@
 use mathlib.Core.Bool.{Bool, _&&_}
 use mathlib.Core.Option.{Option, none, some}
 use mathlib.Core.List.{List, [], _∷_, map}
-use Prim.Native.Nat.{ℕ, _+_}
+use Prim.Native.Nat.{ℕ, _+_, _-_}
 use lib.Dec.{leb}
 use lib.ListN.{length, take, drop}
 use Rattle.model.specs.Basic.{if_then_else_, _>>=_, given, need, isIn, each, sameList}
 use Rattle.model.specs.Directory.{Part, partsOf, countOf}
+use Prim.Native.Char.{code}
 
 pub record Named : Type 0 where
   pub name : List ℕ
@@ -23,7 +24,7 @@ packOf b = need (leb (countOf b) 1024) >>= λ _. partsOf b >>= λ l. each (λ (p
 
 -- an ASCII letter in lower case, any other byte as it is
 unfoldable pub lower : ℕ → ℕ
-lower c = if isIn 65 90 c then c + 32 else c
+lower c = if isIn (code "A") (code "Z") c then c + (code "a" - code "A") else c
 
 unfoldable pub sameName : List ℕ → List ℕ → Bool
 sameName a b = sameList (map lower a) (map lower b)

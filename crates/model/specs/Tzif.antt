@@ -7,21 +7,10 @@ use Prim.Native.Nat.{ℕ, _+_, _*_, _-_, _^_}
 use lib.Dec.{leb, ltb, eqb}
 use lib.ListN.{length, getD, take, drop}
 use Rattle.model.specs.Basic.{if_then_else_, _>>=_, given, need, isIn, all, sameList}
-use Rattle.model.specs.Bytes.{be, words, pieces, lifted}
+use Rattle.model.specs.Bytes.{be, words, pieces, lifted, newline}
 use Rattle.model.specs.Instant.{epoch}
+use Rattle.model.specs.Offset.{offsetBias, greatestOffset}
 use Rattle.model.specs.Footer.{Footer, footerOf}
-
--- what is added to every offset, so that none is negative: 26 hours
-abbrev pub offsetBias : ℕ
-offsetBias = 93600
-
--- "offsets from -93,599 to 93,599 s": the greatest, with the 26 hours added; the least is 1
-abbrev pub greatestOffset : ℕ
-greatestOffset = 187199
-
--- the latest time that a footer may write, 24:59:59, in seconds
-abbrev pub latestClock : ℕ
-latestClock = 89999
 
 -- "1 to 256 types, at most 2,048 transitions"
 abbrev pub mostTypes : ℕ
@@ -40,9 +29,6 @@ typeSize = 6
 -- the bytes "TZif" as one number
 abbrev pub magic : ℕ
 magic = 0x545A6966
-
-abbrev pub newline : ℕ
-newline = 10
 
 -- a header's version and counts
 pub record Header : Type 0 where

@@ -6,7 +6,8 @@ use Prim.Native.Nat.{ℕ, _+_, _-_, _/_}
 use lib.Dec.{leb, ltb}
 use Rattle.model.specs.Basic.{if_then_else_, among, filter, run, joined}
 use Rattle.model.specs.Calendar.{weekday, contains, firstDay, lastDay}
-use Rattle.model.specs.Instant.{second, lastInstant}
+use Rattle.model.specs.Instant.{second, daySeconds, lastInstant}
+use Rattle.model.specs.Offset.{offsetBias}
 use Rattle.model.specs.Tzif.{Zone}
 use Rattle.model.specs.Zone.{offsetAt, resolve}
 use Rattle.model.specs.Book.{Hours}
@@ -41,7 +42,7 @@ holidayRule h = record { zone = h .zone; on = among (h .dates); from = 0; to = 0
 
 -- the local date at an instant
 unfoldable pub localDay : Zone → ℕ → ℕ
-localDay z t = (t / second + offsetAt z (t / second) - 93600) / 86400
+localDay z t = (t / second + offsetAt z (t / second) - offsetBias) / daySeconds
 
 -- "from two dates before the local date at the window's start to one after the local date at its end instant .. If either step back fails,
 -- it begins at the local date of the window's start; if the step on fails, it ends at the local date of the window's end."

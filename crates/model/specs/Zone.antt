@@ -6,18 +6,19 @@ use Prim.Native.Nat.{ℕ, _+_, _*_, _-_, _/_, _%_}
 use lib.Dec.{leb, ltb, eqb}
 use Rattle.model.specs.Basic.{if_then_else_, any, filter, maximum, leastOr, run}
 use Rattle.model.specs.Calendar.{yearOf, dayOfYearZero}
-use Rattle.model.specs.Instant.{second, firstInstant, lastInstant}
+use Rattle.model.specs.Instant.{second, daySeconds, firstInstant, lastInstant}
+use Rattle.model.specs.Offset.{offsetBias, greatestOffset}
 use Rattle.model.specs.Footer.{Footer, empty, fixed, rules, changeIn}
 use Rattle.model.specs.Tzif.{Zone, Change}
 
 -- Without a default zone record "it is UTC"
 abbrev pub utc : Zone
-utc = record { initial = 93600; changes = []; footer = empty }
+utc = record { initial = offsetBias; changes = []; footer = empty }
 
 -- ---- the offset at an instant
 
 abbrev pub yearAt : ℕ → ℕ
-yearAt u = yearOf (u / 86400)
+yearAt u = yearOf (u / daySeconds)
 
 -- the latest change of any year at or before u: those of u's year, of two years before it and of one after it are enough
 unfoldable pub latest : (ℕ → ℕ) → ℕ → ℕ
@@ -73,7 +74,7 @@ jumps z l e = leb (e + offsetAt z (e - 1)) l && ltb l (e + offsetAt z e)
 -- before it." Such instants and changes lie in the 187,199 s before l; the offsets there are the one at the start and those at the changes
 unfoldable pub secondOf : Zone → ℕ → ℕ
 secondOf z l =
-    let a = l - 187200 in
+    let a = l - (greatestOffset + 1) in
     let es = changesIn z a l in
     leastOr (l - offsetAt z (leastOr 0 (filter (jumps z l) es) - 1))
     (filter (reads z l) (map (λ e. l - offsetAt z e) (a ∷ es)))
@@ -81,7 +82,7 @@ secondOf z l =
 -- the instant of a time of day (in nanoseconds) on a day. "Beyond the range it becomes the first instant for negative years, else the last."
 unfoldable pub resolve : Zone → ℕ → ℕ → ℕ
 resolve z d time =
-    let t = secondOf z (d * 86400 + time / second + 93600) * second + time % second in
+    let t = secondOf z (d * daySeconds + time / second + offsetBias) * second + time % second in
     if leb firstInstant t && leb t lastInstant then t else (if ltb d dayOfYearZero then firstInstant else lastInstant)
 
 unfoldable pub zones : Unit {0}

@@ -8,7 +8,8 @@ use lib.Dec.{ltb}
 use lib.IntN.{ℤ, pos, negsuc, _-ℤ_, natAbs}
 use Rattle.model.specs.Basic.{given}
 use Rattle.model.specs.Calendar.{isDate, dayNumber}
-use Rattle.model.specs.Instant.{second, isBelow0, instantOf, instant}
+use Rattle.model.specs.Instant.{second, daySeconds, isBelow0, instantOf, instant}
+use Rattle.model.specs.Offset.{offsetBias}
 use Rattle.model.specs.Tzif.{Zone, zoneOf}
 use Rattle.model.specs.Zone.{offsetAt, resolve}
 use Rattle.model.specs.Answer.{Answer, gives, _>>=_, orRefuse}
@@ -22,7 +23,7 @@ zoneIn file = orRefuse 5 0 (zoneOf file)
 
 -- seconds east of Greenwich, of an offset that is kept with 93,600 added
 unfoldable pub east : ℕ → ℤ
-east o = pos o -ℤ pos 93600
+east o = pos o -ℤ pos offsetBias
 
 -- "Offset at an instant: type 0 before the first transition; .."
 unfoldable pub offsetCall : List ℕ → ℤ → ℤ → Answer ℤ
@@ -55,7 +56,7 @@ dayGiven y m d =
 -- a time of day in nanoseconds. "Time of day: second 0 to 86,399 and nanoseconds."
 unfoldable pub timeGiven : ℤ → ℤ → Answer ℕ
 timeGiven s n =
-    orRefuse 8 0 (given (not (isBelow0 s || isBelow0 n) && (ltb (natAbs s) 86400 && ltb (natAbs n) second)) (natAbs s * second + natAbs n))
+    orRefuse 8 0 (given (not (isBelow0 s || isBelow0 n) && (ltb (natAbs s) daySeconds && ltb (natAbs n) second)) (natAbs s * second + natAbs n))
 
 -- "`resolve`: a local time takes the earliest instant that reads so, .."
 unfoldable pub resolveCall : List ℕ → ℤ → ℤ → ℤ → ℤ → ℤ → Answer (List ℤ)

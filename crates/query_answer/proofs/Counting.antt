@@ -15,7 +15,7 @@ use Rattle.model.specs.Calls.{Reply, betweenCall, moved, moveCall, turned, peri
 use Rattle.model.specs.Bytes.{text}
 use Rattle.model.specs.Lines as model
 use Rattle.model.specs.Lines.{Count, printed, replyTo, replyIn, leastOnly}
-use Rattle.laws_base.specs.Test.{clash}
+use Rattle.laws_base.specs.Test.{clash, never}
 use Rattle.model.specs.Build.{build}
 use Rattle.rule.specs.Rules.{scheduleIs}
 use Rattle.build.specs.declared.Built.{Built}
@@ -60,9 +60,6 @@ move-counted w s a b c d =
     and-then (durationOf c d) _
     (λ e.
     either (e .minus) _ _ (and-then (negated e) _ (λ f. moved-counted (turned w) s t (f .size))) (moved-counted w s t (e .size))))
-
-never : {P : Type 0} → _≡_ {A = ℕ} 0 1 → P
-never z = absurd (omega arith)
 
 time-text : (r : TimeAnswer) (a : Answer Reply) → Counted a → timeIs r ≡ said a → Windows (timeCount r) a → timeText r ≡ printed leastOnly a
 unfolding printed

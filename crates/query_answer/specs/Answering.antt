@@ -47,8 +47,8 @@ abbrev pub refusedText : ℕ → ℕ → Query → List ℕ
 refusedText n p q = replyIn leastOnly (refuses n p) (queryIs q)
 
 -- the line of a query to a schedule of the code is written
-abbrev pub Answered : List ℕ → List ℕ → Schedule → Query → List ℕ → List ℕ → ℕ → ℕ → Type 0
-Answered book pack s q old new at end = PlacedLine old new at end (replyIn leastOnly (gives (scheduleIs book pack s)) (queryIs q))
+abbrev pub LineAnswered : List ℕ → List ℕ → Schedule → Query → List ℕ → List ℕ → ℕ → ℕ → Type 0
+LineAnswered book pack s q old new at end = PlacedLine old new at end (replyIn leastOnly (gives (scheduleIs book pack s)) (queryIs q))
 
 -- the line of a query to a book and a pack is written
 abbrev pub Replied : List ℕ → List ℕ → Query → List ℕ → List ℕ → ℕ → ℕ → Type 0

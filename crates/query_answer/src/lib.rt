@@ -4,7 +4,7 @@ ghost use Prim.Native.Nat.{_+_, _≤_};
 ghost use lib.ListN.{length};
 ghost use Rattle.rule.specs.Rules.{ScheduleFits};
 ghost use Rattle.answer_line.specs.Placed.{longest, PlacedLine};
-ghost use Rattle.query_answer.specs.Answering.{timeText, movedText, periodText, isBad, refusedText, Stands, Answered, Replied};
+ghost use Rattle.query_answer.specs.Answering.{timeText, movedText, periodText, isBad, refusedText, Stands, LineAnswered, Replied};
 use build::Built;
 use query_line::Query;
 use rule::Schedule;
@@ -67,7 +67,7 @@ fn put_period(out: &mut [u8], at: usize, r: PeriodAnswer) -> usize
 // The answer of a schedule that was built.
 fn put_answer(book: &[u8], pack: &[u8], s: Schedule, q: Query, out: &mut [u8], at: usize) -> usize
     requires { ⌜ ScheduleFits (now book) (now pack) s × (at + longest ≤ length (now out)) ⌝ }
-    ensures { λ e. ⌜ Answered (now (book .entry)) (now (pack .entry)) s q (now (out .entry)) (now (out .exit)) at e ⌝ }
+    ensures { λ e. ⌜ LineAnswered (now (book .entry)) (now (pack .entry)) s q (now (out .entry)) (now (out .exit)) at e ⌝ }
 {
     match q {
         Query::Between(a, b, c, d) => {

@@ -27,11 +27,11 @@ all-bytes (c ∷ s) h =
     by-test (ltb c 256) (λ e. (ltb-true c 256 e, all-bytes s (rw e at h))) (λ e. clash false (rw e at h) refl)
 
 -- the bytes of the first field
-abbrev Firsts : List (List ℕ) → Type 0
+abbrev pub Firsts : List (List ℕ) → Type 0
 Firsts [] = Unit {0}
 Firsts (f ∷ l) = Bytes f
 
-firsts-more : (c : ℕ) (l : List (List ℕ)) → c < 256 → Firsts l → Firsts (onFirst c l)
+pub firsts-more : (c : ℕ) (l : List (List ℕ)) → c < 256 → Firsts l → Firsts (onFirst c l)
 firsts-more c [] h g = (h, tt)
 firsts-more c (f ∷ l) h g = (h, g)
 

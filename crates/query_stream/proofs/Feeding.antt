@@ -13,9 +13,10 @@ use Rattle.model.specs.Working.{Schedule}
 use Rattle.query_line.specs.Reading.{Bytes}
 use Rattle.answer_line.specs.Placed.{longest, Placed}
 use Rattle.answer_line.proofs.Placing.{placed-more}
-use Rattle.query_stream.specs.Streaming.{newline, toCome, Turned, Fed}
+use Rattle.query_stream.specs.Streaming.{toCome, Turned, Fed}
 use Rattle.query_stream.specs.declared.Progress.{Progress}
 use Rattle.query_stream.proofs.Lines.{placed-none}
+use Rattle.model.specs.Bytes.{newline}
 
 -- ---- bytes
 

@@ -16,17 +16,11 @@ use Rattle.laws_base.specs.Test.{by-test}
 use Rattle.query_line.specs.Reading.{Bytes, yet}
 use Rattle.query_line.specs.declared.Line.{Line}
 use Rattle.answer_line.specs.Placed.{Placed}
-use Rattle.query_stream.specs.Streaming.{outYet, newline}
+use Rattle.query_stream.specs.Streaming.{outYet}
+use Rattle.query_line.proofs.Starting.{Firsts, firsts-more}
+use Rattle.model.specs.Bytes.{newline}
 
 -- ---- lines of bytes
-
-abbrev Firsts : List (List ℕ) → Type 0
-Firsts [] = Unit {0}
-Firsts (l ∷ ls) = Bytes l
-
-firsts-more : (c : ℕ) (ls : List (List ℕ)) → c < 256 → Firsts ls → Firsts (onFirst c ls)
-firsts-more c [] h g = (h, tt)
-firsts-more c (l ∷ ls) h g = (h, g)
 
 firsts : (s : List ℕ) → Bytes s → Firsts (linesOf s)
 unfolding linesOf

@@ -14,6 +14,7 @@ use Rattle.query_line.specs.Reading.{Bytes, yet}
 use Rattle.query_line.specs.declared.Line.{Line}
 use Rattle.answer_line.specs.Placed.{longest, Placed}
 use Rattle.query_stream.specs.declared.Progress.{Progress}
+use Rattle.model.specs.Bytes.{newline}
 
 -- The text still to come where `line` is partly read and these lines follow, the first of them its rest. `begun` tells whether `line` has a
 -- byte: a line that has none counts only where its newline comes.
@@ -26,18 +27,14 @@ outYet a line begun (l ∷ ls) = replyIn leastOnly a (yet line l) ++ joined (map
 abbrev pub toCome : Answer Schedule → Progress → List ℕ → List ℕ
 toCome a p s = outYet a (p .line) (p .begun) (linesOf s)
 
--- the byte that ends a line
-abbrev pub newline : ℕ
-newline = 10
-
 -- nothing is read yet: all answers to the bytes that follow are still to come
 abbrev pub Begun : Progress → Type 0
 Begun r =
     ((s : List ℕ) (a : Answer Schedule) → Bytes s → toCome a r s ≡ answered leastOnly a s) × ((r .next ≡ 0) × (r .used ≡ 0))
 
 -- `out` has room for one more line, and the bytes read can be counted
-abbrev pub HasRoom : Progress → List ℕ → Type 0
-HasRoom p out = (p .used + longest ≤ length out) × (p .next < 2 ^ 64 - 1)
+abbrev pub HasLineRoom : Progress → List ℕ → Type 0
+HasLineRoom p out = (p .used + longest ≤ length out) × (p .next < 2 ^ 64 - 1)
 
 -- p becomes r by reading one byte: `text` is written from p's place on, and no other byte changes
 pub record Turned (a : Answer Schedule) (old new : List ℕ) (p : Progress) (byte : ℕ) (r : Progress) : Type 0 where

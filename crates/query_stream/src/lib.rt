@@ -6,7 +6,8 @@ ghost use Prim.Native.Nat.{_-_, _^_, _≤_, _<_};
 ghost use lib.ListN.{length};
 ghost use Rattle.answer_line.specs.Placed.{longest};
 ghost use Rattle.query_answer.specs.Answering.{Stands};
-ghost use Rattle.query_stream.specs.Streaming.{newline, Begun, HasRoom, LineEnded, LineGoesOn, FedBy, Ended};
+ghost use Rattle.query_stream.specs.Streaming.{Begun, HasLineRoom, LineEnded, LineGoesOn, FedBy, Ended};
+ghost use Rattle.model.specs.Bytes.{newline};
 use answer_line::LONGEST;
 use build::Built;
 use query_line::Line;
@@ -33,7 +34,7 @@ pub fn begin() -> Progress
 
 // Reads a newline: it ends the line at hand, whose answer is written.
 fn end_line(book: &[u8], pack: &[u8], b: Built, p: Progress, out: &mut [u8]) -> Progress
-    requires { ⌜ Stands (now book) (now pack) b × HasRoom p (now out) ⌝ }
+    requires { ⌜ Stands (now book) (now pack) b × HasLineRoom p (now out) ⌝ }
     ensures { λ r. ⌜ LineEnded (now (book .entry)) (now (pack .entry)) (now (out .entry)) (now (out .exit)) p r ⌝ }
 {
     let line = p.line;

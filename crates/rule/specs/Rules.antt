@@ -10,10 +10,11 @@ use Rattle.book_dates.specs.Days.{datesAt}
 use Rattle.book.specs.Limits.{mostWork, mostBreaks, mostHolidays}
 use Rattle.book.specs.Meaning.{weekdaySets}
 use Rattle.civil.specs.Dates.{timeIn, TimeFits}
-use Rattle.zone.specs.Zones.{meant, ZoneOk}
+use Rattle.zone.specs.Zones.{zoneIs, ZoneOk}
 use Rattle.rule.specs.declared.Rule.{Rule}
 use Rattle.rule.specs.declared.HolidayDates.{HolidayDates}
 use Rattle.rule.specs.declared.Schedule.{Schedule}
+use Rattle.laws_base.specs.Every.{Every}
 
 -- a part of the pack
 abbrev pub fileAt : List ℕ → ℕ → ℕ → List ℕ
@@ -22,10 +23,10 @@ fileAt p at len = take len (drop at p)
 -- a rule, the dates of a holiday record, and a schedule
 abbrev pub ruleIs : List ℕ → Rule → model.Rule
 ruleIs p r =
-    model.shiftRule (meant (fileAt p (r .at) (r .len)) (r .zone)) (record { days = r .days; from = timeIn (r .from); to = timeIn (r .to) })
+    model.shiftRule (zoneIs (fileAt p (r .at) (r .len)) (r .zone)) (record { days = r .days; from = timeIn (r .from); to = timeIn (r .to) })
 
 abbrev pub holidaysIs : List ℕ → List ℕ → HolidayDates → model.Holidays
-holidaysIs b p c = record { zone = meant (fileAt p (c .at) (c .len)) (c .zone); dates = distinct (datesAt b (c .dates) (c .count)) }
+holidaysIs b p c = record { zone = zoneIs (fileAt p (c .at) (c .len)) (c .zone); dates = distinct (datesAt b (c .dates) (c .count)) }
 
 abbrev pub scheduleIs : List ℕ → List ℕ → Schedule → model.Schedule
 scheduleIs b p s = record {
@@ -53,19 +54,14 @@ pub record HolidaysFit (b p : List ℕ) (c : HolidayDates) : Type 0 where
   pub opened : ZoneOk (fileAt p (c .at) (c .len)) (c .zone)
   pub inside : c .dates + 4 * c .count ≤ length b
 
--- P holds of each element
-abbrev pub All : {A : Type 0} → (A → Type 0) → List A → Type 0
-All P [] = Unit {0}
-All P (a ∷ l) = P a × All P l
-
 -- of a schedule
 pub record ScheduleFits (b p : List ℕ) (s : Schedule) : Type 0 where
   pub works : s .works ≤ mostWork
   pub pauses : s .pauses ≤ mostBreaks
   pub closings : s .closings ≤ mostHolidays
-  pub work-fits : All (RuleFits p) (take (s .works) (s .work))
-  pub breaks-fit : All (RuleFits p) (take (s .pauses) (s .breaks))
-  pub closed-fits : All (HolidaysFit b p) (take (s .closings) (s .closed))
+  pub work-fits : Every (RuleFits p) (take (s .works) (s .work))
+  pub breaks-fit : Every (RuleFits p) (take (s .pauses) (s .breaks))
+  pub closed-fits : Every (HolidaysFit b p) (take (s .closings) (s .closed))
   -- what every book within the limits makes: the search limit is 366 to 3,950 days, among other things
   pub well : BuiltWell (scheduleIs b p s)
   pub limit : s .limit ≤ mostLimit

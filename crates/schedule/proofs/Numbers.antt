@@ -10,7 +10,7 @@ use mir.Syntax.{w64}
 use mir.Val.{SFits, toZ, ofZ}
 use mir.Facts.{toZ-ofZ}
 use borrow.Author.Tests.{ltb-true}
-use Rattle.laws_base.specs.Test.{by-test, and-both, clash}
+use Rattle.laws_base.specs.Test.{by-test, and-both, clash, never}
 use Rattle.model.specs.Answer.{Answer, gives, refuses}
 use Rattle.model.specs.Instant as M
 use Rattle.model.specs.Instant.{second, lastInstant, isBelow0, areOpposite, durationOf, duration, negated}
@@ -22,9 +22,6 @@ use Rattle.instant_signed.specs.declared.DurationRead.the-variants as S
 use Rattle.instant_signed.specs.declared.Duration.{Duration}
 use Rattle.instant_signed.specs.declared.DurationMade.{DurationMade}
 use Rattle.instant_signed.specs.declared.DurationMade.the-variants as D
-
-never : {P : Type 0} → _≡_ {A = ℕ} 0 1 → P
-never z = absurd (omega arith)
 
 -- a signed number is the one that its 64 bits stand for
 whole : (s n : ℤ) → SFits w64 s → SFits w64 n → {A : Type 0} {r : A} (h : ℤ → ℤ → A) → r ≡ h (toZ w64 (ofZ w64 s)) (toZ w64 (ofZ w64 n)) → r ≡ h s n

@@ -17,11 +17,8 @@ use Rattle.model.specs.Walk.{Way, on, back, at, reach, begun, timeFrom, timeBet
 use Rattle.model.specs.Skip.{repeats, neededBetween, neededSearch, anyTime, someTime}
 use Rattle.model.specs.Calls.{Reply, betweenCall, moved, moveCall, turned}
 use Rattle.model.specs.Build.{build}
-use Rattle.laws_blocks.specs.Count.{span, cnt, bit}
-use Rattle.laws_blocks.specs.Totals.{lists-total}
-use Rattle.laws_blocks.specs.Members.{covers}
 use Rattle.laws_skip.specs.Skips.{needed-most}
-use Rattle.laws_skip.specs.Schedules.{working-lists, search-skipping}
+use Rattle.laws_skip.specs.Schedules.{working-most, search-skipping}
 use Rattle.laws_skip.specs.Books.{BuiltWell}
 use Rattle.walk_distance.specs.Distances.{wayOf}
 use Rattle.rule.specs.Rules.{scheduleIs}
@@ -31,26 +28,9 @@ use Rattle.instant.specs.declared.Instant.{Instant}
 use Rattle.walk_search.specs.Searches.{Counts, found-at}
 use Rattle.walk_search.specs.declared.Reached.{Reached}
 use Rattle.walk_search.specs.declared.Reached.the-variants as R
-use Rattle.schedule.specs.Answers.{Keeps}
+use Rattle.schedule.specs.Answers.{KeepsReply}
 
 -- ---- the working time between two instants is no more than the time between them
-
-bit-most : (b : Bool) → bit b ≤ 1
-bit-most true = omega arith
-bit-most false = omega arith
-
-count-most : (W : ℕ → Bool) (a n : ℕ) → cnt W a n ≤ n
-unfolding cnt
-count-most W a zero = omega arith
-count-most W a (suc n) = let h = count-most W a n in let k = bit-most (W (a + n)) in omega arith
-
-working-most : (s : Schedule) (lo hi : ℕ) → lo ≤ hi → total (working s lo hi) ≤ hi - lo
-unfolding span
-working-most s lo hi h =
-    let W = covers (working s lo hi) in
-    let e = lists-total W lo hi (working-lists s lo hi h) in
-    let k = count-most W lo (hi - lo) in
-    omega arith
 
 from-most : (s : Schedule) (n lo b : ℕ) → lo ≤ b → timeFrom n (working s) lo b ≤ b - lo
 unfolding timeFrom
@@ -70,27 +50,27 @@ time-fits s x a b h k e = let m = time-most s a b h in omega arith
 
 -- ---- an answer and what the definitions give
 
-pub refused : {d : Answer Reply} (n p : ℕ) → d ≡ refuses n p → Keeps (refuses n p) 0 d
+pub refused : {d : Answer Reply} (n p : ℕ) → d ≡ refuses n p → KeepsReply (refuses n p) 0 d
 refused n p e = rw e (refl, record { least = refl; most = omega arith })
 
-given-all : {d : Answer Reply} (v : List ℤ) (l m : ℕ) {c : ℕ} {u : Answer (List ℤ)} → d ≡ gives (record { values = v; windows = some (l, m) }) → u ≡ gives v → c ≡ l → l ≤ m → Keeps u c d
+given-all : {d : Answer Reply} (v : List ℤ) (l m : ℕ) {c : ℕ} {u : Answer (List ℤ)} → d ≡ gives (record { values = v; windows = some (l, m) }) → u ≡ gives v → c ≡ l → l ≤ m → KeepsReply u c d
 given-all v l m e f g h = rw e (f, record { least = g; most = omega arith })
 
 -- ---- between
 
 module _ (s : Schedule) (a₁ a₂ b₁ b₂ : ℤ) where
-  pub no-start : instantOf a₁ a₂ ≡ refuses 8 0 → Keeps (refuses 8 0) 0 (betweenCall s a₁ a₂ b₁ b₂)
+  pub no-start : instantOf a₁ a₂ ≡ refuses 8 0 → KeepsReply (refuses 8 0) 0 (betweenCall s a₁ a₂ b₁ b₂)
   unfolding betweenCall
   no-start e = refused 8 0 (rw e)
 
   module _ (a : ℕ) (ea : instantOf a₁ a₂ ≡ gives a) where
-    pub no-end : instantOf b₁ b₂ ≡ refuses 8 0 → Keeps (refuses 8 0) 0 (betweenCall s a₁ a₂ b₁ b₂)
+    pub no-end : instantOf b₁ b₂ ≡ refuses 8 0 → KeepsReply (refuses 8 0) 0 (betweenCall s a₁ a₂ b₁ b₂)
     unfolding betweenCall
     no-end e = refused 8 0 (rw (ea, e))
 
     module _ (b : ℕ) (eb : instantOf b₁ b₂ ≡ gives b) where
       pub time-turned : (u : Answer (List ℤ)) (c d : ℕ) → ltb b a ≡ true → d ≡ timeBetween s b a → u ≡ gives (duration (record { minus = true; size = d })) → c ≡ neededBetween s b a
-          → Keeps u c (betweenCall s a₁ a₂ b₁ b₂)
+          → KeepsReply u c (betweenCall s a₁ a₂ b₁ b₂)
       unfolding betweenCall
       time-turned u c d t ed eu ec =
           let h : b < a = ltb-true _ _ t in
@@ -100,7 +80,7 @@ module _ (s : Schedule) (a₁ a₂ b₁ b₂ : ℤ) where
           (needed-most (begun (a - b)) anyTime (ahead on s b) (λ x. repeats s (b + x)) (a - b) 0 0 0)
 
       pub time-onward : (u : Answer (List ℤ)) (c d : ℕ) → ltb b a ≡ false → d ≡ timeBetween s a b → u ≡ gives (duration (record { minus = false; size = d })) → c ≡ neededBetween s a b
-          → Keeps u c (betweenCall s a₁ a₂ b₁ b₂)
+          → KeepsReply u c (betweenCall s a₁ a₂ b₁ b₂)
       unfolding betweenCall
       time-onward u c d t ed eu ec =
           let h : a ≤ b = ltb-false _ _ t in
@@ -127,11 +107,11 @@ counts-at {w} {s} {t} {d} {r} {z} {c} k e = go (rw e at k)
     go (found-at h q) = (h, q)
 
 module _ (w : Way) (s : Schedule) (t d : ℕ) where
-  pub search-refused : (n p : ℕ) → refuses n p ≡ search w s t d → Keeps (refuses n p) 0 (moved w s t d)
+  pub search-refused : (n p : ℕ) → refuses n p ≡ search w s t d → KeepsReply (refuses n p) 0 (moved w s t d)
   unfolding moved
   search-refused n p e = refused n p (rw (← e))
 
-  pub search-found : {u : Answer (List ℤ)} {c : ℕ} (x : ℕ) → gives x ≡ search w s t d → u ≡ gives (instant (at w t x)) → c ≡ neededSearch w s t d x → Keeps u c (moved w s t d)
+  pub search-found : {u : Answer (List ℤ)} {c : ℕ} (x : ℕ) → gives x ≡ search w s t d → u ≡ gives (instant (at w t x)) → c ≡ neededSearch w s t d x → KeepsReply u c (moved w s t d)
   unfolding moved
   search-found x e eu ec =
       given-all (instant (at w t x)) (neededSearch w s t d x) (begun x) (rw (← e)) eu ec (needed-most (begun x) someTime (ahead w s t) (λ y. repeats s (at w t y)) (reach w t) 0 0 d)
@@ -143,41 +123,41 @@ turned-is true = refl
 turned-is false = refl
 
 module _ (b : Bool) (s : Schedule) (t₁ t₂ d₁ d₂ : ℤ) where
-  pub no-instant : instantOf t₁ t₂ ≡ refuses 8 0 → Keeps (refuses 8 0) 0 (moveCall (wayOf b) s t₁ t₂ d₁ d₂)
+  pub no-instant : instantOf t₁ t₂ ≡ refuses 8 0 → KeepsReply (refuses 8 0) 0 (moveCall (wayOf b) s t₁ t₂ d₁ d₂)
   unfolding moveCall
   no-instant e = refused 8 0 (rw e)
 
   module _ (t : ℕ) (et : instantOf t₁ t₂ ≡ gives t) where
-    pub no-duration : durationOf d₁ d₂ ≡ refuses 9 0 → Keeps (refuses 9 0) 0 (moveCall (wayOf b) s t₁ t₂ d₁ d₂)
+    pub no-duration : durationOf d₁ d₂ ≡ refuses 9 0 → KeepsReply (refuses 9 0) 0 (moveCall (wayOf b) s t₁ t₂ d₁ d₂)
     unfolding moveCall
     no-duration e = refused 9 0 (rw (et, e))
 
     module _ (m : Bool) (d : ℕ) (ed : durationOf d₁ d₂ ≡ gives (record { minus = m; size = d })) where
       -- a duration that is not negative
-      pub this-way : {u : Answer (List ℤ)} {c : ℕ} → m ≡ false → Keeps u c (moved (wayOf b) s t d) → Keeps u c (moveCall (wayOf b) s t₁ t₂ d₁ d₂)
+      pub this-way : {u : Answer (List ℤ)} {c : ℕ} → m ≡ false → KeepsReply u c (moved (wayOf b) s t d) → KeepsReply u c (moveCall (wayOf b) s t₁ t₂ d₁ d₂)
       unfolding moveCall
       this-way e k = rw (et, ed, e) k
 
       -- a negative one
-      pub other-way : {u : Answer (List ℤ)} {c : ℕ} → m ≡ true → negated (record { minus = true; size = d }) ≡ gives (record { minus = false; size = d }) → Keeps u c (moved (wayOf (not b)) s t d)
-          → Keeps u c (moveCall (wayOf b) s t₁ t₂ d₁ d₂)
+      pub other-way : {u : Answer (List ℤ)} {c : ℕ} → m ≡ true → negated (record { minus = true; size = d }) ≡ gives (record { minus = false; size = d }) → KeepsReply u c (moved (wayOf (not b)) s t d)
+          → KeepsReply u c (moveCall (wayOf b) s t₁ t₂ d₁ d₂)
       unfolding moveCall
       other-way e en k = rw (et, ed, e, en, turned-is b) k
 
       -- one that cannot be turned round
-      pub no-way : m ≡ true → negated (record { minus = true; size = d }) ≡ refuses 7 0 → Keeps (refuses 7 0) 0 (moveCall (wayOf b) s t₁ t₂ d₁ d₂)
+      pub no-way : m ≡ true → negated (record { minus = true; size = d }) ≡ refuses 7 0 → KeepsReply (refuses 7 0) 0 (moveCall (wayOf b) s t₁ t₂ d₁ d₂)
       unfolding moveCall
       no-way e en = refused 7 0 (rw (et, ed, e, en))
 
 -- ---- with the schedule built first
 
 module _ (b p : List ℕ) (r : Built) (e : answerIs b p r ≡ build b p) where
-  pub not-built : (f : Schedule → Answer Reply) → (r .number ≡ 0 → ⊥) → Keeps (refuses (r .number) (r .place)) 0 (build b p >>= f)
+  pub not-built : (f : Schedule → Answer Reply) → (r .number ≡ 0 → ⊥) → KeepsReply (refuses (r .number) (r .place)) 0 (build b p >>= f)
   not-built f h =
       let q : refuses (r .number) (r .place) ≡ build b p = rw (ne-eqb (r .number) 0 h) at e in
       refused (r .number) (r .place) (rw (← q))
 
-  pub when-built : (f : Schedule → Answer Reply) {u : Answer (List ℤ)} {c : ℕ} → r .number ≡ 0 → Keeps u c (f (scheduleIs b p (r .schedule))) → Keeps u c (build b p >>= f)
+  pub when-built : (f : Schedule → Answer Reply) {u : Answer (List ℤ)} {c : ℕ} → r .number ≡ 0 → KeepsReply u c (f (scheduleIs b p (r .schedule))) → KeepsReply u c (build b p >>= f)
   when-built f h k =
       let q : gives (scheduleIs b p (r .schedule)) ≡ build b p = rw h at e in
       rw (← q) k

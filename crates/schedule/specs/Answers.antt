@@ -40,16 +40,16 @@ moveCount (M.Refused n p) = 0
 -- ---- answers as the definitions reply
 
 -- the values v and the count of windows c are those of the definitions' reply d: the values are equal, and the count keeps the bounds
-abbrev pub Keeps : Answer (List ℤ) → ℕ → Answer Reply → Type 0
-Keeps v c d = (v ≡ said d) × Windows c d
+abbrev pub KeepsReply : Answer (List ℤ) → ℕ → Answer Reply → Type 0
+KeepsReply v c d = (v ≡ said d) × Windows c d
 
 -- an answer of `between` is as the definitions' reply d
 abbrev pub TimeAs : TimeAnswer → Answer Reply → Type 0
-TimeAs r d = Keeps (timeIs r) (timeCount r) d
+TimeAs r d = KeepsReply (timeIs r) (timeCount r) d
 
 -- and one of `add` or `sub`
 abbrev pub MoveAs : MoveAnswer → Answer Reply → Type 0
-MoveAs r d = Keeps (moveIs r) (moveCount r) d
+MoveAs r d = KeepsReply (moveIs r) (moveCount r) d
 
 -- ---- what the definitions reply
 

@@ -1,18 +1,17 @@
 -- Demand 3 over the numbers that the calls answer: it holds of every three functions that answer as the contracts of `between`, `add` and `sub`
--- promise. "Window counts stand outside demand 3." The sentences are those of crate `laws_demand3`, Demand3.antt.
+-- promise. "Window counts stand outside demand 3." Its sentences stand in crate `laws_demand3`, Demand3.antt.
 use mathlib.Core.Path.{_≡_, sym, _∙_}
 use mathlib.Core.List.{List}
 use Prim.Native.Nat.{ℕ}
-use lib.IntN.{ℤ, pos, _+ℤ_}
-use lib.Signed.{_≤ℤ_, _<ℤ_}
-use Rattle.model.specs.Answer.{gives, refuses}
+use lib.IntN.{ℤ}
+use Rattle.model.specs.Answer.{gives}
 use Rattle.model.specs.Working.{Schedule}
 use Rattle.model.specs.Build.{build}
 use Rattle.model.specs.Calls.{between, add, sub, said}
-use Rattle.laws_demand3.specs.Pairs.{Pair, nanos, IsInstant, IsDuration, shown}
-use Rattle.laws_demand3.specs.Zones.{Each, zonesOf, WithinDay}
-use Rattle.laws_demand3.specs.Demand3 as laws
-use Rattle.laws_demand3.specs.Demand3.{Given, demand-3}
+use Rattle.laws_demand3.specs.Pairs.{Pair, IsInstant, IsDuration}
+use Rattle.laws_demand3.specs.Zones.{zonesOf, WithinDay}
+use Rattle.laws_base.specs.Every.{Every}
+use Rattle.laws_demand3.specs.Demand3.{Calls, WorkingTime, Added, Demand3, asDefined, demand-3}
 use Rattle.schedule.specs.declared.TimeAnswer.{TimeAnswer}
 use Rattle.schedule.specs.declared.MoveAnswer.{MoveAnswer}
 use Rattle.schedule.specs.Answers.{timeIs, moveIs}
@@ -25,45 +24,23 @@ module _ (timeOf : Pair → Pair → TimeAnswer) (addOf : Pair → Pair → Move
     pub adds : (t d : Pair) → IsInstant t → IsDuration d → moveIs (addOf t d) ≡ said (add book pack (t .sec) (t .ns) (d .sec) (d .ns))
     pub subs : (t d : Pair) → IsInstant t → IsDuration d → moveIs (subOf t d) ≡ said (sub book pack (t .sec) (t .ns) (d .sec) (d .ns))
 
-  -- working time from a to b is w
-  abbrev pub WorkingTime : Pair → Pair → ℤ → Type 0
-  WorkingTime a b w = (d : Pair) × (timeIs (timeOf a b) ≡ gives (shown d)) × (nanos d ≡ w)
-
-  -- if adding d to t gives x, then
-  pub record Added (t d x : Pair) : Type 0 where
-    -- "x is the earliest of all instants to which working time from t is exactly d;"
-    pub instant : IsInstant x
-    pub exact : WorkingTime t x (nanos d)
-    pub earliest : (y : Pair) → IsInstant y → WorkingTime t y (nanos d) → nanos x ≤ℤ nanos y
-    -- "taking d off x is not refused and gives a z at or after t, with zero working time from t to z;"
-    pub z : Pair
-    pub taken : moveIs (subOf x d) ≡ gives (shown z)
-    pub instant-z : IsInstant z
-    pub after : nanos t ≤ℤ nanos z
-    pub idle : WorkingTime t z (pos 0)
-    -- "adding d to z gives x again;"
-    pub again : moveIs (addOf z d) ≡ gives (shown x)
-    -- "and for every e >= 0 where d + e is a duration, adding e to x gives the very instant or refusal that adding d + e to t gives."
-    pub further : (e f : Pair) → IsDuration e → pos 0 ≤ℤ nanos e → IsDuration f → nanos f ≡ nanos d +ℤ nanos e → moveIs (addOf x e) ≡ moveIs (addOf t f)
-
-  pub record Demand3 : Type 0 where
-    -- "working time from a to c is that from a to b plus that from b to c, in whatever order they lie."
-    pub additive : (a b c : Pair) → Given a → Given b → Given c → (x y : ℤ) × WorkingTime a b x × WorkingTime b c y × WorkingTime a c (x +ℤ y)
-    -- "For every t and d > 0, if adding d to t gives x, then .."
-    pub added : (t d x : Pair) → Given t → IsDuration d → pos 0 <ℤ nanos d → moveIs (addOf t d) ≡ gives (shown x) → Added t d x
-    -- "If adding d to t is refused as out of range, there is no instant at all to which working time from t is d." "Out of range is 7."
-    pub beyond : (t d : Pair) (place : ℕ) → Given t → IsDuration d → pos 0 <ℤ nanos d → moveIs (addOf t d) ≡ refuses 7 place
-        → (y : Pair) → IsInstant y → WorkingTime t y (nanos d) → ⊥
+  -- in numbers
+  abbrev pub asAnswered : Calls
+  asAnswered = record {
+    between = λ a b. timeIs (timeOf a b);
+    adding = λ t d. moveIs (addOf t d);
+    takingOff = λ t d. moveIs (subOf t d);
+  }
 
   module _ (book pack : List ℕ) (k : AsPromised book pack) where
     -- working time by the answers is that by the definitions
-    out : {a b : Pair} {w : ℤ} → IsInstant a → IsInstant b → laws.WorkingTime book pack a b w → WorkingTime a b w
+    out : {a b : Pair} {w : ℤ} → IsInstant a → IsInstant b → WorkingTime (asDefined book pack) a b w → WorkingTime asAnswered a b w
     out {a} {b} i j h = (h .0, k .times a b i j ∙ h .1, h .2)
 
-    into : {a b : Pair} {w : ℤ} → IsInstant a → IsInstant b → WorkingTime a b w → laws.WorkingTime book pack a b w
+    into : {a b : Pair} {w : ℤ} → IsInstant a → IsInstant b → WorkingTime asAnswered a b w → WorkingTime (asDefined book pack) a b w
     into {a} {b} i j h = (h .0, sym (k .times a b i j) ∙ h .1, h .2)
 
-    out-added : (t d x : Pair) → IsInstant t → IsDuration d → laws.Added book pack t d x → Added t d x
+    out-added : (t d x : Pair) → IsInstant t → IsDuration d → Added (asDefined book pack) t d x → Added asAnswered t d x
     out-added t d x i j a = record {
       instant = a .instant;
       exact = out i (a .instant) (a .exact);
@@ -78,7 +55,7 @@ module _ (timeOf : Pair → Pair → TimeAnswer) (addOf : Pair → Pair → Move
     }
 
     -- "If a book builds, no zone of it has two offsets over 24 hours apart, and all instants given are from -9998-01-01T00:00Z on: .."
-    pub demand-3-answers : (s : Schedule) → build book pack ≡ gives s → Each WithinDay (zonesOf book pack) → Demand3
+    pub demand-3-answers : (s : Schedule) → build book pack ≡ gives s → Every WithinDay (zonesOf book pack) → Demand3 asAnswered
     demand-3-answers s e near =
         let h = demand-3 book pack s e near in
         record {

@@ -16,14 +16,16 @@ use Rattle.model.specs.Walk.{Way, on, back, reach, ahead, begun, search}
 use Rattle.model.specs.Skip.{anyTime, someTime}
 use Rattle.model.specs.Calls.{Reply, turned, betweenCall, moved, moveCall, between, add, sub, leastOf, mostOf}
 use Rattle.laws_demand3.specs.Pairs.{Pair}
-use Rattle.laws_demand3.specs.Zones.{Each, zonesOf, WithinDay}
+use Rattle.laws_demand3.specs.Zones.{zonesOf, WithinDay}
+use Rattle.laws_base.specs.Every.{Every}
 use Rattle.laws_skip.specs.Skips.{needed-most}
 use Rattle.schedule.specs.declared.TimeAnswer.{TimeAnswer}
 use Rattle.schedule.specs.declared.TimeAnswer.the-variants as T
 use Rattle.schedule.specs.declared.MoveAnswer.{MoveAnswer}
 use Rattle.schedule.specs.declared.MoveAnswer.the-variants as M
 use Rattle.schedule.specs.Answers.{TimeAs, MoveAs}
-use Rattle.schedule.specs.Demand.{AsPromised, Demand3, demand-3-answers}
+use Rattle.schedule.specs.Demand.{AsPromised, asAnswered, demand-3-answers}
+use Rattle.laws_demand3.specs.Demand3.{Demand3}
 
 -- ---- a reply of the definitions as an answer: its two numbers, and the least count of windows
 
@@ -114,5 +116,5 @@ module _ (book pack : List ℕ) where
   as-promised = record { times = λ a b _ _. time-promised a b .0; adds = λ t d _ _. add-promised t d .0; subs = λ t d _ _. sub-promised t d .0 }
 
   -- and it holds of them
-  pub demand-3-witness : (s : Schedule) → build book pack ≡ gives s → Each WithinDay (zonesOf book pack) → Demand3 timeOf addOf subOf
+  pub demand-3-witness : (s : Schedule) → build book pack ≡ gives s → Every WithinDay (zonesOf book pack) → Demand3 (asAnswered timeOf addOf subOf)
   demand-3-witness = demand-3-answers timeOf addOf subOf book pack as-promised

@@ -58,10 +58,10 @@ pub fn between_in(
     ensures { λ r. ⌜ TimeAs r (betweenIn (now (book .entry)) (now (pack .entry)) s «a_sec» «a_ns» «b_sec» «b_ns») ⌝ }
 {
     let InstantRead::At(a) = instant_signed::instant_of(a_sec, a_ns) else {
-        return TimeAnswer::Refused(8, 0);
+        return TimeAnswer::Refused(refusal::INSTANT_OUT_OF_RANGE, 0);
     };
     let InstantRead::At(b) = instant_signed::instant_of(b_sec, b_ns) else {
-        return TimeAnswer::Refused(8, 0);
+        return TimeAnswer::Refused(refusal::INSTANT_OUT_OF_RANGE, 0);
     };
     if instant::precedes(b, a) {
         return time_answer(true, walk_between::between(book, pack, s, b, a));
@@ -99,8 +99,8 @@ fn search(book: &[u8], pack: &[u8], s: Schedule, t: Instant, back: bool, d: Leng
 {
     match walk_search::search(book, pack, s, t, back, d) {
         Reached::At(x, windows) => moved_to(t, back, x, windows),
-        Reached::NoWork => MoveAnswer::Refused(6, 0),
-        Reached::OutOfRange => MoveAnswer::Refused(7, 0),
+        Reached::NoWork => MoveAnswer::Refused(refusal::NO_WORKING_TIME, 0),
+        Reached::OutOfRange => MoveAnswer::Refused(refusal::OUT_OF_RANGE, 0),
     }
 }
 
@@ -120,10 +120,10 @@ pub fn move_in(
     ensures { λ r. ⌜ MoveAs r (moveIn back (now (book .entry)) (now (pack .entry)) s «t_sec» «t_ns» «d_sec» «d_ns») ⌝ }
 {
     let InstantRead::At(t) = instant_signed::instant_of(t_sec, t_ns) else {
-        return MoveAnswer::Refused(8, 0);
+        return MoveAnswer::Refused(refusal::INSTANT_OUT_OF_RANGE, 0);
     };
     let DurationRead::Signed(minus, sec, ns) = instant_signed::duration_of(d_sec, d_ns) else {
-        return MoveAnswer::Refused(9, 0);
+        return MoveAnswer::Refused(refusal::DURATION_MALFORMED, 0);
     };
     let d = Length { sec, ns };
     if !minus {
@@ -134,8 +134,8 @@ pub fn move_in(
         nanos: d_ns,
     }) {
         DurationMade::Is(_) => search(book, pack, s, t, !back, d),
-        DurationMade::OutOfRange => MoveAnswer::Refused(7, 0),
-        DurationMade::Malformed => MoveAnswer::Refused(9, 0),
+        DurationMade::OutOfRange => MoveAnswer::Refused(refusal::OUT_OF_RANGE, 0),
+        DurationMade::Malformed => MoveAnswer::Refused(refusal::DURATION_MALFORMED, 0),
     }
 }
 

@@ -10,7 +10,7 @@ use lib.IntN.{ℤ}
 use lib.ListN.{length, take, length-append, length-map, length-take}
 use borrow.Author.Tests.{leb-true, leb-false, le-leb, lt-leb}
 use Rattle.laws_base.specs.Test.{by-test}
-use Rattle.model.specs.Instant.{second, day, week}
+use Rattle.model.specs.Instant.{second, day, week, weekSeconds}
 use Rattle.model.specs.Blocks.{Block}
 use Rattle.model.specs.Working as model
 use Rattle.model.specs.Working.{working, blocksOfAll, holidayRule}
@@ -70,13 +70,13 @@ listing-few b p s f lo hi k h = let x = stretches-few (scheduleIs b p s) (f .wel
 -- ---- numbers
 
 -- windows that are begun up to a span of so many seconds
-windows-few : (x d : ℕ) → x < (d + 1) * second → begun x ≤ d / 604800 + 1
+windows-few : (x d : ℕ) → x < (d + 1) * second → begun x ≤ d / weekSeconds + 1
 windows-few x d h = omega arith
 
 pub none-begun : (x m : ℕ) → x ≡ 0 → begun x * m ≤ 0
 none-begun x m e = let p : begun x ≡ 0 = omega arith in let q = zero-mul m in rw p (omega arith)
 
-pub some-begun : (x d m : ℕ) → x < (d + 1) * second → begun x * m ≤ (d / 604800 + 1) * m
+pub some-begun : (x d m : ℕ) → x < (d + 1) * second → begun x * m ≤ (d / weekSeconds + 1) * m
 some-begun x d m h = mul-le-mul-right m (windows-few x d h)
 
 pub product-fits : (w m : ℕ) → w ≤ 2000000 → m ≤ 560 → w * m ≤ 1120000000

@@ -18,29 +18,19 @@ use Rattle.laws_skip.specs.WindowEnds.{Inside}
 use Rattle.laws_skip.specs.Schedules.{working-inside}
 use Rattle.block.specs.Counted.{blockOf}
 use Rattle.block_pairs.specs.Pairs.{pairs}
-use Rattle.walk_list_week.specs.Stretched.{onFrom, ended, stillOpen, anyOpen, stored, Small, Below, Ready, Left}
+use Rattle.walk_list_week.specs.Stretched.{onFrom, ended, stillOpen, anyOpen, stored, SmallBlock, Below, StretchReady, Left}
 use Rattle.walk_list_week.specs.declared.Open.{Open}
 use Rattle.walk_distance.specs.Distances.{Short}
 use Rattle.walk_list_week.proofs.Joins.{from-append, ended-few}
 use Rattle.walk_list_week.proofs.Placing.{stored-append, stored-long}
 use Rattle.walk_list_week.proofs.Turns.{moved-long}
+use Rattle.laws_skip.specs.Loops.{begun-less}
 
 -- ---- the windows that are left
 
 -- the blocks of the windows from lo to b
 unfoldable pub ahead : Schedule → ℕ → ℕ → List Block
 ahead s lo b = listed (begun (b - lo)) (working s) lo b
-
--- one window less is begun behind it
-begun-less : (x y : ℕ) → x < y → begun (y - x) ≡ suc (begun (y - min (x + week) y))
-begun-less x y h = go (decLe (x + week) y)
-  where
-    go : Dec (x + week ≤ y) → begun (y - x) ≡ suc (begun (y - min (x + week) y))
-    go (yes k) = let e : min (x + week) y ≡ x + week = omega arith in rw e (more k)
-      where
-        more : x + week ≤ y → begun (y - x) ≡ suc (begun (y - (x + week)))
-        more k = omega arith
-    go (no k) = let e : min (x + week) y ≡ y = omega arith in rw e (omega arith)
 
 ahead-turn : (s : Schedule) (lo b hi : ℕ) → lo < b → hi ≡ min (lo + week) b → ahead s lo b ≡ working s lo hi ++ ahead s hi b
 unfolding ahead listed
@@ -55,7 +45,7 @@ ahead-done s lo b h = let e : begun (b - lo) ≡ 0 = omega arith in rw e
 pub range-last : (t : Instant) → InRange t → nanos t ≤ lastInstant
 range-last t r = let h = r .high in let n = r .ns in omega arith
 
-pub range-small : (t : Instant) → InRange t → Small (block (nanos t) (nanos t))
+pub range-small : (t : Instant) → InRange t → SmallBlock (block (nanos t) (nanos t))
 range-small t r = let h = r .high in let n = r .ns in (omega arith, omega arith)
 
 pub range-short : (t : Instant) → InRange t → Short t
@@ -87,14 +77,14 @@ below-of lo hi (b ∷ l) h i = ((omega arith, omega arith), below-of lo hi l h (
 -- at lo, c stretches have ended, and o is open if k says so
 pub record Walking (s : Schedule) (a b : ℕ) (w : Bool) (e : List ℤ) (lo : ℕ) (k : Bool) (o : Block) (c : ℕ) (out : List ℤ) : Type 0 where
   pub from : a ≤ lo
-  pub small : Small o
+  pub small : SmallBlock o
   pub few : lo < b → c * week ≤ 672 * (lo - a)
   pub most : c * week ≤ 672 * (lo - a) + 672 * week
   pub count : c + length (onFrom k o (ahead s lo b)) ≡ length (stretches s a b)
   pub long : length out ≡ length e
   pub same : stored w c (onFrom k o (ahead s lo b)) out ≡ stored w 0 (stretches s a b) e
 
-pub walking-starts : (s : Schedule) (a b : ℕ) (w : Bool) (e : List ℤ) (o : Block) → Small o → Walking s a b w e a false o 0 e
+pub walking-starts : (s : Schedule) (a b : ℕ) (w : Bool) (e : List ℤ) (o : Block) → SmallBlock o → Walking s a b w e a false o 0 e
 unfolding ahead onFrom
 walking-starts s a b w e o h = record { from = omega arith; small = h; few = λ p. omega arith; most = omega arith; count = omega arith; long = refl; same = refl }
 
@@ -125,7 +115,7 @@ module _ (s : Schedule) (a b : ℕ) (w : Bool) (e : List ℤ) (lo : ℕ) (o : Op
   ends-few = let u = ended-few (o .known) (blockOf (o .block)) l in let v = l-few in omega arith
 
   -- `join_window` may be called
-  pub walking-ready : b ≤ lastInstant → (w ≡ true → 4 * length (stretches s a b) ≤ length e) → Ready (moves lo (pairs n d)) o w out
+  pub walking-ready : b ≤ lastInstant → (w ≡ true → 4 * length (stretches s a b) ≤ length e) → StretchReady (moves lo (pairs n d)) o w out
   walking-ready i r =
       let u = m .few h in let g = m .from in
       record {

@@ -7,6 +7,7 @@ ghost use Rattle.instant.specs.Instant.{nanos, InRange};
 ghost use Rattle.rule.specs.Rules.{ScheduleFits};
 ghost use Rattle.schedule_listing.specs.Listings.{CanWalk, Puts, Suffices, Lists, listIn};
 ghost use Rattle.window_week.specs.Room.{HasRoom};
+ghost use Rattle.window_memory.specs.Sizes.{mostRules};
 use block::Block;
 use instant::Instant;
 use instant_signed::InstantRead;
@@ -92,7 +93,7 @@ fn walk(
 
 // No fewer than the stretches from a to b that so many rules can make: in a window each rule shows at most 14 dates, and of each date one block.
 fn at_most(rules: usize, a: Instant, b: Instant) -> usize
-    requires { ⌜ (rules ≤ 40) × InRange a × InRange b ⌝ }
+    requires { ⌜ (rules ≤ mostRules) × InRange a × InRange b ⌝ }
     ensures { λ r. ⌜ begun (nanos b - nanos a) * (14 * rules) ≤ r ⌝ }
 {
     if b.sec < a.sec {
@@ -107,7 +108,7 @@ fn has_room(book: &[u8], pack: &[u8], s: Schedule, a: Instant, b: Instant, out: 
     requires { ⌜ ScheduleFits (now book) (now pack) s × InRange a × InRange b ⌝ }
     ensures { λ r. ⌜ Suffices (now (book .entry)) (now (pack .entry)) s a b (now (out .entry)) (now (out .exit)) r ⌝ }
 {
-    let room = out.len() / 4;
+    let room = out.len() / walk_list_week::STRETCH_SIZE;
     if at_most(s.works + s.pauses + s.closings, a, b) <= room {
         return true;
     }
@@ -130,13 +131,13 @@ pub fn list_in(
         (listIn (now (book .entry)) (now (pack .entry)) s «a_sec» «a_ns» «b_sec» «b_ns» (now (out .entry))) ⌝ }
 {
     let InstantRead::At(a) = instant_signed::instant_of(a_sec, a_ns) else {
-        return Listing::Refused(8, 0);
+        return Listing::Refused(refusal::INSTANT_OUT_OF_RANGE, 0);
     };
     let InstantRead::At(b) = instant_signed::instant_of(b_sec, b_ns) else {
-        return Listing::Refused(8, 0);
+        return Listing::Refused(refusal::INSTANT_OUT_OF_RANGE, 0);
     };
     if !has_room(book, pack, s, a, b, out) {
-        return Listing::Refused(10, 0);
+        return Listing::Refused(refusal::TOO_FEW_NUMBERS, 0);
     }
     Listing::Count(walk(book, pack, s, a, b, true, out))
 }

@@ -23,8 +23,8 @@ periodIs (P.Is a b c d) = periodGiven (a ∷ b ∷ c ∷ d ∷ [])
 periodIs (P.Refused n k) = refuses n k
 
 -- `nextPeriod` of the definitions goes on, `previousPeriod` back: of a schedule that is built,
-abbrev pub periodIn : Bool → List ℕ → List ℕ → Schedule → ℤ → ℤ → Answer Reply
-periodIn back book pack s t₁ t₂ = periodCall (wayOf back) (scheduleIs book pack s) t₁ t₂
+abbrev pub periodAsked : Bool → List ℕ → List ℕ → Schedule → ℤ → ℤ → Answer Reply
+periodAsked back book pack s t₁ t₂ = periodCall (wayOf back) (scheduleIs book pack s) t₁ t₂
 
 -- and of a book and a pack
 abbrev pub periodOf : Bool → List ℕ → List ℕ → ℤ → ℤ → Answer Reply

@@ -9,7 +9,7 @@ ghost use Rattle.model.specs.Calls.{ends, nextPeriod, previousPeriod};
 ghost use Rattle.instant.specs.Instant.{nanos, Exact, InRange};
 ghost use Rattle.rule.specs.Rules.{ScheduleFits};
 ghost use Rattle.walk_distance.specs.Distances.{wayOf, Short};
-ghost use Rattle.schedule_periods.specs.Replies.{periodIs, periodGiven, periodIn, periodOf};
+ghost use Rattle.schedule_periods.specs.Replies.{periodIs, periodGiven, periodAsked, periodOf};
 use instant::Instant;
 use instant::Length;
 use instant_signed::InstantRead;
@@ -56,14 +56,14 @@ pub fn period_in(
     ns: i64,
 ) -> PeriodAnswer
     requires { ⌜ ScheduleFits (now book) (now pack) s ⌝ }
-    ensures { λ r. ⌜ periodIs r ≡ periodIn back (now (book .entry)) (now (pack .entry)) s sec ns ⌝ }
+    ensures { λ r. ⌜ periodIs r ≡ periodAsked back (now (book .entry)) (now (pack .entry)) s sec ns ⌝ }
 {
     let InstantRead::At(t) = instant_signed::instant_of(sec, ns) else {
-        return PeriodAnswer::Refused(8, 0);
+        return PeriodAnswer::Refused(refusal::INSTANT_OUT_OF_RANGE, 0);
     };
     match walk_period::period_walk(book, pack, s, t, back) {
-        Found::NoWork => PeriodAnswer::Refused(6, 0),
-        Found::OutOfRange => PeriodAnswer::Refused(7, 0),
+        Found::NoWork => PeriodAnswer::Refused(refusal::NO_WORKING_TIME, 0),
+        Found::OutOfRange => PeriodAnswer::Refused(refusal::OUT_OF_RANGE, 0),
         Found::Period(f, e) => period_at(t, back, f, e),
     }
 }

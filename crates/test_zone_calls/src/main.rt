@@ -8,9 +8,6 @@ use zone_calls::ChangeAnswer;
 use zone_calls::OffsetAnswer;
 use zone_calls::ResolveAnswer;
 
-// 2^63, which is added to every signed number.
-const HALF: u64 = 9223372036854775808;
-
 // The bytes of a question.
 const QUESTION_SIZE: usize = 52;
 
@@ -24,13 +21,13 @@ fn text(s: &[u8]) {
 // Writes a space and x.
 fn number(x: i64) {
     let k = instant_signed::lift(x);
-    if k < HALF {
+    if k < instant_signed::HALF {
         text(b" -");
-        io::print_decimal(STDOUT_FILENO, HALF - k);
+        io::print_decimal(STDOUT_FILENO, instant_signed::HALF - k);
         return;
     }
     text(b" ");
-    io::print_decimal(STDOUT_FILENO, k - HALF);
+    io::print_decimal(STDOUT_FILENO, k - instant_signed::HALF);
 }
 
 // Writes a refusal's number and place.

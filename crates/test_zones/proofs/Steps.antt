@@ -9,20 +9,20 @@ use native.Mathlib.Omega.{arith}
 use lib.Dec.{eqb}
 use borrow.Author.Tests.{lt-ltb, le-ltb, le-leb, lt-leb}
 use Rattle.big_endian.specs.Be.{be64}
-use Rattle.big_endian.specs.Walk.{pickN, countOf}
+use Rattle.big_endian.specs.Walk.{pickN, countBelow}
 use Rattle.model.specs.Zone.{secondOf}
 use Rattle.model.specs.NextChange.{nextChange}
 use Rattle.zone_next_change.specs.NextIs.{theNext}
 use Rattle.zone_next_change.specs.declared.Next.{Next}
 use Rattle.zone_next_change.specs.declared.Next.the-variants as N
-use Rattle.zone.specs.Zones.{meant}
+use Rattle.zone.specs.Zones.{zoneIs}
 use Rattle.zone.specs.declared.Zone.{Zone}
-use Rattle.test_zones.specs.Answers.{shifted, localAt, answerAt, isNext, agreesAt}
+use Rattle.test_zones.specs.Answers.{signedPlus, localAt, answerAt, isNext, agreesAt}
 use Rattle.laws_zone.specs.Sound.{firstLocal}
 use Rattle.instant.specs.Instant.{yearsEnd}
 
-pub shifted-is : (a : List ℕ) (i k : ℕ) {b r : ℕ} → b ≡ be64 a i → r ≡ (b + k) % 2 ^ 64 → r ≡ shifted a i k
-unfolding shifted
+pub shifted-is : (a : List ℕ) (i k : ℕ) {b r : ℕ} → b ≡ be64 a i → r ≡ (b + k) % 2 ^ 64 → r ≡ signedPlus a i k
+unfolding signedPlus
 shifted-is a i k e q = rw (← e) q
 
 -- the next change that the code gives
@@ -40,32 +40,32 @@ module _ (f : List ℕ) (z : Zone) (a : List ℕ) (i : ℕ) {x : ℕ} (e : x ≡
   unfolding agreesAt
   early h = rw (← e, lt-leb firstLocal x h)
 
-  pub beyond : {b : Bool} {y : ℕ} → firstLocal ≤ x → yearsEnd ≤ x → y ≡ answerAt a i → b ≡ isNext (nextChange (meant f z) (x - yearsEnd)) y → b ≡ agreesAt f z a i
+  pub beyond : {b : Bool} {y : ℕ} → firstLocal ≤ x → yearsEnd ≤ x → y ≡ answerAt a i → b ≡ isNext (nextChange (zoneIs f z) (x - yearsEnd)) y → b ≡ agreesAt f z a i
   unfolding agreesAt
   beyond {b} {y} g h q p = rw (← e, le-leb firstLocal x g, le-ltb x yearsEnd h, ← q) p
 
-  pub inside : {s y : ℕ} → firstLocal ≤ x → x < yearsEnd → s ≡ secondOf (meant f z) x → y ≡ answerAt a i → eqb s y ≡ agreesAt f z a i
+  pub inside : {s y : ℕ} → firstLocal ≤ x → x < yearsEnd → s ≡ secondOf (zoneIs f z) x → y ≡ answerAt a i → eqb s y ≡ agreesAt f z a i
   unfolding agreesAt
   inside {s} {y} g h p q = rw (← e, le-leb firstLocal x g, lt-ltb x yearsEnd h, ← p, ← q)
 
-module _ (t : ℕ → Bool) {i k : ℕ} {b : Bool} (n : k ≡ countOf t i) (e : b ≡ t i) where
-  counted : countOf t (i + 1) ≡ k + pickN b 1 0
-  unfolding countOf
+module _ (t : ℕ → Bool) {i k : ℕ} {b : Bool} (n : k ≡ countBelow t i) (e : b ≡ t i) where
+  counted : countBelow t (i + 1) ≡ k + pickN b 1 0
+  unfolding countBelow
   counted = rw (add-one, n, e)
 
-  pub counted-yes : b ≡ true → k + 1 ≡ countOf t (i + 1)
+  pub counted-yes : b ≡ true → k + 1 ≡ countBelow t (i + 1)
   counted-yes q = sym (rw q at counted)
 
-  pub counted-no : b ≡ false → k ≡ countOf t (i + 1)
+  pub counted-no : b ≡ false → k ≡ countBelow t (i + 1)
   counted-no q =
-      let r : countOf t (i + 1) ≡ k + 0 = rw q at counted in
+      let r : countBelow t (i + 1) ≡ k + 0 = rw q at counted in
       omega arith
 
-pub counted-all : (t : ℕ → Bool) {i k n : ℕ} → k ≡ countOf t i → i ≤ n → n ≤ i → k ≡ countOf t n
+pub counted-all : (t : ℕ → Bool) {i k n : ℕ} → k ≡ countBelow t i → i ≤ n → n ≤ i → k ≡ countBelow t n
 counted-all t {i} {k} {n} e g h =
     let q : i ≡ n = omega arith in
-    e ∙ ap (countOf t) q
+    e ∙ ap (countBelow t) q
 
-pub start : (t : ℕ → Bool) → 0 ≡ countOf t 0
-unfolding countOf
+pub start : (t : ℕ → Bool) → 0 ≡ countBelow t 0
+unfolding countBelow
 start t = refl

@@ -4,10 +4,11 @@
 // times, a second with 656,384,508,000 added and the second of the next change of the offset after it. A zone without that file has none.
 ghost use mathlib.Core.Path.{_≡_};
 ghost use Prim.Native.Nat.{_≤_, _<_};
-ghost use Rattle.big_endian.specs.Walk.{countOf};
-ghost use Rattle.zone.specs.Zones.{meant, ZoneOk};
+ghost use Rattle.big_endian.specs.Walk.{countBelow};
+ghost use Rattle.zone.specs.Zones.{zoneIs, ZoneOk};
 ghost use Rattle.model.specs.NextChange.{nextChange};
-ghost use Rattle.test_zones.specs.Answers.{fileSize, mostZones, localAt, answerAt, isNext, agreesAt};
+ghost use Rattle.test_zones.specs.Answers.{fileSize, localAt, answerAt, isNext, agreesAt};
+ghost use Rattle.zone_pack.specs.Pack.{mostZones};
 use libc::STDOUT_FILENO;
 use zone::Zone;
 use zone::ZoneRead;
@@ -18,9 +19,6 @@ const FILE_SIZE: usize = 65536;
 
 // The bytes of a stored answer.
 const PAIR_SIZE: usize = 16;
-
-// The most zones of a pack that are written.
-const MOST_ZONES: usize = 1024;
 
 // The local second of 1970-01-01T00:00:00 as zones keep it.
 const LOCAL_EPOCH: u64 = instant::EPOCH + zone_offset::BIAS_64;
@@ -46,7 +44,7 @@ fn answer_at(a: &[u8], i: usize) -> u64
 // Is the next change of the zone's offset after u at v?
 fn changes_at(f: &[u8], z: Zone, u: u64, v: u64) -> bool
     requires { ⌜ ZoneOk (now f) z ⌝ }
-    ensures { λ r. ⌜ r ≡ isNext (nextChange (meant (now (f .entry)) z) u) v ⌝ }
+    ensures { λ r. ⌜ r ≡ isNext (nextChange (zoneIs (now (f .entry)) z) u) v ⌝ }
 {
     let Next::At(w) = zone_next_change::next_change(f, z, u) else {
         return false;
@@ -72,7 +70,7 @@ fn agrees_at(f: &[u8], z: Zone, a: &[u8], i: usize) -> bool
 // How many of the first n pairs does it give?
 fn agreeing(f: &[u8], z: Zone, a: &[u8], n: usize) -> usize
     requires { ⌜ ZoneOk (now f) z × (n ≤ fileSize) ⌝ }
-    ensures { λ r. ⌜ (r ≡ countOf (agreesAt (now (f .entry)) z (now (a .entry))) n) × (r ≤ n) ⌝ }
+    ensures { λ r. ⌜ (r ≡ countBelow (agreesAt (now (f .entry)) z (now (a .entry))) n) × (r ≤ n) ⌝ }
 {
     let mut k: usize = 0;
     let mut i: usize = 0;
@@ -190,7 +188,7 @@ fn all_lines(p: &[u8]) {
         return;
     }
     let n = directory::count_of(p);
-    if n <= MOST_ZONES {
+    if n <= zone_pack::MOST_ZONES {
         lines(p, n);
     }
 }

@@ -15,9 +15,8 @@ use Rattle.model.specs.Walk.{timeBetween}
 use Rattle.model.specs.Skip.{repeats, neededBetween}
 use Rattle.laws_skip.specs.Skips.{Summed, summed, mayReuse}
 use Rattle.laws_skip.specs.Loops.{timeRest, plus, time-done, time-start, time-resolves, time-run}
-use Rattle.laws_skip.specs.Schedules.{between-skipping, between-exact}
+use Rattle.laws_skip.specs.Schedules.{between-skipping, between-exact, working-most}
 use Rattle.laws_skip.specs.Books.{BuiltWell}
-use Rattle.window_week.proofs.Whole.{working-most}
 use Rattle.walk_between.specs.Sums.{Reused}
 
 -- ---- the loop

@@ -6,10 +6,10 @@ use Rattle.model.specs.Instant.{week}
 use Rattle.model.specs.Walk.{Way, on, back, at, reach}
 use Rattle.instant.specs.Instant.{nanos, Exact, InRange}
 use Rattle.instant.specs.declared.Instant.{Instant}
-use Rattle.walk_distance.specs.Distances.{Short, Ahead}
+use Rattle.walk_distance.specs.Distances.{Short, WindowAhead}
 
 -- a window that begins before the range's end
-pub ahead-of : (w : Way) (t : ℕ) (x y end : Instant) → Short x → Short y → nanos end ≡ reach w t → nanos x ≤ nanos end → nanos y ≡ min (nanos x + week) (nanos end) → Ahead w t x y
+pub ahead-of : (w : Way) (t : ℕ) (x y end : Instant) → Short x → Short y → nanos end ≡ reach w t → nanos x ≤ nanos end → nanos y ≡ min (nanos x + week) (nanos end) → WindowAhead w t x y
 ahead-of w t x y end h k e i f = record { start = h; end = k; order = omega arith; near = omega arith; short = omega arith }
 
 -- an instant at a distance up to the range's end lies in the range

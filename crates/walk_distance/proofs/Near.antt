@@ -10,7 +10,7 @@ use Rattle.laws_blocks.specs.Move.{moves, moves-append}
 use Rattle.laws_skip.specs.WindowEnds.{Inside}
 use Rattle.laws_skip.specs.Schedules.{working-inside}
 use Rattle.block_pairs.proofs.Parts.{block-same}
-use Rattle.walk_distance.specs.Distances.{Placed, placed-on, placed-back, seen}
+use Rattle.walk_distance.specs.Distances.{WindowPlaced, placed-on, placed-back, seen}
 
 -- on
 near-on : (t x hi : ℕ) (l : List Block) → Inside (t + x) hi l → moves x (onward (t + x) l) ≡ onward t l
@@ -67,10 +67,10 @@ into-inside : (s : Schedule) (x y lo hi : ℕ) (p : List Block) → p ≡ onward
 into-inside s x y lo hi p e k d = rw e (rw d at (near-inside lo hi (working s lo hi) (working-inside s lo hi k)))
 
 -- either way
-pub into-placed : (w : Way) (s : Schedule) (t x y lo hi : ℕ) (p : List Block) → x ≤ y → Placed w t x y lo hi → p ≡ onward lo (working s lo hi) → moves x (seen w (y - x) p) ≡ ahead w s t x y
+pub into-placed : (w : Way) (s : Schedule) (t x y lo hi : ℕ) (p : List Block) → x ≤ y → WindowPlaced w t x y lo hi → p ≡ onward lo (working s lo hi) → moves x (seen w (y - x) p) ≡ ahead w s t x y
 into-placed on s t x y lo hi p h (placed-on a b) e = into-on s t x y lo hi h p e a b
 into-placed back s t x y lo hi p h (placed-back k a b) e = into-back s t x y lo hi h p e k a b
 
-pub placed-inside : (w : Way) (s : Schedule) (t x y lo hi : ℕ) (p : List Block) → x ≤ y → Placed w t x y lo hi → p ≡ onward lo (working s lo hi) → Inside 0 (y - x) p
+pub placed-inside : (w : Way) (s : Schedule) (t x y lo hi : ℕ) (p : List Block) → x ≤ y → WindowPlaced w t x y lo hi → p ≡ onward lo (working s lo hi) → Inside 0 (y - x) p
 placed-inside on s t x y lo hi p h (placed-on a b) e = into-inside s x y lo hi p e (omega arith) (omega arith)
 placed-inside back s t x y lo hi p h (placed-back k a b) e = into-inside s x y lo hi p e (omega arith) (omega arith)

@@ -36,7 +36,7 @@ pub record Short (x : Instant) : Type 0 where
   pub ns : Exact x
 
 -- a window between two distances from t
-pub record Ahead (w : Way) (t : ℕ) (x y : Instant) : Type 0 where
+pub record WindowAhead (w : Way) (t : ℕ) (x y : Instant) : Type 0 where
   pub start : Short x
   pub end : Short y
   pub order : nanos x ≤ nanos y
@@ -44,17 +44,17 @@ pub record Ahead (w : Way) (t : ℕ) (x y : Instant) : Type 0 where
   pub short : nanos y ≤ nanos x + week
 
 -- a window between two distances from an instant of the range, going on or back
-abbrev pub Within : Instant → Bool → Instant → Instant → Type 0
-Within t b x y = InRange t × Ahead (wayOf b) (nanos t) x y
+abbrev pub WindowWithin : Instant → Bool → Instant → Instant → Type 0
+WindowWithin t b x y = InRange t × WindowAhead (wayOf b) (nanos t) x y
 
 -- the window between the distances x and y from t lies from lo to hi
-pub data Placed : Way → ℕ → ℕ → ℕ → ℕ → ℕ → Type 0 where
-  placed-on : {t x y lo hi : ℕ} → lo ≡ t + x → hi ≡ t + y → Placed on t x y lo hi
-  placed-back : {t x y lo hi : ℕ} → y ≤ t → lo ≡ t - y → hi ≡ t - x → Placed back t x y lo hi
+pub data WindowPlaced : Way → ℕ → ℕ → ℕ → ℕ → ℕ → Type 0 where
+  placed-on : {t x y lo hi : ℕ} → lo ≡ t + x → hi ≡ t + y → WindowPlaced on t x y lo hi
+  placed-back : {t x y lo hi : ℕ} → y ≤ t → lo ≡ t - y → hi ≡ t - x → WindowPlaced back t x y lo hi
 
 -- it lies there, in the range
 abbrev pub PlacedAt : Way → ℕ → ℕ → ℕ → Ends → Type 0
-PlacedAt w t x y r = Window 7 (r .lo) (r .hi) × Placed w t x y (nanos (r .lo)) (nanos (r .hi))
+PlacedAt w t x y r = Window 7 (r .lo) (r .hi) × WindowPlaced w t x y (nanos (r .lo)) (nanos (r .hi))
 
 -- the blocks of a window of the length w by their distances from its near border, nearest first; they are given by their distances from its start
 abbrev pub seen : Way → ℕ → List Block → List Block

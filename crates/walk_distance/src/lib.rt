@@ -8,7 +8,7 @@ ghost use Rattle.model.specs.Instant.{week};
 ghost use Rattle.model.specs.Walk as way;
 ghost use Rattle.rule.specs.Rules.{ScheduleFits};
 ghost use Rattle.window_week.specs.Room.{HasRoom};
-ghost use Rattle.walk_distance.specs.Distances.{wayOf, rangeSeconds, mostWeeks, Short, Within, PlacedAt, ResolvedAt};
+ghost use Rattle.walk_distance.specs.Distances.{wayOf, rangeSeconds, mostWeeks, Short, WindowWithin, PlacedAt, ResolvedAt};
 use instant::Instant;
 use instant::Length;
 use rule::Schedule;
@@ -125,7 +125,7 @@ pub struct Ends {
 
 // The instants between which the window between two distances from t lies.
 pub fn place(t: Instant, back: bool, x: Length, y: Length) -> Ends
-    requires { ⌜ Within t back x y ⌝ }
+    requires { ⌜ WindowWithin t back x y ⌝ }
     ensures { λ r. ⌜ PlacedAt (wayOf back) (nanos t) (nanos x) (nanos y) r ⌝ }
 {
     let near = at(t, back, x);
@@ -150,7 +150,7 @@ pub fn window_into(
     off: &mut [u64],
     out: &mut [u64],
 ) -> usize
-    requires { ⌜ ScheduleFits (now book) (now pack) s × Within t back x y × HasRoom s (now on) (now off) (now out) ⌝ }
+    requires { ⌜ ScheduleFits (now book) (now pack) s × WindowWithin t back x y × HasRoom s (now on) (now off) (now out) ⌝ }
     ensures { λ r. ⌜ ResolvedAt (now (book .entry)) (now (pack .entry)) s t back x y r (now (out .exit)) ⌝ }
 {
     let at = place(t, back, x, y);

@@ -82,18 +82,18 @@ abbrev pub mostStretches : ℕ
 mostStretches = 1000000000000
 
 -- a block's borders are before 2^63 seconds
-abbrev pub Small : Block → Type 0
-Small b = (b .start < most) × (b .end < most)
+abbrev pub SmallBlock : Block → Type 0
+SmallBlock b = (b .start < most) × (b .end < most)
 
 -- and those of all blocks
 abbrev pub Below : List Block → Type 0
 Below [] = Unit {0}
-Below (b ∷ l) = Small b × Below l
+Below (b ∷ l) = SmallBlock b × Below l
 
 -- the blocks l of a window, and the lent numbers: those that are written have room
-pub record Ready (l : List Block) (o : Open) (write : Bool) (e : List ℤ) : Type 0 where
+pub record StretchReady (l : List Block) (o : Open) (write : Bool) (e : List ℤ) : Type 0 where
   pub few : length l ≤ mostBlocks
-  pub small : Small (blockOf (o .block))
+  pub small : SmallBlock (blockOf (o .block))
   pub below : Below l
   pub count : o .count < mostStretches
   pub room : write ≡ true → 4 * (o .count + length (ended (o .known) (blockOf (o .block)) l)) ≤ length e
@@ -102,7 +102,7 @@ pub record Ready (l : List Block) (o : Open) (write : Bool) (e : List ℤ) : Typ
 pub record Left (l : List Block) (o r : Open) : Type 0 where
   pub known : r .known ≡ anyOpen (o .known) l
   pub last : blockOf (r .block) ≡ stillOpen (o .known) (blockOf (o .block)) l
-  pub small : Small (blockOf (r .block))
+  pub small : SmallBlock (blockOf (r .block))
   pub count : r .count ≡ o .count + length (ended (o .known) (blockOf (o .block)) l)
 
 -- a window's blocks l are joined to the open stretch o: r is what it leaves, and the stretches that end are written where they are to be
@@ -119,7 +119,7 @@ lastOf o = onFrom (o .known) (blockOf (o .block)) []
 -- it has room where it is to be written
 abbrev pub CanFinish : Open → Bool → List ℤ → Type 0
 CanFinish o write e =
-    Small (blockOf (o .block)) × (o .count < mostStretches) × (write ≡ true → 4 * (o .count + length (lastOf o)) ≤ length e)
+    SmallBlock (blockOf (o .block)) × (o .count < mostStretches) × (write ≡ true → 4 * (o .count + length (lastOf o)) ≤ length e)
 
 -- r is the number of all stretches, and the last is written where it is to be
 abbrev pub Finishes : Open → Bool → List ℤ → List ℤ → ℕ → Type 0

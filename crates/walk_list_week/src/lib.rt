@@ -12,10 +12,15 @@ ghost use Rattle.model.specs.Instant.{second, instant};
 ghost use Rattle.instant.specs.Instant.{nanos, most, InRange};
 ghost use Rattle.instant_signed.specs.Reads.{secondsFrom};
 ghost use Rattle.block.specs.Counted.{blockOf};
-ghost use Rattle.walk_list_week.specs.Stretched.{placed, stored, blockFrom, blocksFrom, Small, Ready, Joins, CanFinish, Finishes};
+ghost use Rattle.walk_list_week.specs.Stretched.{placed, stored, blockFrom, blocksFrom, SmallBlock, StretchReady, Joins, CanFinish, Finishes};
 use block::Block;
 use instant::Instant;
 use instant::Length;
+
+// The numbers of a stretch, two for each of its ends, and where those of its second end stand.
+pub const STRETCH_SIZE: usize = 4;
+
+const END_AT: usize = 2;
 
 // How many stretches have ended, and the one that is still open, where `known` says that there is one.
 pub struct Open {
@@ -53,7 +58,7 @@ fn write_instant(out: &mut [i64], i: usize, t: Instant)
 
 // Writes the four numbers of b behind those of the first k stretches, where `write` is set.
 fn put(out: &mut [i64], write: bool, k: usize, b: Block)
-    requires { ⌜ (write ≡ true → 4 * k + 4 ≤ length (now out)) × Small (blockOf b) ⌝ }
+    requires { ⌜ (write ≡ true → 4 * k + 4 ≤ length (now out)) × SmallBlock (blockOf b) ⌝ }
     ensures { λ _. ⌜ now (out .exit) ≡ stored write k (blockOf b ∷ []) (now (out .entry)) ⌝ }
 {
     if !write {
@@ -61,9 +66,9 @@ fn put(out: &mut [i64], write: bool, k: usize, b: Block)
     }
     let s = b.start;
     let e = b.end;
-    let i = 4 * k;
+    let i = STRETCH_SIZE * k;
     write_instant(out, i, s);
-    write_instant(out, i + 2, e);
+    write_instant(out, i + END_AT, e);
 }
 
 // There is a gap between the end of b and the start of x.
@@ -107,7 +112,7 @@ pub fn join_window(
     write: bool,
     out: &mut [i64],
 ) -> Open
-    requires { ⌜ Ready (blocksFrom lo n (now l)) prev write (now out) × (2 * n ≤ length (now l)) × InRange lo ⌝ }
+    requires { ⌜ StretchReady (blocksFrom lo n (now l)) prev write (now out) × (2 * n ≤ length (now l)) × InRange lo ⌝ }
     ensures { λ r. ⌜ Joins (blocksFrom lo n (now (l .entry))) prev write (now (out .entry)) (now (out .exit)) r ⌝ }
 {
     let mut known = prev.known;

@@ -20,21 +20,11 @@ use Rattle.instant.specs.declared.Instant.{Instant}
 use Rattle.walk_period_week.specs.SoFars.{soFar, soFarIs}
 use Rattle.walk_period_week.specs.declared.SoFar.{SoFar}
 use Rattle.walk_distance.proofs.Near.{into-placed}
-use Rattle.walk_distance.specs.Distances.{Short, Placed, seen}
+use Rattle.walk_distance.specs.Distances.{Short, WindowPlaced, seen}
 use Rattle.walk_period.specs.Found.{PeriodFits}
+use Rattle.laws_skip.specs.Loops.{begun-less}
 
 -- ---- the definition turn by turn
-
--- one window less is begun behind it
-begun-less : (x y : ℕ) → x < y → begun (y - x) ≡ suc (begun (y - min (x + week) y))
-begun-less x y h = go (decLe (x + week) y)
-  where
-    go : Dec (x + week ≤ y) → begun (y - x) ≡ suc (begun (y - min (x + week) y))
-    go (yes k) = let e : min (x + week) y ≡ x + week = omega arith in rw e (more k)
-      where
-        more : x + week ≤ y → begun (y - x) ≡ suc (begun (y - (x + week)))
-        more k = omega arith
-    go (no k) = let e : min (x + week) y ≡ y = omega arith in rw e (omega arith)
 
 -- the walk from the distance x to the range's end
 unfoldable pub periodRest : (ℕ → ℕ → List Block) → ℕ → ℕ → ℕ → PeriodSoFar → Answer Block
@@ -223,7 +213,7 @@ reaches limit len n q =
 
 -- the blocks that were found in the window are those ahead
 module _ (limit : ℕ) (h : PeriodSoFar) (v : Way) (s : Schedule) (t x y lo hi w : ℕ) (p : List Block) where
-  pub looked : {r r′ : SoFar} → r ≡ r′ → soFarIs r ≡ periodIn limit h (moves x (seen v w p)) → w ≡ y - x → (end : ℕ) → x ≤ end → y ≡ min (x + week) end → Placed v t x y lo hi → p ≡ onward lo (working s lo hi)
+  pub looked : {r r′ : SoFar} → r ≡ r′ → soFarIs r ≡ periodIn limit h (moves x (seen v w p)) → w ≡ y - x → (end : ℕ) → x ≤ end → y ≡ min (x + week) end → WindowPlaced v t x y lo hi → p ≡ onward lo (working s lo hi)
       → soFarIs r′ ≡ periodIn limit h (ahead v s t x y)
   looked e q f end k m g o = let z : moves x (seen v (y - x) p) ≡ ahead v s t x y = into-placed v s t x y lo hi p (omega arith) g o in rw (← e, ← z, ← f) q
 

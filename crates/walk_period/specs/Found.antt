@@ -41,6 +41,6 @@ period-fits {w} {t} {r} {f} {e} x p = go (rw p at x)
     go (found-period h) = h
 
 -- r is the nearest period to t, going on or back
-abbrev pub Finds : List ℕ → List ℕ → Schedule → Instant → Bool → Found → Type 0
-Finds book pack s t back r =
+abbrev pub FindsPeriod : List ℕ → List ℕ → Schedule → Instant → Bool → Found → Type 0
+FindsPeriod book pack s t back r =
     (foundIs r ≡ period (wayOf back) (scheduleIs book pack s) (nanos t)) × FoundFits (wayOf back) (nanos t) r

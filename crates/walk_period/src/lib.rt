@@ -6,7 +6,7 @@ ghost use lib.Dec.{ltb, leb};
 ghost use Rattle.model.specs.Instant.{week};
 ghost use Rattle.instant.specs.Instant.{nanos, most, Exact, InRange};
 ghost use Rattle.rule.specs.Rules.{ScheduleFits};
-ghost use Rattle.walk_period.specs.Found.{Finds};
+ghost use Rattle.walk_period.specs.Found.{FindsPeriod};
 ghost use Rattle.window_week.specs.Room.{HasRoom};
 use instant::Instant;
 use instant::Length;
@@ -66,7 +66,7 @@ fn walk_into(
     out: &mut [u64],
 ) -> Found
     requires { ⌜ ScheduleFits (now book) (now pack) s × InRange t × HasRoom s (now on) (now off) (now out) ⌝ }
-    ensures { λ r. ⌜ Finds (now (book .entry)) (now (pack .entry)) s t back r ⌝ }
+    ensures { λ r. ⌜ FindsPeriod (now (book .entry)) (now (pack .entry)) s t back r ⌝ }
 {
     let zero = Length { sec: 0, ns: 0 };
     let end = walk_distance::reach(t, back);
@@ -111,7 +111,7 @@ fn walk_into(
 // The same with memory for the blocks of a window.
 pub fn period_walk(book: &[u8], pack: &[u8], s: Schedule, t: Instant, back: bool) -> Found
     requires { ⌜ ScheduleFits (now book) (now pack) s × InRange t ⌝ }
-    ensures { λ r. ⌜ Finds (now (book .entry)) (now (pack .entry)) s t back r ⌝ }
+    ensures { λ r. ⌜ FindsPeriod (now (book .entry)) (now (pack .entry)) s t back r ⌝ }
 {
     match window_memory::size_for(s.works + s.pauses + s.closings) {
         Size::One => {

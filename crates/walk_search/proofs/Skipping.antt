@@ -65,7 +65,7 @@ may-not false t g left test (inr (inr e)) = refl
 module _ (k : Previous) (left : ℕ) (rep : ℕ → Bool) (x end : ℕ) (h : x ≤ end) where
   no-skip : (k .known ≡ false) ⊎ ((ltb (nanos (k .time)) left ≡ false) ⊎ ((eqb (min (x + week) end - x) week && rep x) ≡ false)) → Skipped k left rep x end 0
   no-skip w = record {
-    none = λ q. may-not (k .known) (nanos (k .time)) (nanos (k .edge)) left (eqb (min (x + week) end - x) week && rep x) w;
+    none = λ q. may-not (k .known) (nanos (k .time)) (nanos (k .idle)) left (eqb (min (x + week) end - x) week && rep x) w;
     some = λ q. absurd (omega arith);
     less = λ q. absurd (omega arith);
     each = λ i q. absurd (omega arith);
@@ -85,7 +85,7 @@ module _ (k : Previous) (left : ℕ) (rep : ℕ → Bool) (x end : ℕ) (h : x �
     pub skipped-run : k .known ≡ true → (n ≡ 0 → ⊥) → {f : ℕ} → (f ≡ 0 → ⊥) → (0 < f → f * nanos (k .time) < left) → {m p r : ℕ} → (m ≡ 0 → rep x ≡ false) → ((i : ℕ) → i < m → rep (x + i * week) ≡ true)
         → p ≡ min f n → r ≡ min p m → Skipped k left rep x end r
     skipped-run w z {f} y less {m} {p} {r} fails each ep er = record {
-      none = λ q. may-not (k .known) (nanos (k .time)) (nanos (k .edge)) left (eqb (min (x + week) end - x) week && rep x) (inr (inr (none (fails (zero-left f n p m r z y ep er q)))));
+      none = λ q. may-not (k .known) (nanos (k .time)) (nanos (k .idle)) left (eqb (min (x + week) end - x) week && rep x) (inr (inr (none (fails (zero-left f n p m r z y ep er q)))));
       some = λ q. w;
       less = λ q. fewer f r (nanos (k .time)) (fit ep er) (less (some-of f y));
       each = λ i q. each i (under er q);

@@ -14,22 +14,22 @@ use Rattle.instant.specs.Instant.{nanos, most, Exact, InRange}
 use Rattle.instant.specs.declared.Instant.{Instant}
 use Rattle.rule.specs.Rules.{ScheduleFits}
 use Rattle.rule.specs.declared.Schedule.{Schedule}
-use Rattle.walk_distance.specs.Distances.{wayOf, Short, Within}
+use Rattle.walk_distance.specs.Distances.{wayOf, Short, WindowWithin}
 use Rattle.walk_search.specs.declared.Previous.{Previous}
 use Rattle.walk_search.specs.declared.Reached.{Reached}
 use Rattle.walk_search.specs.declared.Reached.the-variants as R
 
 -- what is kept of a window
 abbrev pub previousIs : Previous → Previous′
-previousIs k = keep (k .known) (nanos (k .time)) (nanos (k .edge))
+previousIs k = keep (k .known) (nanos (k .time)) (nanos (k .idle))
 
 pub record PreviousExact (k : Previous) : Type 0 where
   pub time : Exact (k .time)
-  pub edge : Exact (k .edge)
+  pub idle : Exact (k .idle)
 
 -- what is kept of a window of the length w, in which so much time was found, the last of it so far before its end
-abbrev pub Keeps : ℕ → ℕ → ℕ → Previous → Type 0
-Keeps w time edge r = (previousIs r ≡ keep (eqb w week && ltb 0 time) time edge) × PreviousExact r × (nanos (r .edge) ≡ edge)
+abbrev pub KeepsWindow : ℕ → ℕ → ℕ → Previous → Type 0
+KeepsWindow w time idle r = (previousIs r ≡ keep (eqb w week && ltb 0 time) time idle) × PreviousExact r × (nanos (r .idle) ≡ idle)
 
 -- n windows from the distance x on may be skipped in a search; and there is none only if the first may not
 pub record Skipped (k : Previous) (left : ℕ) (rep : ℕ → Bool) (x end n : ℕ) : Type 0 where
@@ -51,7 +51,7 @@ SkippedFrom s t back k left x end n = Skipped k (nanos left) (λ y. repeats s (a
 -- the window between the distances x and y from t, where work last ended no more than the limit before x, with so much left to find
 abbrev pub InWindow : List ℕ → List ℕ → Schedule → Instant → Bool → Instant → Instant → Instant → Instant → Type 0
 InWindow book pack s t back x y last left =
-    ScheduleFits book pack s × Within t back x y
+    ScheduleFits book pack s × WindowWithin t back x y
     × Exact last × (nanos left < most) × Exact left × (nanos last ≤ nanos x) × (nanos x ≤ nanos last + s .limit * second)
 
 -- d is to find from t, and not nothing
@@ -71,5 +71,5 @@ pub data Counts (w : Way) (s : model.Schedule) (t d : ℕ) : Reached → Type 0 
   out-of-range : Counts w s t d R.OutOfRange
 
 -- the answer is that of the definitions
-abbrev pub Answered : Way → model.Schedule → Instant → Instant → Reached → Type 0
-Answered w s t d r = (reachedIs r ≡ search w s (nanos t) (nanos d)) × Counts w s (nanos t) (nanos d) r
+abbrev pub SearchAnswered : Way → model.Schedule → Instant → Instant → Reached → Type 0
+SearchAnswered w s t d r = (reachedIs r ≡ search w s (nanos t) (nanos d)) × Counts w s (nanos t) (nanos d) r

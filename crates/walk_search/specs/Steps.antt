@@ -6,7 +6,7 @@ use Rattle.model.specs.Walk as walk
 use Rattle.model.specs.Working.{Schedule}
 use Rattle.instant.specs.Instant.{nanos, Exact}
 use Rattle.instant.specs.declared.Instant.{Instant}
-use Rattle.walk_search_week.specs.Steps.{weekStepIs, shifted, more}
+use Rattle.walk_search_week.specs.Steps.{weekStepIs, stepAfter, withLeft}
 use Rattle.walk_search_week.specs.declared.WeekStep.{WeekStep}
 use Rattle.walk_search.specs.declared.Step.{Step}
 use Rattle.walk_search.specs.declared.Step.the-variants as S
@@ -37,7 +37,7 @@ left-exact {r} {d} {m} e p = go (rw p at e)
 
 -- what a window leaves, with k more to find than was looked for, by distances from `last` on
 abbrev pub Further : ℕ → ℕ → WeekStep → Step → Type 0
-Further last k r x = (stepIs x ≡ shifted last (more k (weekStepIs r))) × ExactStep x
+Further last k r x = (stepIs x ≡ stepAfter last (withLeft k (weekStepIs r))) × ExactStep x
 
 -- what the definitions say that the window between the distances x and y from t leaves
 abbrev pub Leaves : Schedule → Way → Instant → Instant → Instant → Instant → Instant → Step → Type 0

@@ -9,7 +9,7 @@ ghost use Rattle.window_week.specs.Room.{HasRoom};
 ghost use Rattle.walk_distance.specs.Distances.{wayOf, Short};
 ghost use Rattle.walk_search_week.specs.Steps.{restOf};
 ghost use Rattle.walk_search.specs.Steps.{Further, Leaves};
-ghost use Rattle.walk_search.specs.Searches.{Keeps, SkipAsked, SkippedFrom, InWindow, ToFind, Answered};
+ghost use Rattle.walk_search.specs.Searches.{KeepsWindow, SkipAsked, SkippedFrom, InWindow, ToFind, SearchAnswered};
 use instant::Instant;
 use instant::Length;
 use rule::Schedule;
@@ -27,7 +27,7 @@ pub enum Step {
 pub struct Previous {
     pub known: bool,
     pub time: Length,
-    pub edge: Length,
+    pub idle: Length,
 }
 
 // What a search reaches: a distance and the number of windows resolved on the way, no work within the limit, or the range's end.
@@ -92,15 +92,15 @@ fn skips(
 // What is kept of the window from x to y, where `left` was to find before it, and `rest` after it, and work last ended at m.
 fn keep(x: Length, y: Length, left: Length, rest: Length, m: Length) -> Previous
     requires { ⌜ Short x × Short y × (nanos left < most) ⌝ }
-    ensures { λ r. ⌜ Keeps (nanos y - nanos x) (nanos left - nanos rest) (nanos y - nanos m) r ⌝ }
+    ensures { λ r. ⌜ KeepsWindow (nanos y - nanos x) (nanos left - nanos rest) (nanos y - nanos m) r ⌝ }
 {
     let time = instant::difference(left, rest);
-    let edge = instant::difference(y, m);
+    let idle = instant::difference(y, m);
     let mut known = false;
     if walk_distance::is_week(x, y) {
         known = instant::precedes(Length { sec: 0, ns: 0 }, time);
     }
-    Previous { known, time, edge }
+    Previous { known, time, idle }
 }
 
 // ---- one window
@@ -192,7 +192,7 @@ fn search_into(
     out: &mut [u64],
 ) -> Reached
     requires { ⌜ ScheduleFits (now book) (now pack) s × ToFind t d × HasRoom s (now on) (now off) (now out) ⌝ }
-    ensures { λ r. ⌜ Answered (wayOf back) (scheduleIs (now (book .entry)) (now (pack .entry)) s) t d r ⌝ }
+    ensures { λ r. ⌜ SearchAnswered (wayOf back) (scheduleIs (now (book .entry)) (now (pack .entry)) s) t d r ⌝ }
 {
     let end = walk_distance::reach(t, back);
     let zero = Length { sec: 0, ns: 0 };
@@ -202,7 +202,7 @@ fn search_into(
     let mut kept = Previous {
         known: false,
         time: zero,
-        edge: zero,
+        idle: zero,
     };
     let mut resolved: u64 = 0;
     while instant::precedes(x, end) {
@@ -234,7 +234,7 @@ fn search_into(
 // The distance from t at which d of working time is spent.
 pub fn search(book: &[u8], pack: &[u8], s: Schedule, t: Instant, back: bool, d: Length) -> Reached
     requires { ⌜ ScheduleFits (now book) (now pack) s × InRange t × (nanos d < most) × Exact d ⌝ }
-    ensures { λ r. ⌜ Answered (wayOf back) (scheduleIs (now (book .entry)) (now (pack .entry)) s) t d r ⌝ }
+    ensures { λ r. ⌜ SearchAnswered (wayOf back) (scheduleIs (now (book .entry)) (now (pack .entry)) s) t d r ⌝ }
 {
     let zero = Length { sec: 0, ns: 0 };
     if !instant::precedes(zero, d) {

@@ -10,14 +10,14 @@ use Rattle.model.specs.Blocks.{Block, block, total}
 use Rattle.model.specs.Walk.{Step, searchBlocks, found, gap, left}
 use Rattle.laws_base.specs.Test.{by-test}
 use Rattle.laws_blocks.specs.Move.{moves, total-moved}
-use Rattle.walk_search_week.specs.Steps.{weekStepIs, restOf, shifted, more}
+use Rattle.walk_search_week.specs.Steps.{weekStepIs, restOf, stepAfter, withLeft}
 use Rattle.walk_search_week.specs.declared.WeekStep.{WeekStep}
 use Rattle.walk_search_week.specs.declared.WeekStep.the-variants as T
 
 -- ---- another origin
 
 -- a search says the same from another origin
-pub search-blocks-moved : (c limit y last d : ℕ) (l : List Block) → searchBlocks limit (y + c) (last + c) d (moves c l) ≡ shifted c (searchBlocks limit y last d l)
+pub search-blocks-moved : (c limit y last d : ℕ) (l : List Block) → searchBlocks limit (y + c) (last + c) d (moves c l) ≡ stepAfter c (searchBlocks limit y last d l)
 unfolding searchBlocks moves
 search-blocks-moved c limit y last d [] =
     let e : (y + c) - (last + c) ≡ y - last = omega arith in
@@ -47,7 +47,7 @@ moves-twice a b (c ∷ l) = rw (moves-twice a b l) (ap (λ (x : Block). x ∷ mo
 -- ---- more to find than there is
 
 -- where the blocks have less than c, what is to find beyond c stays
-pub search-blocks-more : (c k limit y last : ℕ) (l : List Block) → total l < c → searchBlocks limit y last (c + k) l ≡ more k (searchBlocks limit y last c l)
+pub search-blocks-more : (c k limit y last : ℕ) (l : List Block) → total l < c → searchBlocks limit y last (c + k) l ≡ withLeft k (searchBlocks limit y last c l)
 unfolding searchBlocks total
 search-blocks-more c k limit y last [] h = by-test (ltb limit (y - last)) (λ p. rw p) (λ p. rw p)
 search-blocks-more c k limit y last (b ∷ l) h =
@@ -90,14 +90,14 @@ taken-rest limit y last d l (T.Left rest m) e = search-blocks-rest limit y last 
 
 -- ---- a window's look, from where work last ended
 
-more-none : (q : Step) → more 0 q ≡ q
+more-none : (q : Step) → withLeft 0 q ≡ q
 more-none (found z) = refl
 more-none gap = refl
 more-none (left d m) = let e : d + 0 ≡ d = omega arith in rw e
 
 -- A are the blocks by their distances from t, S those from the window's near border; what is looked for is at most c, more than the blocks have
 pub search-blocks-near : (c limit x y last g w D d : ℕ) (A S : List Block) → moves x S ≡ A → g + last ≡ x → w + x ≡ y → total A < c → d ≡ min D c
-    → searchBlocks limit y last D A ≡ shifted last (more (D - d) (searchBlocks limit (w + g) 0 d (moves g S)))
+    → searchBlocks limit y last D A ≡ stepAfter last (withLeft (D - d) (searchBlocks limit (w + g) 0 d (moves g S)))
 search-blocks-near c limit x y last g w D d A S e f h k m =
     let a : moves last (moves g S) ≡ A = moves-twice g last S ∙ ap (λ (z : ℕ). moves z S) f ∙ e in
     let b : y ≡ w + g + last = omega arith in
@@ -106,9 +106,9 @@ search-blocks-near c limit x y last g w D d A S e f h k m =
     sym (ap (searchBlocks limit y last D) a)
     ∙ (λ i. searchBlocks limit (b i) (n i) D (moves last (moves g S)))
     ∙ search-blocks-moved last limit (w + g) 0 D (moves g S)
-    ∙ ap (shifted last) (capped t)
+    ∙ ap (stepAfter last) (capped t)
   where
-    capped : total (moves g S) ≡ total A → searchBlocks limit (w + g) 0 D (moves g S) ≡ more (D - d) (searchBlocks limit (w + g) 0 d (moves g S))
+    capped : total (moves g S) ≡ total A → searchBlocks limit (w + g) 0 D (moves g S) ≡ withLeft (D - d) (searchBlocks limit (w + g) 0 d (moves g S))
     capped t =
         by-test (ltb D c)
         (λ p. let q = ltb-true D c p in let u : d ≡ D = omega arith in let v : D - d ≡ 0 = omega arith in

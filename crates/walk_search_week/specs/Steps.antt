@@ -25,13 +25,13 @@ restOf T.Gap = 0
 restOf (T.Left d m) = d
 
 -- what a search says, its distances from c before
-abbrev pub shifted : ℕ → walk.Step → walk.Step
-shifted c (walk.found z) = walk.found (z + c)
-shifted c walk.gap = walk.gap
-shifted c (walk.left d m) = walk.left d (m + c)
+abbrev pub stepAfter : ℕ → walk.Step → walk.Step
+stepAfter c (walk.found z) = walk.found (z + c)
+stepAfter c walk.gap = walk.gap
+stepAfter c (walk.left d m) = walk.left d (m + c)
 
 -- what a search says, with k more left to find
-abbrev pub more : ℕ → walk.Step → walk.Step
-more k (walk.found z) = walk.found z
-more k walk.gap = walk.gap
-more k (walk.left d m) = walk.left (d + k) m
+abbrev pub withLeft : ℕ → walk.Step → walk.Step
+withLeft k (walk.found z) = walk.found z
+withLeft k walk.gap = walk.gap
+withLeft k (walk.left d m) = walk.left (d + k) m

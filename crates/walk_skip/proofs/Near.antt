@@ -21,9 +21,9 @@ use Rattle.rule.specs.Rules.{fileAt, holidaysIs, HolidaysFit}
 use Rattle.rule.specs.declared.HolidayDates.{HolidayDates}
 use Rattle.instant.specs.Instant.{InRange, nanos}
 use Rattle.instant.specs.declared.Instant.{Instant}
-use Rattle.zone.specs.Zones.{meant}
-use Rattle.zone_steady.specs.Steady.{Room, low, high}
-use Rattle.walk_skip.specs.Repeating.{noneWithin, isMet, noDate, IsDate, isOnWay, Nearest, Ahead, Behind}
+use Rattle.zone.specs.Zones.{zoneIs}
+use Rattle.zone_steady.specs.Steady.{SteadyRoom, low, high}
+use Rattle.walk_skip.specs.Repeating.{noneWithin, isMet, noDate, HasDate, isOnWay, Nearest, DateAhead, DateBehind}
 
 -- ---- one turn of the loops over dates
 
@@ -61,7 +61,7 @@ met-no : (back : Bool) (a b y : ℕ) → isMet back a b ≡ true → isMet back 
 met-no false a b y h k = lt-leb b y (omega (arith, leb-true a b h, leb-false a y k))
 met-no true a b y h k = lt-leb y b (omega (arith, leb-true b a h, leb-false y a k))
 
-met-none : (back : Bool) (y : ℕ) → IsDate back y → isMet back (noDate back) y ≡ false
+met-none : (back : Bool) (y : ℕ) → HasDate back y → isMet back (noDate back) y ≡ false
 met-none false y h = lt-leb 4294967295 y h
 met-none true y h = lt-leb y 0 h
 
@@ -72,7 +72,7 @@ on-way true from y x = by-test (leb x from) (λ e. rw e (by-test (leb y x) (λ f
 
 -- the nearest date is `near` or among the n dates at p
 pub record Nears (b : List ℕ) (back : Bool) (from near p n : ℕ) (all : List ℕ) : Type 0 where
-  pub same : (y : ℕ) → IsDate back y → either (isMet back near y) (any (isOnWay back from y) (datesAt b p n)) ≡ any (isOnWay back from y) all
+  pub same : (y : ℕ) → HasDate back y → either (isMet back near y) (any (isOnWay back from y) (datesAt b p n)) ≡ any (isOnWay back from y) all
 
 pub nears-start : (b : List ℕ) (back : Bool) (from p n : ℕ) {near : ℕ} → near ≡ noDate back → Nears b back from near p n (datesAt b p n)
 nears-start b back from p n e = record { same = λ y h. rw (e, met-none back y h) }
@@ -83,7 +83,7 @@ module _ {b : List ℕ} {back : Bool} {from near p n : ℕ} {all : List ℕ} (m 
     abbrev others : ℕ → Bool
     others y = any (isOnWay back from y) (datesAt b (p + 4) (n - 1))
 
-    near-more : (y : ℕ) → IsDate back y → either (isMet back near y) (either (if isMet back from x then isMet back x y else false) (others y)) ≡ any (isOnWay back from y) all
+    near-more : (y : ℕ) → HasDate back y → either (isMet back near y) (either (if isMet back from x then isMet back x y else false) (others y)) ≡ any (isOnWay back from y) all
     near-more y k = ap (λ t. either (isMet back near y) (either t (others y))) (sym (on-way back from y x)) ∙ ap (either (isMet back near y)) (sym (any-more (isOnWay back from y) b p n x h ex)) ∙ m .same y k
 
     pub near-nearer : isMet back from x ≡ true → isMet back near x ≡ false → Nears b back from x (p + 4) (n - 1) all
@@ -125,7 +125,7 @@ module _ (h : Holidays) (s : Sound (h .zone)) (l : List ℕ) (ed : h .dates ≡ 
   unfolding noneWithin
   seen back e = rw ed (ap not (any-distinct (isIn (firstDate (h .zone) (low back a (e * second))) (lastDate (h .zone) (high back b (e * second)))) l))
 
-  module _ (d hi : ℕ) (eh : hi ≡ b / second) (near : Nearest false first l d) (small : d ≤ 4294967295) {r : ℕ} (k : Ahead d last hi r) where
+  module _ (d hi : ℕ) (eh : hi ≡ b / second) (near : Nearest false first l d) (small : d ≤ 4294967295) {r : ℕ} (k : DateAhead d last hi r) where
     last-beyond : (e : ℕ) → 0 < e → e < r → lastDate (h .zone) (b + e * second) < d
     last-beyond e p q =
         let i = k .more e p q in let x = last-near (h .zone) s (b + e * second) in let y = day-is (h .zone) s (b + e * second) in let z = off-high (h .zone) s (b + e * second) in
@@ -140,7 +140,7 @@ module _ (h : Holidays) (s : Sound (h .zone)) (l : List ℕ) (ed : h .dates ≡ 
     last-small : last < 4294967295
     last-small = let u = last-upto (h .zone) s b hb in omega arith
 
-    pub ahead-room : Room (λ e. noneWithin false a b e h) r
+    pub ahead-room : SteadyRoom (λ e. noneWithin false a b e h) r
     ahead-room = record {
       none = λ q. sees 0 (omega (arith, at-start, last-small)) ∙ ap not (le-leb d (lastDate (h .zone) (b + 0 * second)) (omega (arith, at-start, k .none q)));
       each = λ e q. sees e (omega (arith, under e q)) ∙ ap not (lt-leb d (lastDate (h .zone) (b + e * second)) (under e q));
@@ -150,7 +150,7 @@ module _ (h : Holidays) (s : Sound (h .zone)) (l : List ℕ) (ed : h .dates ≡ 
         under zero q = omega (arith, at-start, k .some (omega arith))
         under (suc e) q = last-beyond (suc e) (omega arith) q
 
-  module _ (d lo : ℕ) (eh : lo ≡ a / second) (near : Nearest true last l d) {r : ℕ} (k : Behind d first lo r) where
+  module _ (d lo : ℕ) (eh : lo ≡ a / second) (near : Nearest true last l d) {r : ℕ} (k : DateBehind d first lo r) where
     first-beyond : (e : ℕ) → 0 < e → e < r → d < firstDate (h .zone) (a - e * second)
     first-beyond e p q =
         let i = k .more e p q in let x = first-near (h .zone) s (a - e * second) in let y = day-is (h .zone) s (a - e * second) in let z = off-low (h .zone) s (a - e * second) in
@@ -165,7 +165,7 @@ module _ (h : Holidays) (s : Sound (h .zone)) (l : List ℕ) (ed : h .dates ≡ 
     first-some : 0 < first
     first-some = let u = first-from (h .zone) s a ha in omega arith
 
-    pub behind-room : Room (λ e. noneWithin true a b e h) r
+    pub behind-room : SteadyRoom (λ e. noneWithin true a b e h) r
     behind-room = record {
       none = λ q. sees-back 0 (omega (arith, at-first, first-some)) ∙ ap not (le-leb (firstDate (h .zone) (a - 0 * second)) d (omega (arith, at-first, k .none q)));
       each = λ e q. sees-back e (omega (arith, over e q)) ∙ ap not (lt-leb (firstDate (h .zone) (a - e * second)) d (over e q));
@@ -177,17 +177,17 @@ module _ (h : Holidays) (s : Sound (h .zone)) (l : List ℕ) (ed : h .dates ≡ 
 
 -- ---- the same of the code's values
 
-zone-sound : (k p : List ℕ) (c : HolidayDates) → HolidaysFit k p c → Sound (meant (fileAt p (c .at) (c .len)) (c .zone))
-zone-sound k p c fit = fits-sound (meant (fileAt p (c .at) (c .len)) (c .zone)) (fit .opened .fits)
+zone-sound : (k p : List ℕ) (c : HolidayDates) → HolidaysFit k p c → Sound (zoneIs (fileAt p (c .at) (c .len)) (c .zone))
+zone-sound k p c fit = fits-sound (zoneIs (fileAt p (c .at) (c .len)) (c .zone)) (fit .opened .fits)
 
 module _ (k p : List ℕ) (c : HolidayDates) (a b : Instant) (fit : HolidaysFit k p c) (ha : InRange a) (hb : InRange b) {f : List ℕ} (e : f ≡ fileAt p (c .at) (c .len))
-    {first last : ℕ} (ef : first ≡ firstDate (meant f (c .zone)) (nanos a)) (el : last ≡ lastDate (meant f (c .zone)) (nanos b)) where
-  pub closed-ahead : {back : Bool} {d r : ℕ} → back ≡ false → Nearest false first (datesAt k (c .dates) (c .count)) d → d ≤ 4294967295 → Ahead d last (b .sec) r
-      → Room (λ x. noneWithin back (nanos a) (nanos b) x (holidaysIs k p c)) r
+    {first last : ℕ} (ef : first ≡ firstDate (zoneIs f (c .zone)) (nanos a)) (el : last ≡ lastDate (zoneIs f (c .zone)) (nanos b)) where
+  pub closed-ahead : {back : Bool} {d r : ℕ} → back ≡ false → Nearest false first (datesAt k (c .dates) (c .count)) d → d ≤ 4294967295 → DateAhead d last (b .sec) r
+      → SteadyRoom (λ x. noneWithin back (nanos a) (nanos b) x (holidaysIs k p c)) r
   closed-ahead {d = d} q near small m =
       rw q (ahead-room (holidaysIs k p c) (zone-sound k p c fit) (datesAt k (c .dates) (c .count)) refl (nanos a) (nanos b) (omega (arith, ha .low)) (omega (arith, hb .high, hb .ns)) (rw e at ef) (rw e at el) d (b .sec) (omega (arith, hb .ns)) near small m)
 
-  pub closed-behind : {back : Bool} {d r : ℕ} → back ≡ true → Nearest true last (datesAt k (c .dates) (c .count)) d → Behind d first (a .sec) r
-      → Room (λ x. noneWithin back (nanos a) (nanos b) x (holidaysIs k p c)) r
+  pub closed-behind : {back : Bool} {d r : ℕ} → back ≡ true → Nearest true last (datesAt k (c .dates) (c .count)) d → DateBehind d first (a .sec) r
+      → SteadyRoom (λ x. noneWithin back (nanos a) (nanos b) x (holidaysIs k p c)) r
   closed-behind {d = d} q near m =
       rw q (behind-room (holidaysIs k p c) (zone-sound k p c fit) (datesAt k (c .dates) (c .count)) refl (nanos a) (nanos b) (omega (arith, ha .low)) (omega (arith, hb .high, hb .ns)) (rw e at ef) (rw e at el) d (a .sec) (omega (arith, ha .ns)) near m)

@@ -9,7 +9,7 @@ use lib.Dec.{leb}
 use lib.ListN.{length, take, drop, getD}
 use borrow.Author.Tests.{le-leb, lt-leb, leb-true}
 use Rattle.model.specs.Basic.{if_then_else_, all}
-use Rattle.model.specs.Instant.{second, day, week, firstInstant, lastInstant}
+use Rattle.model.specs.Instant.{second, day, week, firstInstant, lastInstant, weekSeconds}
 use Rattle.model.specs.Working.{Rule, Schedule}
 use Rattle.model.specs.Zone.{steady}
 use Rattle.model.specs.Skip.{ruleSteady, noneNear, repeats}
@@ -17,16 +17,17 @@ use Rattle.laws_base.specs.Test.{by-test, and-both}
 use Rattle.laws_demand3.specs.Windows.{RuleOk, OfRules}
 use Rattle.laws_skip.specs.Runs.{repeatsTo, repeats-one, run-each, run-back}
 use Rattle.laws_base.specs.Front.{front, rest-cons, rest-none}
-use Rattle.rule.specs.Rules.{fileAt, ruleIs, All}
+use Rattle.rule.specs.Rules.{fileAt, ruleIs}
+use Rattle.laws_base.specs.Every.{Every}
 use Rattle.rule.specs.declared.Rule.{Rule as Item}
 use Rattle.rule.specs.declared.HolidayDates.{HolidayDates}
 use Rattle.instant.specs.Instant.{nanos}
 use Rattle.instant.specs.declared.Instant.{Instant}
-use Rattle.zone.specs.Zones.{meant, ZoneOk}
+use Rattle.zone.specs.Zones.{zoneIs, ZoneOk}
 use Rattle.zone.specs.declared.Zone.{Zone}
 use Rattle.zone_footer.specs.declared.Footer.the-variants as F
-use Rattle.zone_steady.specs.Steady.{Room, low, high}
-use Rattle.walk_skip.specs.Repeating.{steadyWithin, noneWithin, rangeBy, repeatsBy, beyond, Repeating, earliest, latest}
+use Rattle.zone_steady.specs.Steady.{SteadyRoom, low, high}
+use Rattle.walk_skip.specs.Repeating.{steadyWithin, noneWithin, rangeBy, repeatsBy, beyond, Repeating, earliestBorder, latestBorder}
 
 -- ---- a loop over the first n of an array, one room for each
 
@@ -43,8 +44,8 @@ module _ {A B : Type 0} (f : A → B) (T : ℕ → B → Bool) (n : ℕ) (l : Li
   unfolding all
   each-more e i d h k = ap (all (T e)) (rest-cons f n l i d h k)
 
-  module _ {i room : ℕ} (o : Open i room) (d : A) (h : i < n) (k : n ≤ length l) {m : ℕ} (r : Room (λ e. T e (f (getD l i d))) m) where
-    pub open-no : m ≡ 0 → Room (λ e. all (T e) (front f n l)) 0
+  module _ {i room : ℕ} (o : Open i room) (d : A) (h : i < n) (k : n ≤ length l) {m : ℕ} (r : SteadyRoom (λ e. T e (f (getD l i d))) m) where
+    pub open-no : m ≡ 0 → SteadyRoom (λ e. all (T e) (front f n l)) 0
     open-no q = record {
       none = λ _. sym (o .rest 0 (o .some)) ∙ each-more 0 i d h k ∙ fails (r .none q);
       each = λ e p. absurd (omega arith);
@@ -63,18 +64,12 @@ module _ {A B : Type 0} (f : A → B) (T : ℕ → B → Bool) (n : ℕ) (l : Li
             → all (T x) (drop (i + 1) (front f n l)) ≡ all (T x) (front f n l)
         passes x u v = rw u at v
 
-  pub open-ends : {i room : ℕ} → Open i room → i ≤ n → n ≤ i → n ≤ length l → Room (λ e. all (T e) (front f n l)) room
+  pub open-ends : {i room : ℕ} → Open i room → i ≤ n → n ≤ i → n ≤ length l → SteadyRoom (λ e. all (T e) (front f n l)) room
   unfolding all
   open-ends {i} {room} o h m k =
       let e : i ≡ n = omega arith in
       let z : drop i (front f n l) ≡ [] = rw e (rest-none f n l k) in
       record { none = λ q. absurd (omega (arith, o .some)); each = λ x p. sym (o .rest x p) ∙ ap (all (T x)) z }
-
-pub fits-at : {A : Type 0} (P : A → Type 0) (n : ℕ) (l : List A) (i : ℕ) (d : A) → i < n → n ≤ length l → All P (take n l) → P (getD l i d)
-fits-at P zero l i d h k a = absurd (omega arith)
-fits-at P (suc n) [] i d h k a = absurd (omega arith)
-fits-at P (suc n) (x ∷ l) zero d h k a = a .0
-fits-at P (suc n) (x ∷ l) (suc i) d h k a = fits-at P n l i d (omega arith) (omega arith) (a .1)
 
 -- ---- a rule
 
@@ -86,7 +81,7 @@ high-second : (back : Bool) (a s n e : ℕ) → a ≡ s * second + n → n < sec
 high-second true a s n e p h = omega arith
 high-second false a s n e p h = omega arith
 
-pub room-of : {t t′ : ℕ → Bool} {m : ℕ} → ((e : ℕ) → t e ≡ t′ e) → Room t m → Room t′ m
+pub room-of : {t t′ : ℕ → Bool} {m : ℕ} → ((e : ℕ) → t e ≡ t′ e) → SteadyRoom t m → SteadyRoom t′ m
 room-of q r = record { none = λ z. sym (q 0) ∙ r .none z; each = λ e h. sym (q e) ∙ r .each e h }
 
 stays-is : (back : Bool) (a b sa na sb nb : ℕ) (r : Rule) → a ≡ sa * second + na → na < second → b ≡ sb * second + nb → nb < second → (e : ℕ)
@@ -108,28 +103,28 @@ abbrev pub noClosed : HolidayDates
 noClosed = record { at = 0; len = 0; zone = noZone; dates = 0; count = 0 }
 
 pub rule-room : (back : Bool) (p : List ℕ) (r : Item) (a b : Instant) {f : List ℕ} {m : ℕ} → f ≡ fileAt p (r .at) (r .len) → a .ns < second → b .ns < second
-    → Room (λ e. steady (meant f (r .zone)) (low back (a .sec) e) (high back (b .sec) e)) m → Room (λ e. steadyWithin back (nanos a) (nanos b) e (ruleIs p r)) m
+    → SteadyRoom (λ e. steady (zoneIs f (r .zone)) (low back (a .sec) e) (high back (b .sec) e)) m → SteadyRoom (λ e. steadyWithin back (nanos a) (nanos b) e (ruleIs p r)) m
 rule-room back p r a b e h k s = room-of (λ x. stays-is back (nanos a) (nanos b) (a .sec) (a .ns) (b .sec) (b .ns) (ruleIs p r) refl h refl k x) (rw e at s)
 
 -- ---- the range
 
-pub range-early : (back : Bool) (t : ℕ) → t < firstInstant + 11 * day → Room (rangeBy back t) 0
+pub range-early : (back : Bool) (t : ℕ) → t < firstInstant + 11 * day → SteadyRoom (rangeBy back t) 0
 unfolding rangeBy
 range-early true t h = let q : t - 0 * second ≡ t = omega arith in record { none = λ _. rw (q, lt-leb (firstInstant + 11 * day) t h); each = λ e p. absurd (omega arith) }
 range-early false t h = record { none = λ _. rw (lt-leb (firstInstant + 11 * day) t h); each = λ e p. absurd (omega arith) }
 
-pub range-late : (back : Bool) (t : ℕ) → firstInstant + 11 * day ≤ t → lastInstant < t + 11 * day → Room (rangeBy back t) 0
+pub range-late : (back : Bool) (t : ℕ) → firstInstant + 11 * day ≤ t → lastInstant < t + 11 * day → SteadyRoom (rangeBy back t) 0
 unfolding rangeBy
 range-late true t i h = let q : t - 0 * second ≡ t = omega arith in record { none = λ _. rw (q, le-leb (firstInstant + 11 * day) t i, lt-leb (t + 11 * day) lastInstant h); each = λ e p. absurd (omega arith) }
 range-late false t i h =
     let q : t + 0 * second ≡ t = omega arith in
     record { none = λ _. rw (q, le-leb (firstInstant + 11 * day) t i, lt-leb (t + 11 * day) lastInstant h); each = λ e p. absurd (omega arith) }
 
-pub range-back : {back : Bool} (t s n : ℕ) → back ≡ true → t ≡ s * second + n → earliest ≤ s → t + 11 * day ≤ lastInstant → Room (rangeBy back t) (s - earliest + 1)
+pub range-back : {back : Bool} (t s n : ℕ) → back ≡ true → t ≡ s * second + n → earliestBorder ≤ s → t + 11 * day ≤ lastInstant → SteadyRoom (rangeBy back t) (s - earliestBorder + 1)
 unfolding rangeBy
 range-back t s n b p h i = rw b (record { none = λ q. absurd (omega arith); each = λ e q. rw (le-leb (firstInstant + 11 * day) (t - e * second) (omega arith), le-leb (t + 11 * day) lastInstant i) })
 
-pub range-on : {back : Bool} (t s n : ℕ) → back ≡ false → t ≡ s * second + n → n < second → firstInstant + 11 * day ≤ t → s ≤ latest → Room (rangeBy back t) (latest - s + 1)
+pub range-on : {back : Bool} (t s n : ℕ) → back ≡ false → t ≡ s * second + n → n < second → firstInstant + 11 * day ≤ t → s ≤ latestBorder → SteadyRoom (rangeBy back t) (latestBorder - s + 1)
 unfolding rangeBy
 range-on t s n b p k h i = rw b (record { none = λ q. absurd (omega arith); each = λ e q. rw (le-leb (firstInstant + 11 * day) t h, le-leb (t + e * second + 11 * day) lastInstant (omega arith)) })
 
@@ -186,23 +181,23 @@ module _ (back : Bool) (s : Schedule) (t : ℕ) (a b : ℕ) (ea : a ≡ t - 11 *
   unfolding repeatsBy repeatsTo rangeBy steadyWithin noneWithin
   parts e = rw (← low-same e, ← high-same e, all-both (ruleSteady (low back t (e * second) - 11 * day) (high back t (e * second) + 11 * day)) (s .work) (s .breaks))
 
-  module _ {m : ℕ} (r : Room (rangeBy back t) m) where
-    pub room-range : m ≡ 0 → Room (repeatsBy back s t) 0
+  module _ {m : ℕ} (r : SteadyRoom (rangeBy back t) m) where
+    pub room-range : m ≡ 0 → SteadyRoom (repeatsBy back s t) 0
     room-range q = record { none = λ _. parts 0 ∙ no (r .none q); each = λ e h. absurd (omega arith) }
       where
         no : rangeBy back t 0 ≡ false → (rangeBy back t 0 && ((all (steadyWithin back a b 0) (s .work) && all (steadyWithin back a b 0) (s .breaks)) && all (noneWithin back a b 0) (s .holidays))) ≡ false
         no u = rw u
 
-    module _ (i : m ≡ 0 → ⊥) {w : ℕ} (rw′ : Room (λ e. all (steadyWithin back a b e) (s .work)) w) where
-      pub room-work : w ≡ 0 → Room (repeatsBy back s t) 0
+    module _ (i : m ≡ 0 → ⊥) {w : ℕ} (rw′ : SteadyRoom (λ e. all (steadyWithin back a b e) (s .work)) w) where
+      pub room-work : w ≡ 0 → SteadyRoom (repeatsBy back s t) 0
       room-work q = record { none = λ _. parts 0 ∙ no (r .each 0 (omega (arith, i))) (rw′ .none q); each = λ e h. absurd (omega arith) }
         where
           no : rangeBy back t 0 ≡ true → all (steadyWithin back a b 0) (s .work) ≡ false
               → (rangeBy back t 0 && ((all (steadyWithin back a b 0) (s .work) && all (steadyWithin back a b 0) (s .breaks)) && all (noneWithin back a b 0) (s .holidays))) ≡ false
           no u v = rw (u, v)
 
-      module _ (j : w ≡ 0 → ⊥) {p : ℕ} (rp : Room (λ e. all (steadyWithin back a b e) (s .breaks)) p) where
-        pub room-breaks : p ≡ 0 → Room (repeatsBy back s t) 0
+      module _ (j : w ≡ 0 → ⊥) {p : ℕ} (rp : SteadyRoom (λ e. all (steadyWithin back a b e) (s .breaks)) p) where
+        pub room-breaks : p ≡ 0 → SteadyRoom (repeatsBy back s t) 0
         room-breaks q = record { none = λ _. parts 0 ∙ no (r .each 0 (omega (arith, i))) (rw′ .each 0 (omega (arith, j))) (rp .none q); each = λ e h. absurd (omega arith) }
           where
             no : rangeBy back t 0 ≡ true → all (steadyWithin back a b 0) (s .work) ≡ true → all (steadyWithin back a b 0) (s .breaks) ≡ false
@@ -210,7 +205,7 @@ module _ (back : Bool) (s : Schedule) (t : ℕ) (a b : ℕ) (ea : a ≡ t - 11 *
             no u v x = rw (u, v, x)
 
         -- the least of the four
-        pub room-all : (p ≡ 0 → ⊥) → {c : ℕ} → Room (λ e. all (noneWithin back a b e) (s .holidays)) c → {x y z : ℕ} → x ≡ min m w → y ≡ min p c → z ≡ min x y → Room (repeatsBy back s t) z
+        pub room-all : (p ≡ 0 → ⊥) → {c : ℕ} → SteadyRoom (λ e. all (noneWithin back a b e) (s .holidays)) c → {x y z : ℕ} → x ≡ min m w → y ≡ min p c → z ≡ min x y → SteadyRoom (repeatsBy back s t) z
         room-all k {c} rc {x} {y} {z} ex ey ez = record {
           none = λ q. parts 0 ∙ no (r .each 0 (positive m i)) (rw′ .each 0 (positive w j)) (rp .each 0 (positive p k))
               (rc .none (least-none m w p c x y z (positive m i) (positive w j) (positive p k) ex ey ez q));
@@ -242,19 +237,19 @@ module _ (s : Schedule) (ok : OfRules RuleOk s) (t : ℕ) where
       let x = leb-true (firstInstant + 11 * day) u (r .0) in
       omega arith
 
-  each-border : (back : Bool) (k i : ℕ) → repeatsBy back s t (k * 604800) ≡ true → i ≤ k → repeats s (beyond back t (i * week)) ≡ true
+  each-border : (back : Bool) (k i : ℕ) → repeatsBy back s t (k * weekSeconds) ≡ true → i ≤ k → repeats s (beyond back t (i * week)) ≡ true
   unfolding repeatsBy
   each-border true k i e h =
-      let q : k * 604800 * second ≡ k * week = omega arith in
+      let q : k * weekSeconds * second ≡ k * week = omega arith in
       let f : repeatsTo s (t - k * week) t ≡ true = rw q at e in
       let g = back-inside (t - k * week) f in
       run-back s ok t k i (omega arith) f h
   each-border false k i e h =
-      let q : k * 604800 * second ≡ k * week = omega arith in
+      let q : k * weekSeconds * second ≡ k * week = omega arith in
       run-each s ok t k i (rw q at e) h
 
-  pub borders-repeat : (back : Bool) {m : ℕ} → Room (repeatsBy back s t) m → Repeating back s t ((m + 604800 - 1) / 604800)
+  pub borders-repeat : (back : Bool) {m : ℕ} → SteadyRoom (repeatsBy back s t) m → Repeating back s t ((m + weekSeconds - 1) / weekSeconds)
   borders-repeat back {m} r = record {
     none = λ q. sym (one-border back) ∙ r .none (omega arith);
-    each = λ i h. each-border back ((m + 604800 - 1) / 604800 - 1) i (r .each (((m + 604800 - 1) / 604800 - 1) * 604800) (omega arith)) (omega arith);
+    each = λ i h. each-border back ((m + weekSeconds - 1) / weekSeconds - 1) i (r .each (((m + weekSeconds - 1) / weekSeconds - 1) * weekSeconds) (omega arith)) (omega arith);
   }

@@ -6,17 +6,18 @@ use mathlib.Core.List.{List, map}
 use Prim.Native.Nat.{ℕ, _+_, _*_, _-_, _≤_, _<_}
 use lib.Dec.{leb}
 use Rattle.model.specs.Basic.{isIn, any, all}
-use Rattle.model.specs.Instant.{second, day, week, firstInstant, lastInstant}
+use Rattle.model.specs.Instant.{second, day, week, firstInstant, lastInstant, firstSecond, lastSecond, daySeconds}
 use Rattle.model.specs.Working.{Rule, Holidays, Schedule}
 use Rattle.model.specs.Skip.{ruleSteady, noneNear, repeats}
 use Rattle.laws_skip.specs.Runs.{repeatsTo}
-use Rattle.instant.specs.Instant.{nanos, firstSecond, lastSecond}
+use Rattle.instant.specs.Instant.{nanos}
 use Rattle.instant.specs.declared.Instant.{Instant}
 use Rattle.rule.specs.declared.Rule.{Rule as Item}
 use Rattle.rule.specs.declared.HolidayDates.{HolidayDates}
 use Rattle.rule.specs.declared.Schedule.{Schedule as Code}
 use Rattle.rule.specs.Rules.{ruleIs, holidaysIs, scheduleIs}
-use Rattle.zone_steady.specs.Steady.{Room, low, high}
+use Rattle.zone_steady.specs.Steady.{SteadyRoom, low, high}
+use Rattle.model.specs.Offset.{offsetBias, greatestOffset}
 
 -- a rule's zone keeps its offset from a to b, widened by e seconds
 unfoldable pub steadyWithin : Bool → ℕ → ℕ → ℕ → Rule → Bool
@@ -56,9 +57,9 @@ abbrev pub noDate : Bool → ℕ
 noDate false = 4294967295
 noDate true = 0
 
-abbrev pub IsDate : Bool → ℕ → Type 0
-IsDate false y = y < 4294967295
-IsDate true y = 0 < y
+abbrev pub HasDate : Bool → ℕ → Type 0
+HasDate false y = y < 4294967295
+HasDate true y = 0 < y
 
 -- the dates from `from` to y
 abbrev pub isOnWay : Bool → ℕ → ℕ → ℕ → Bool
@@ -67,24 +68,20 @@ isOnWay true from y = isIn y from
 
 -- r is the nearest date of l from `from` on, or back from it: a date of l lies on the way to y where r does
 abbrev pub Nearest : Bool → ℕ → List ℕ → ℕ → Type 0
-Nearest back from l r = (y : ℕ) → IsDate back y → any (isOnWay back from y) l ≡ isMet back r y
-
--- the seconds of a day
-abbrev pub daySeconds : ℕ
-daySeconds = 86400
+Nearest back from l r = (y : ℕ) → HasDate back y → any (isOnWay back from y) l ≡ isMet back r y
 
 -- the greatest offset of a zone in seconds: 25 h 59 min 59 s
 abbrev pub mostOffset : ℕ
-mostOffset = 93599
+mostOffset = greatestOffset - offsetBias
 
 -- how far behind the second hi, of which `last` is the last date, the date d is sure not to be among the dates
-pub record Ahead (d last hi room : ℕ) : Type 0 where
+pub record DateAhead (d last hi room : ℕ) : Type 0 where
   pub none : room ≡ 0 → d ≤ last
   pub some : 0 < room → last < d
   pub more : (e : ℕ) → 0 < e → e < room → hi + e + mostOffset + daySeconds < d * daySeconds
 
 -- how far before the second lo, of which `first` is the first date
-pub record Behind (d first lo room : ℕ) : Type 0 where
+pub record DateBehind (d first lo room : ℕ) : Type 0 where
   pub none : room ≡ 0 → first ≤ d
   pub some : 0 < room → d < first
   pub more : (e : ℕ) → 0 < e → e < room → (d + 3) * daySeconds + mostOffset + e ≤ lo
@@ -93,27 +90,27 @@ pub record Behind (d first lo room : ℕ) : Type 0 where
 
 -- before a date of the record h is among the dates of the span from a to b
 abbrev pub HolidayRoom : List ℕ → List ℕ → HolidayDates → Bool → Instant → Instant → ℕ → Type 0
-HolidayRoom book pack h back a b r = Room (λ e. noneWithin back (nanos a) (nanos b) e (holidaysIs book pack h)) r
+HolidayRoom book pack h back a b r = SteadyRoom (λ e. noneWithin back (nanos a) (nanos b) e (holidaysIs book pack h)) r
 
 -- before a date of one of the records l is among them
 abbrev pub HolidaysRoom : List ℕ → List ℕ → List HolidayDates → Bool → Instant → Instant → ℕ → Type 0
-HolidaysRoom book pack l back a b r = Room (λ e. all (noneWithin back (nanos a) (nanos b) e) (map (holidaysIs book pack) l)) r
+HolidaysRoom book pack l back a b r = SteadyRoom (λ e. all (noneWithin back (nanos a) (nanos b) e) (map (holidaysIs book pack) l)) r
 
 -- before one of the rules l changes its offset in it
 abbrev pub RulesRoom : List ℕ → List Item → Bool → Instant → Instant → ℕ → Type 0
-RulesRoom pack l back a b r = Room (λ e. all (steadyWithin back (nanos a) (nanos b) e) (map (ruleIs pack) l)) r
+RulesRoom pack l back a b r = SteadyRoom (λ e. all (steadyWithin back (nanos a) (nanos b) e) (map (ruleIs pack) l)) r
 
 -- the first and the last second of a border whose eleven days on each side lie in the range
-abbrev pub earliest : ℕ
-earliest = firstSecond + 11 * daySeconds
+abbrev pub earliestBorder : ℕ
+earliestBorder = firstSecond + 11 * daySeconds
 
-abbrev pub latest : ℕ
-latest = lastSecond - 11 * daySeconds
+abbrev pub latestBorder : ℕ
+latestBorder = lastSecond - 11 * daySeconds
 
 -- before the eleven days on each side of t leave the range
 abbrev pub RangeRoom : Bool → Instant → ℕ → Type 0
-RangeRoom back t r = Room (rangeBy back (nanos t)) r × (0 < r → (earliest ≤ t .sec) × (t .sec ≤ latest)) × (r ≤ latest + 1)
+RangeRoom back t r = SteadyRoom (rangeBy back (nanos t)) r × (0 < r → (earliestBorder ≤ t .sec) × (t .sec ≤ latestBorder)) × (r ≤ latestBorder + 1)
 
 -- before the whole test fails
 abbrev pub BorderRoom : List ℕ → List ℕ → Code → Bool → Instant → ℕ → Type 0
-BorderRoom book pack s back t r = Room (repeatsBy back (scheduleIs book pack s) (nanos t)) r × (r ≤ latest + 1)
+BorderRoom book pack s back t r = SteadyRoom (repeatsBy back (scheduleIs book pack s) (nanos t)) r × (r ≤ latestBorder + 1)

@@ -3,11 +3,12 @@
 ghost use mathlib.Core.Path.{_≡_};
 ghost use Prim.Native.Nat.{_+_, _*_, _≤_};
 ghost use lib.ListN.{length, take};
-ghost use Rattle.instant.specs.Instant.{nanos, lastSecond, InRange};
+ghost use Rattle.instant.specs.Instant.{nanos, InRange};
+ghost use Rattle.model.specs.Instant.{lastSecond};
 ghost use Rattle.book.specs.Meaning.{datesAt};
-ghost use Rattle.rule.specs.Rules.{scheduleIs, RuleFits, HolidaysFit, ScheduleFits, All};
-ghost use Rattle.walk_skip.specs.Repeating.{isMet, noDate, Nearest, Ahead, Behind, Repeating};
-ghost use Rattle.walk_skip.specs.Repeating.{HolidayRoom, HolidaysRoom, RulesRoom, RangeRoom, BorderRoom};
+ghost use Rattle.rule.specs.Rules.{scheduleIs, RuleFits, HolidaysFit, ScheduleFits};
+ghost use Rattle.laws_base.specs.Every.{Every};
+ghost use Rattle.walk_skip.specs.Repeating.{isMet, noDate, Nearest, DateAhead, DateBehind, Repeating, HolidayRoom, HolidaysRoom, RulesRoom, RangeRoom, BorderRoom};
 use instant::Instant;
 use rule::HolidayDates;
 use rule::Rule;
@@ -25,7 +26,7 @@ const LATEST: u64 = instant::LAST - MARGIN;
 const UNLIMITED: u64 = 1000000000000;
 
 // The greatest offset of a zone in seconds: 25 h 59 min 59 s.
-const OFFSET: u64 = 93599;
+const OFFSET: u64 = zone_offset::GREATEST_64 - zone_offset::BIAS_64;
 
 // The date that stands for none going on: beyond all others.
 const NO_DATE: u32 = 4294967295;
@@ -60,7 +61,7 @@ fn nearest_date(book: &[u8], p: usize, n: usize, back: bool, from: u32) -> u32
     let mut near = no_date(back);
     while 0 < left {
         let d = book_dates::date_at(book, at);
-        at += 4;
+        at += book_dates::DATE_SIZE;
         left -= 1;
         if meets(back, from, d) {
             if !meets(back, near, d) {
@@ -75,7 +76,7 @@ fn nearest_date(book: &[u8], p: usize, n: usize, back: bool, from: u32) -> u32
 // The last date lies at most one day behind the local one.
 fn days_ahead(d: u32, last: u32, hi: u64) -> u64
     requires { ⌜ hi ≤ lastSecond ⌝ }
-    ensures { λ r. ⌜ Ahead d last hi r ⌝ }
+    ensures { λ r. ⌜ DateAhead d last hi r ⌝ }
 {
     if d <= last {
         return 0;
@@ -92,7 +93,7 @@ fn days_ahead(d: u32, last: u32, hi: u64) -> u64
 // The first date lies at most two days before the local one.
 fn days_behind(d: u32, first: u32, lo: u64) -> u64
     requires { ⌜ lo ≤ lastSecond ⌝ }
-    ensures { λ r. ⌜ Behind d first lo r ⌝ }
+    ensures { λ r. ⌜ DateBehind d first lo r ⌝ }
 {
     if first <= d {
         return 0;
@@ -132,13 +133,13 @@ fn holiday_room(
 fn holidays_room(
     book: &[u8],
     pack: &[u8],
-    closed: [HolidayDates; 8],
+    closed: [HolidayDates; book::MOST_HOLIDAYS],
     n: usize,
     back: bool,
     a: Instant,
     b: Instant,
 ) -> u64
-    requires { ⌜ (n ≤ 8) × All (HolidaysFit (now book) (now pack)) (take n closed) × InRange a × InRange b ⌝ }
+    requires { ⌜ (n ≤ 8) × Every (HolidaysFit (now book) (now pack)) (take n closed) × InRange a × InRange b ⌝ }
     ensures { λ r. ⌜ HolidaysRoom (now (book .entry)) (now (pack .entry)) (take n closed) back a b r ⌝ }
 {
     let mut room = UNLIMITED;
@@ -156,8 +157,15 @@ fn holidays_room(
 }
 
 // How far the span from a to b may be widened before one of the first n rules changes its offset in it: 0 if one does already.
-fn rules_room(pack: &[u8], rules: [Rule; 16], n: usize, back: bool, a: Instant, b: Instant) -> u64
-    requires { ⌜ (n ≤ 16) × All (RuleFits (now pack)) (take n rules) × InRange a × InRange b × (a .sec ≤ b .sec) ⌝ }
+fn rules_room(
+    pack: &[u8],
+    rules: [Rule; book::MOST_WORK],
+    n: usize,
+    back: bool,
+    a: Instant,
+    b: Instant,
+) -> u64
+    requires { ⌜ (n ≤ 16) × Every (RuleFits (now pack)) (take n rules) × InRange a × InRange b × (a .sec ≤ b .sec) ⌝ }
     ensures { λ r. ⌜ RulesRoom (now (pack .entry)) (take n rules) back a b r ⌝ }
 {
     let mut room = UNLIMITED;

@@ -21,7 +21,7 @@ use Rattle.laws_zone.specs.Sound.{Sound}
 use Rattle.laws_zone.specs.Zones.{fits-sound}
 use Rattle.laws_demand3.specs.Local.{offsetNanos, first-from, last-upto}
 use Rattle.laws_skip.specs.Counts.{dates-most}
-use Rattle.zone.specs.Zones.{meant, ZoneOk}
+use Rattle.zone.specs.Zones.{zoneIs, ZoneOk}
 use Rattle.zone.specs.declared.Zone.{Zone as Zone′}
 use Rattle.civil.specs.Dates.{timeIn}
 use Rattle.instant.specs.Instant.{nanos}
@@ -31,7 +31,8 @@ use Rattle.zone_local.specs.Dates.{IsDay, held, pieceOf, during, KeepsOffset, I
 use Rattle.rule.specs.declared.Rule.{Rule as Rule′}
 use Rattle.window_dates.specs.Windows.{Window, IsLocalDates, dayBy}
 use Rattle.window_dates.specs.declared.LocalDates.{LocalDates}
-use Rattle.rule.specs.Rules.{fileAt, ruleIs, All}
+use Rattle.rule.specs.Rules.{fileAt, ruleIs}
+use Rattle.laws_base.specs.Every.{Every}
 
 -- ---- the dates of a rule
 
@@ -90,17 +91,6 @@ module _ {A : Type 0} (g : A → List Block) where
       let h : length (take n l) ≤ n = omega (arith, length-take-le n l k) in
       ap (λ (t : List A). joined (map g t)) (drop-of-length-le (take n l) h)
 
--- what holds of each of the first n holds of the one at i
-all-at : {A : Type 0} (P : A → Type 0) (l : List A) (i : ℕ) (x : A) → i < length l → All P l → P (getD l i x)
-all-at P [] i x h a = absurd (omega arith)
-all-at P (y ∷ l) zero x h a = a .0
-all-at P (y ∷ l) (suc i) x h a = all-at P l i x (omega arith) (a .1)
-
-pub all-front : {A : Type 0} (P : A → Type 0) (n : ℕ) (l : List A) (i : ℕ) (x : A) → i < n → n ≤ length l → All P (take n l) → P (getD l i x)
-all-front P n l i x h k a =
-    let e : length (take n l) ≡ n = length-take-le n l k in
-    rw (getD-take n l i x) at (all-at P (take n l) i x (omega arith) a)
-
 -- ---- rules and holiday records of the code
 
 -- whichever dates a rule is on, it shows the same of one
@@ -113,16 +103,16 @@ pub zone-moved : (f g : List ℕ) (z : Zone′) → f ≡ g → ZoneOk g z → Z
 zone-moved f g z e o = rw e o
 
 pub days-are : (f g : List ℕ) (z : Zone′) (lo hi : Instant) (d : LocalDates) → f ≡ g → ZoneOk g z → Window 14 lo hi
-    → d .first ≡ firstDate (meant f z) (nanos lo) → d .last ≡ lastDate (meant f z) (nanos hi)
-    → KeepsOffset (meant f z) (nanos lo) (nanos hi) (d .offset) → IsLocalDates (meant g z) lo hi d
+    → d .first ≡ firstDate (zoneIs f z) (nanos lo) → d .last ≡ lastDate (zoneIs f z) (nanos hi)
+    → KeepsOffset (zoneIs f z) (nanos lo) (nanos hi) (d .offset) → IsLocalDates (zoneIs g z) lo hi d
 days-are f g z lo hi d e o w p q v =
-    let s : Sound (meant g z) = fits-sound (meant g z) (o .fits) in
-    let p′ : d .first ≡ firstDate (meant g z) (nanos lo) = p ∙ ap (λ (f : List ℕ). firstDate (meant f z) (nanos lo)) e in
-    let q′ : d .last ≡ lastDate (meant g z) (nanos hi) = q ∙ ap (λ (f : List ℕ). lastDate (meant f z) (nanos hi)) e in
+    let s : Sound (zoneIs g z) = fits-sound (zoneIs g z) (o .fits) in
+    let p′ : d .first ≡ firstDate (zoneIs g z) (nanos lo) = p ∙ ap (λ (f : List ℕ). firstDate (zoneIs f z) (nanos lo)) e in
+    let q′ : d .last ≡ lastDate (zoneIs g z) (nanos hi) = q ∙ ap (λ (f : List ℕ). lastDate (zoneIs f z) (nanos hi)) e in
     let a = w .low .low in let b = w .high .high in let c = w .high .ns in
-    let l = first-from (meant g z) s (nanos lo) (omega arith) in
-    let u = last-upto (meant g z) s (nanos hi) (omega arith) in
-    let k = dates-most (meant g z) s (nanos lo) (nanos hi) 14 (w .short) in
+    let l = first-from (zoneIs g z) s (nanos lo) (omega arith) in
+    let u = last-upto (zoneIs g z) s (nanos hi) (omega arith) in
+    let k = dates-most (zoneIs g z) s (nanos lo) (nanos hi) 14 (w .short) in
     record { first-is = p′; last-is = q′; low = omega arith; high = omega arith; few = omega arith; kept = rw e at v }
 
 -- by one offset around the window
@@ -136,47 +126,47 @@ by-offset z lo hi t o k h p q n =
     local-is z (t .sec) (t .ns) o n (omega arith)
 
 -- a zone's offset and the seconds that a window has with four days on either side
-pub kept-room : (f : List ℕ) (z : Zone′) (lo hi : Instant) (o : ℕ) → ZoneOk f z → Window 14 lo hi → KeepsOffset (meant f z) (nanos lo) (nanos hi) o → 0 < o
+pub kept-room : (f : List ℕ) (z : Zone′) (lo hi : Instant) (o : ℕ) → ZoneOk f z → Window 14 lo hi → KeepsOffset (zoneIs f z) (nanos lo) (nanos hi) o → 0 < o
     → (o ≤ 187199) × (12654842399 ≤ lo .sec) × (lo .sec ≤ hi .sec) × (hi .sec ≤ 643761381600)
 kept-room f z lo hi o s w k h =
     let a = w .low .ns in let b = w .high .ns in let c = w .order in let l = k .low h in let u = k .high h in
     (kept-small f z lo hi o s k c h, omega arith, omega arith, omega arith)
 
-pub days-kept : (f g : List ℕ) (z : Zone′) (lo hi : Instant) (o : ℕ) (d : LocalDates) → f ≡ g → ZoneOk g z → Window 14 lo hi → KeepsOffset (meant f z) (nanos lo) (nanos hi) o → 0 < o
-    → d .first ≡ dayBy o lo - 2 → d .last ≡ dayBy o hi + 1 → d .offset ≡ o → IsLocalDates (meant g z) lo hi d
+pub days-kept : (f g : List ℕ) (z : Zone′) (lo hi : Instant) (o : ℕ) (d : LocalDates) → f ≡ g → ZoneOk g z → Window 14 lo hi → KeepsOffset (zoneIs f z) (nanos lo) (nanos hi) o → 0 < o
+    → d .first ≡ dayBy o lo - 2 → d .last ≡ dayBy o hi + 1 → d .offset ≡ o → IsLocalDates (zoneIs g z) lo hi d
 days-kept f g z lo hi o d e s w k h p q r =
     let m = kept-room f z lo hi o (zone-moved f g z e s) w k h in
     let b = m .1 in let c = m .2 in let x = m .3 in
-    let i = by-offset (meant f z) lo hi lo o k h (omega arith) (w .order) (w .low .ns) in
-    let j = by-offset (meant f z) lo hi hi o k h (w .order) (omega arith) (w .high .ns) in
+    let i = by-offset (zoneIs f z) lo hi lo o k h (omega arith) (w .order) (w .low .ns) in
+    let j = by-offset (zoneIs f z) lo hi hi o k h (w .order) (omega arith) (w .high .ns) in
     let u : 146465 ≤ dayBy o lo = omega arith in
     let v : dayBy o hi < 7450946 = omega arith in
     days-are f g z lo hi d e s w
-    (p ∙ first-back (meant f z) (nanos lo) (dayBy o lo) i u)
-    (q ∙ last-on (meant f z) (nanos hi) (dayBy o hi) j v)
+    (p ∙ first-back (zoneIs f z) (nanos lo) (dayBy o lo) i u)
+    (q ∙ last-on (zoneIs f z) (nanos hi) (dayBy o hi) j v)
     (rw r k)
 
 pub day-in : (z : Zone) (lo hi : Instant) (days : LocalDates) (d : ℕ) → IsLocalDates z lo hi days → days .first ≤ d → d ≤ days .last → IsDay d
 day-in z lo hi days d q a b = let l = q .low in let u = q .high in record { low = omega arith; high = omega arith }
 
 -- the same, of a zone whose file is a part of the pack
-pub kept-moved : (f g : List ℕ) (z : Zone′) (lo hi : Instant) (days : LocalDates) → f ≡ g → IsLocalDates (meant g z) lo hi days → KeepsOffset (meant f z) (nanos lo) (nanos hi) (days .offset)
+pub kept-moved : (f g : List ℕ) (z : Zone′) (lo hi : Instant) (days : LocalDates) → f ≡ g → IsLocalDates (zoneIs g z) lo hi days → KeepsOffset (zoneIs f z) (nanos lo) (nanos hi) (days .offset)
 kept-moved f g z lo hi days e q = rw e (q .kept)
 
-pub in-moved : (f g : List ℕ) (z : Zone′) (lo hi : Instant) (days : LocalDates) (d : ℕ) → f ≡ g → Window 14 lo hi → IsLocalDates (meant g z) lo hi days → days .first ≤ d → d ≤ days .last
-    → IsIn (meant f z) lo hi d
+pub in-moved : (f g : List ℕ) (z : Zone′) (lo hi : Instant) (days : LocalDates) (d : ℕ) → f ≡ g → Window 14 lo hi → IsLocalDates (zoneIs g z) lo hi days → days .first ≤ d → d ≤ days .last
+    → IsIn (zoneIs f z) lo hi d
 in-moved f g z lo hi days d e w q a b =
     let p = q .first-is in let r = q .last-is in
     rw e (record { order = w .order; first = omega arith; last = omega arith })
 
 pub rule-piece : (p f : List ℕ) (r : Rule′) (lo hi d : ℕ) (x : Item) → f ≡ fileAt p (r .at) (r .len)
-    → held x ≡ pieceOf (during (meant f (r .zone)) (timeIn (r .from)) (timeIn (r .to))) lo hi d → held x ≡ pieceOf (ruleIs p r) lo hi d
+    → held x ≡ pieceOf (during (zoneIs f (r .zone)) (timeIn (r .from)) (timeIn (r .to))) lo hi d → held x ≡ pieceOf (ruleIs p r) lo hi d
 rule-piece p f r lo hi d x e h =
-    h ∙ ap (λ (f : List ℕ). pieceOf (during (meant f (r .zone)) (timeIn (r .from)) (timeIn (r .to))) lo hi d) e ∙ piece-any (ruleIs p r) lo hi d
+    h ∙ ap (λ (f : List ℕ). pieceOf (during (zoneIs f (r .zone)) (timeIn (r .from)) (timeIn (r .to))) lo hi d) e ∙ piece-any (ruleIs p r) lo hi d
 
 pub closed-piece : (f g : List ℕ) (z : Zone′) (lo hi d : ℕ) (x : Item) → f ≡ g
-    → held x ≡ pieceOf (during (meant f z) 0 0) lo hi d → held x ≡ pieceOf (during (meant g z) 0 0) lo hi d
-closed-piece f g z lo hi d x e h = h ∙ ap (λ (f : List ℕ). pieceOf (during (meant f z) 0 0) lo hi d) e
+    → held x ≡ pieceOf (during (zoneIs f z) 0 0) lo hi d → held x ≡ pieceOf (during (zoneIs g z) 0 0) lo hi d
+closed-piece f g z lo hi d x e h = h ∙ ap (λ (f : List ℕ). pieceOf (during (zoneIs f z) 0 0) lo hi d) e
 
 -- a date is among the distinct ones if it is among them
 pub among-distinct : (l : List ℕ) (n : ℕ) → among (distinct l) n ≡ among l n

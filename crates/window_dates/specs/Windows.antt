@@ -4,7 +4,7 @@ use mathlib.Core.List.{List}
 use Prim.Native.Nat.{ℕ, _+_, _*_, _-_, _/_, _≤_}
 use Rattle.model.specs.Calendar.{firstDay, lastDay}
 use Rattle.model.specs.Blocks.{Block}
-use Rattle.model.specs.Instant.{day}
+use Rattle.model.specs.Instant.{day, daySeconds}
 use Rattle.model.specs.Tzif.{Zone}
 use Rattle.model.specs.Working.{firstDate, lastDate, blocksOf}
 use Rattle.instant.specs.Instant.{nanos, InRange}
@@ -13,6 +13,7 @@ use Rattle.zone_local.specs.Dates.{KeepsOffset, pieceOf}
 use Rattle.rule.specs.Rules.{ruleIs, RuleFits}
 use Rattle.rule.specs.declared.Rule.{Rule}
 use Rattle.window_dates.specs.declared.LocalDates.{LocalDates}
+use Rattle.model.specs.Offset.{offsetBias}
 
 -- a window of at most k days inside the range
 pub record Window (k : ℕ) (lo hi : Instant) : Type 0 where
@@ -22,8 +23,8 @@ pub record Window (k : ℕ) (lo hi : Instant) : Type 0 where
   pub short : nanos hi ≤ nanos lo + k * day
 
 -- how many dates a window of 14 days has at most
-abbrev pub mostDates : ℕ
-mostDates = 21
+abbrev pub mostWindowDates : ℕ
+mostWindowDates = 21
 
 -- the dates of a window, at most 21 of the years -9999 to 9999
 pub record IsLocalDates (z : Zone) (lo hi : Instant) (d : LocalDates) : Type 0 where
@@ -31,12 +32,12 @@ pub record IsLocalDates (z : Zone) (lo hi : Instant) (d : LocalDates) : Type 0 w
   pub last-is : d .last ≡ lastDate z (nanos hi)
   pub low : firstDay ≤ d .first
   pub high : d .last ≤ lastDay
-  pub few : d .last + 1 ≤ d .first + mostDates
+  pub few : d .last + 1 ≤ d .first + mostWindowDates
   pub kept : KeepsOffset z (nanos lo) (nanos hi) (d .offset)
 
 -- the local date at t by the offset o
 abbrev pub dayBy : ℕ → Instant → ℕ
-dayBy o t = (t .sec + o - 93600) / 86400
+dayBy o t = (t .sec + o - offsetBias) / daySeconds
 
 -- the seconds of the instants that are four days from the ends of the range
 abbrev pub fromSecond : ℕ

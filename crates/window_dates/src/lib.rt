@@ -1,7 +1,7 @@
 // The dates that a window [lo, hi) has in a zone, and what a rule shows of one of them. Zone files are in the lent pack.
 ghost use mathlib.Core.Path.{_≡_};
 ghost use Prim.Native.Nat.{_+_, _-_, _<_};
-ghost use Rattle.zone.specs.Zones.{meant, ZoneOk};
+ghost use Rattle.zone.specs.Zones.{zoneIs, ZoneOk};
 ghost use Rattle.rule.specs.Rules.{fileAt};
 ghost use Rattle.zone_local.specs.Dates.{held};
 ghost use Rattle.window_dates.specs.Windows.{Window, IsLocalDates, OffsetHolds, RuleDate, rulePiece, dayBy};
@@ -22,8 +22,8 @@ fn dates_by(o: u32, lo: Instant, hi: Instant) -> LocalDates
     requires { ⌜ OffsetHolds o lo hi ⌝ }
     ensures { λ r. ⌜ (r .first ≡ dayBy o lo - 2) × (r .last ≡ dayBy o hi + 1) × (r .offset ≡ o) ⌝ }
 {
-    let first = (lo.sec + o as u64 - 93600) / instant::DAY;
-    let last = (hi.sec + o as u64 - 93600) / instant::DAY;
+    let first = (lo.sec + o as u64 - zone_offset::BIAS_64) / instant::DAY;
+    let last = (hi.sec + o as u64 - zone_offset::BIAS_64) / instant::DAY;
     LocalDates {
         first: first as u32 - 2,
         last: last as u32 + 1,
@@ -41,7 +41,7 @@ pub fn local_dates(
     hi: Instant,
 ) -> LocalDates
     requires { ⌜ ZoneOk (fileAt (now pack) at len) z × Window 14 lo hi ⌝ }
-    ensures { λ r. ⌜ IsLocalDates (meant (fileAt (now (pack .entry)) at len) z) lo hi r ⌝ }
+    ensures { λ r. ⌜ IsLocalDates (zoneIs (fileAt (now (pack .entry)) at len) z) lo hi r ⌝ }
 {
     let f = big_endian::part(pack, at, len);
     let offset = zone_local::one_offset(f, z, lo, hi);

@@ -22,7 +22,7 @@ use Rattle.rule.specs.Rules.{holidaysIs}
 use Rattle.zone_local.specs.Dates.{pieceOf}
 use Rattle.window_dates.proofs.Fill.{shown, among-distinct}
 use Rattle.block_pairs.specs.Pairs.{part, pairs}
-use Rattle.window_piece.specs.Filled.{Filled, Ready}
+use Rattle.window_piece.specs.Filled.{Filled, PairsReady}
 use Rattle.window_piece.proofs.Laws.{Apart, apart-both, apart-onward, union-steps, onward-append}
 use Rattle.window_piece.proofs.Fills.{apart-shown}
 use Rattle.window_piece.proofs.Frames.{rule-shows}
@@ -185,7 +185,7 @@ module _ (u : ℕ) (b : List ℕ) (p count : ℕ) (f : ℕ → List Block) (fa :
       let s = shown-few (among (datesAt b at (count - left))) f h (last + 1 - first) first in
       omega arith
 
-  pub closing-ready : ((d : ℕ) → length (f d) ≤ 1) → last + 1 ≤ first + 14 → 2 * (w + 15) ≤ length l₀ → Ready l n 1
+  pub closing-ready : ((d : ℕ) → length (f d) ≤ 1) → last + 1 ≤ first + 14 → 2 * (w + 15) ≤ length l₀ → PairsReady l n 1
   closing-ready h k r = let a = closing-count h k in let e = m .long in record { normal = closing-normal; room = omega arith }
 
   -- the dates with the one in front of them

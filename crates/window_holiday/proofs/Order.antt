@@ -15,7 +15,8 @@ use Rattle.model.specs.Calendar.{isLeap, isDate, dayNumber, dateOf, daysInMonth
 use Rattle.laws_calendar.specs.Dates.{Has, IsDate, date-has, day-of-date, has-within, is-had, date-facts, year-mono, at-most-31}
 use Rattle.laws_base.specs.Test.{by-test, both-and, clash}
 use Rattle.book.specs.Meaning.{writtenYear, dayAt}
-use Rattle.window_holiday.specs.Ranks.{yearShift, rank, rankOf, rankAt, dayOfRank}
+use Rattle.window_holiday.specs.Ranks.{rank, rankOf, rankAt, dayOfRank}
+use Rattle.civil.specs.Dates.{yearBias}
 
 -- ---- the order of dates
 
@@ -47,7 +48,7 @@ module _ (y m d z n e : ℕ) (a : Has y m d) (b : Has z n e) where
       let x = ap daysBeforeYear h in let w = ap (λ (i : ℕ). daysBeforeMonth (isLeap i) m) h in let v = ap (daysBeforeMonth (isLeap z)) k in
       let q = a .day-low in omega arith
 
-  ranks : rank (y + yearShift) m d < rank (z + yearShift) n e → dayNumber y m d < dayNumber z n e
+  ranks : rank (y + yearBias) m d < rank (z + yearBias) n e → dayNumber y m d < dayNumber z n e
   ranks h =
       let p = at-most-31 (isLeap y) m (a .month-high) in let q = at-most-31 (isLeap z) n (b .month-high) in
       let r = a .day-high in let s = b .day-high in let t = a .month-high in let u = b .month-high in
@@ -57,7 +58,7 @@ module _ (y m d z n e : ℕ) (a : Has y m d) (b : Has z n e) where
 -- ---- the dates of a window
 
 -- the rank of a date that is written
-rank-is : (b : List ℕ) (p : ℕ) → 0 < writtenYear b p → rankAt b p ≡ rank (writtenYear b p + yearShift) (getD b (p + 2) 0) (getD b (p + 3) 0)
+rank-is : (b : List ℕ) (p : ℕ) → 0 < writtenYear b p → rankAt b p ≡ rank (writtenYear b p + yearBias) (getD b (p + 2) 0) (getD b (p + 3) 0)
 unfolding rankAt writtenYear
 rank-is b p h = omega arith
 
@@ -106,12 +107,12 @@ rank-read b p n r h e q =
     let g : r ≡ rankAt b p = omega arith in (g, day-of-rank-is b p r g m d)
 
 abbrev hasDate : ℕ → Bool
-hasDate k = isDate (k / 65536 - yearShift) (k / 256 % 256) (k % 256)
+hasDate k = isDate (k / 65536 - yearBias) (k / 256 % 256) (k % 256)
 
 pub no-day : (k : ℕ) → hasDate k ≡ false → 0 ≡ dayOfRank k
 unfolding dayOfRank
 no-day k e = rw e
 
-pub a-day : (k n : ℕ) → hasDate k ≡ true → n ≡ dayNumber (k / 65536 - yearShift) (k / 256 % 256) (k % 256) → n ≡ dayOfRank k
+pub a-day : (k n : ℕ) → hasDate k ≡ true → n ≡ dayNumber (k / 65536 - yearBias) (k / 256 % 256) (k % 256) → n ≡ dayOfRank k
 unfolding dayOfRank
 a-day k n e h = rw e h

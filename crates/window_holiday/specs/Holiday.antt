@@ -5,7 +5,7 @@ use Rattle.model.specs.Tzif.{Zone}
 use Rattle.model.specs.Working.{blocksOf, holidayRule}
 use Rattle.instant.specs.Instant.{nanos}
 use Rattle.instant.specs.declared.Instant.{Instant}
-use Rattle.zone.specs.Zones.{meant, ZoneOk}
+use Rattle.zone.specs.Zones.{zoneIs, ZoneOk}
 use Rattle.rule.specs.Rules.{fileAt, holidaysIs}
 use Rattle.rule.specs.declared.HolidayDates.{HolidayDates}
 use Rattle.zone_local.specs.Dates.{pieceOf, during}
@@ -15,17 +15,17 @@ use Rattle.window_piece.specs.Filled.{Filled, IsFrame}
 use Rattle.window_piece.specs.declared.Frame.{Frame}
 
 -- the zone of a record
-abbrev pub zoneOf : List ℕ → HolidayDates → Zone
-zoneOf pack c = meant (fileAt pack (c .at) (c .len)) (c .zone)
+abbrev pub holidayZone : List ℕ → HolidayDates → Zone
+holidayZone pack c = zoneIs (fileAt pack (c .at) (c .len)) (c .zone)
 
 -- a date that a window of at most 14 days has in the record's zone, and the frame of the window's dates
 abbrev pub FreeDate : List ℕ → HolidayDates → LocalDates → Frame → ℕ → Instant → Instant → Type 0
 FreeDate pack c days f d lo hi =
-    ZoneOk (fileAt pack (c .at) (c .len)) (c .zone) × Window 14 lo hi × IsLocalDates (zoneOf pack c) lo hi days × IsFrame days lo hi f × (days .first ≤ d) × (d ≤ days .last)
+    ZoneOk (fileAt pack (c .at) (c .len)) (c .zone) × Window 14 lo hi × IsLocalDates (holidayZone pack c) lo hi days × IsFrame days lo hi f × (days .first ≤ d) × (d ≤ days .last)
 
 -- the whole of a date was added to the first w blocks of the memory, which are now n
 abbrev pub DateAdded : List ℕ → HolidayDates → Instant → Instant → ℕ → List ℕ → ℕ → List ℕ → ℕ → Type 0
-DateAdded pack c lo hi d old w new n = Filled (nanos lo) old w (pieceOf (during (zoneOf pack c) 0 0) (nanos lo) (nanos hi) d) 1 new n
+DateAdded pack c lo hi d old w new n = Filled (nanos lo) old w (pieceOf (during (holidayZone pack c) 0 0) (nanos lo) (nanos hi) d) 1 new n
 
 -- the record's dates were added, at most 14 blocks
 abbrev pub Closed : List ℕ → List ℕ → HolidayDates → Instant → Instant → List ℕ → ℕ → List ℕ → ℕ → Type 0

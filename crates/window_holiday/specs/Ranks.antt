@@ -5,14 +5,7 @@ use lib.ListN.{getD}
 use Rattle.big_endian.specs.Be.{be16}
 use Rattle.model.specs.Basic.{if_then_else_}
 use Rattle.model.specs.Calendar.{dateOf, isDate, dayNumber}
-
--- years are counted from -10400, those of ranks from -32768: so many years before
-abbrev pub yearShift : ℕ
-yearShift = 22368
-
--- how many days the calendar has
-abbrev pub calendarDays : ℕ
-calendarDays = 7597044
+use Rattle.civil.specs.Dates.{yearBias}
 
 -- the rank of a date: year, month and day as one number, the year counted from -32768, which is the first that two bytes say
 abbrev pub rank : ℕ → ℕ → ℕ → ℕ
@@ -20,7 +13,7 @@ rank y m d = y * 65536 + m * 256 + d
 
 -- that of a day's date
 unfoldable pub rankOf : ℕ → ℕ
-rankOf n = rank (dateOf n .year + yearShift) (dateOf n .month) (dateOf n .day)
+rankOf n = rank (dateOf n .year + yearBias) (dateOf n .month) (dateOf n .day)
 
 -- that of what is written at p
 unfoldable pub rankAt : List ℕ → ℕ → ℕ
@@ -29,5 +22,5 @@ rankAt b p = rank ((be16 b p + 32768) % 65536) (getD b (p + 2) 0) (getD b (p + 3
 -- the day of the date that has the rank k, 0 where it is no date's
 unfoldable pub dayOfRank : ℕ → ℕ
 dayOfRank k =
-    let y = k / 65536 - yearShift in let m = k / 256 % 256 in let d = k % 256 in
+    let y = k / 65536 - yearBias in let m = k / 256 % 256 in let d = k % 256 in
     if isDate y m d then dayNumber y m d else 0

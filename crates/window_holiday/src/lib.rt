@@ -7,26 +7,18 @@ ghost use Rattle.model.specs.Basic.{isIn};
 ghost use Rattle.book.specs.Meaning.{dayAt};
 ghost use Rattle.rule.specs.Rules.{HolidaysFit};
 ghost use Rattle.window_dates.specs.Windows.{Window};
-ghost use Rattle.window_piece.specs.Filled.{Ready};
+ghost use Rattle.window_piece.specs.Filled.{PairsReady};
 ghost use Rattle.window_holiday.specs.Holiday.{FreeDate, DateAdded, Closed};
-ghost use Rattle.window_holiday.specs.Ranks.{calendarDays, rankAt, rankOf, dayOfRank};
+ghost use Rattle.window_holiday.specs.Ranks.{rankAt, rankOf, dayOfRank};
+ghost use Rattle.civil.specs.Dates.{calendarDays};
 use civil::Time;
 use instant::Instant;
 use rule::HolidayDates;
 use window_dates::LocalDates;
 use window_piece::Frame;
 
-// Half as many numbers as four bytes say.
-const HALF: u64 = 2147483648;
-
-// How many numbers four bytes say.
-const WHOLE: u64 = 4294967296;
-
-// Years are counted from -10400, those of ranks from -32768: so many years before.
-const YEAR_SHIFT: u32 = 22368;
-
-// How many days the calendar has.
-const CALENDAR_DAYS: u32 = 7597044;
+// Half as many numbers as four bytes say: so many are negative where they have a sign.
+const NEGATIVES: u64 = big_endian::FOUR_BYTES / 2;
 
 // Adds the whole of a date of the window.
 fn free_into(
@@ -40,7 +32,7 @@ fn free_into(
     out: &mut [u64],
     w: usize,
 ) -> usize
-    requires { ⌜ FreeDate (now pack) c days f day lo hi × Ready (now out) w 1 ⌝ }
+    requires { ⌜ FreeDate (now pack) c days f day lo hi × PairsReady (now out) w 1 ⌝ }
     ensures { λ n. ⌜ DateAdded (now (pack .entry)) c lo hi day (now (out .entry)) w (now (out .exit)) n ⌝ }
 {
     if f.first == 0 {
@@ -63,7 +55,7 @@ fn rank_at(b: &[u8], p: usize) -> u32
     ensures { λ r. ⌜ (r ≡ rankAt (now (b .entry)) p) × (dayOfRank r ≡ dayAt (now (b .entry)) p) ⌝ }
 {
     let n = number::u32_to_u64(big_endian::four_at(b, p));
-    ((n + HALF) % WHOLE) as u32
+    ((n + NEGATIVES) % big_endian::FOUR_BYTES) as u32
 }
 
 // Whether k is one of the ranks from `from` to `to`.
@@ -81,10 +73,10 @@ fn in_ranks(k: u32, from: u64, to: u64) -> bool
 fn day_of_rank(k: u32) -> u32
     ensures { λ r. ⌜ r ≡ dayOfRank k ⌝ }
 {
-    if k / 65536 < YEAR_SHIFT {
+    if k / 65536 < civil::YEAR_BIAS {
         return 0;
     }
-    let year = k / 65536 - YEAR_SHIFT;
+    let year = k / 65536 - civil::YEAR_BIAS;
     let month = k / 256 % 256;
     let day = k % 256;
     if !civil::is_date(year, month, day) {
@@ -99,14 +91,14 @@ fn rank_of(day: u32) -> u64
     ensures { λ r. ⌜ r ≡ rankOf day ⌝ }
 {
     let d = civil::date_of(day);
-    (d.year as u64 + YEAR_SHIFT as u64) * 65536 + d.month as u64 * 256 + d.day as u64
+    (d.year as u64 + civil::YEAR_BIAS as u64) * 65536 + d.month as u64 * 256 + d.day as u64
 }
 
 // The same; 0 for a day behind those that the calendar has.
 fn rank_from(day: u32) -> u64
     ensures { λ r. ⌜ r ≤ rankOf day ⌝ }
 {
-    if day < CALENDAR_DAYS {
+    if day < civil::CALENDAR_DAYS {
         return rank_of(day);
     }
     0
@@ -123,7 +115,7 @@ pub fn holidays_into(
     out: &mut [u64],
     w: usize,
 ) -> usize
-    requires { ⌜ HolidaysFit (now book) (now pack) c × Window 7 lo hi × Ready (now out) w 15 ⌝ }
+    requires { ⌜ HolidaysFit (now book) (now pack) c × Window 7 lo hi × PairsReady (now out) w 15 ⌝ }
     ensures { λ n. ⌜ Closed (now (book .entry)) (now (pack .entry)) c lo hi (now (out .entry)) w (now (out .exit)) n ⌝ }
 {
     let z = c.zone;
@@ -135,10 +127,10 @@ pub fn holidays_into(
     let to = rank_of(last);
     let mut n = w;
     let mut left = c.count;
-    let mut at = c.dates + 4 * c.count;
+    let mut at = c.dates + book_dates::DATE_SIZE * c.count;
     while 0 < left {
         left -= 1;
-        at -= 4;
+        at -= book_dates::DATE_SIZE;
         let k = rank_at(book, at);
         if in_ranks(k, from, to) {
             let d = day_of_rank(k);

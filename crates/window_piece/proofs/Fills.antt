@@ -19,7 +19,7 @@ use Rattle.block.specs.declared.Block.{Block as Item}
 use Rattle.zone_local.specs.Dates.{held}
 use Rattle.window_dates.proofs.Fill.{shown, date-on, date-off, dates-done, restOf, rest-more, rest-end}
 use Rattle.block_pairs.specs.Pairs.{pairs}
-use Rattle.window_piece.specs.Filled.{Filled, Ready}
+use Rattle.window_piece.specs.Filled.{Filled, PairsReady}
 use Rattle.window_piece.proofs.Laws.{Apart, apart-none, apart-both, apart-onward, union-steps, onward-append}
 
 -- ---- one piece
@@ -71,7 +71,7 @@ pub filled-same : (t : ℕ) (l₀ : List ℕ) (w : ℕ) (b b′ : List Block) (k
 filled-same t l₀ w b b′ k l r e f = filled-as t t l₀ w b b′ k l r (ap (onward t) e) f
 
 -- room for fewer, and at most more
-pub ready-less : (l : List ℕ) (w j k : ℕ) → j ≤ k → Ready l w k → Ready l w j
+pub ready-less : (l : List ℕ) (w j k : ℕ) → j ≤ k → PairsReady l w k → PairsReady l w j
 ready-less l w j k h r = let a = r .room in record { normal = r .normal; room = omega arith }
 
 pub filled-more : (t : ℕ) (l₀ : List ℕ) (w : ℕ) (b : List Block) (j k : ℕ) (l : List ℕ) (r : ℕ) → j ≤ k → Filled t l₀ w b j l r → Filled t l₀ w b k l r
@@ -112,7 +112,7 @@ steps t a b c r whole x n p q e g h =
 
 module _ (t : ℕ) (on : ℕ → Bool) (f : ℕ → List Block) (fa : (d : ℕ) → Apart t (f d)) (last k : ℕ) (l₀ : List ℕ) (w : ℕ) (whole : List Block) (l : List ℕ) (n d : ℕ)
     (m : Dating t on f last k l₀ w whole l n d) where
-  pub dating-ready : d ≤ last → 2 * (w + k) ≤ length l₀ → Ready l n 1
+  pub dating-ready : d ≤ last → 2 * (w + k) ≤ length l₀ → PairsReady l n 1
   dating-ready h r = let a = m .count in let b = m .long in record { normal = m .normal; room = omega arith }
 
   pub dating-on : d ≤ last → on d ≡ true → (l′ : List ℕ) (n′ : ℕ) → Filled t l n (f d) 1 l′ n′ → Dating t on f last k l₀ w whole l′ n′ (d + 1)
@@ -175,11 +175,11 @@ module _ {A : Type 0} (t : ℕ) (g : A → List Block) (ga : (a : A) → Apart t
   ruling-starts l w c h = record { same = refl; normal = c; count = omega arith; upto = omega arith; fits = h; long = refl }
 
   module _ (l₀ : List ℕ) (w : ℕ) (l : List ℕ) (n i : ℕ) (m : Ruling l₀ w l n i) where
-    pub ruling-ready : i < k → 2 * (w + most * k) ≤ length l₀ → Ready l n most
+    pub ruling-ready : i < k → 2 * (w + most * k) ≤ length l₀ → PairsReady l n most
     ruling-ready h r = let a = m .count in let b = m .long in let c = most-less most i k h in record { normal = m .normal; room = omega arith }
 
     -- the same with room for one block more
-    pub ruling-roomy : i < k → 2 * (w + most * k) + 2 ≤ length l₀ → Ready l n (most + 1)
+    pub ruling-roomy : i < k → 2 * (w + most * k) + 2 ≤ length l₀ → PairsReady l n (most + 1)
     ruling-roomy h r = let a = m .count in let b = m .long in let c = most-less most i k h in record { normal = m .normal; room = omega arith }
 
     pub ruling-turn : i < k → (x : A) (l′ : List ℕ) (n′ : ℕ) → Filled t l n (g (getD items i x)) most l′ n′ → Ruling l₀ w l′ n′ (i + 1)

@@ -9,7 +9,7 @@ use lib.ListN.{length}
 use Rattle.model.specs.Basic.{run}
 use Rattle.model.specs.Blocks.{Block, block, put, clipped}
 use Rattle.model.specs.Calendar.{firstDay}
-use Rattle.model.specs.Instant.{second, day}
+use Rattle.model.specs.Instant.{second, day, firstSecond}
 use Rattle.model.specs.Walk.{onward}
 use Rattle.model.specs.Working.{Rule, firstDate, lastDate, localDates, startOf, endOf, blocksOf}
 use Rattle.laws_base.specs.Test.{by-test}
@@ -17,12 +17,12 @@ use Rattle.laws_blocks.specs.Move.{moves, clipped-moved}
 use Rattle.laws_skip.specs.Steady.{less}
 use Rattle.laws_skip.specs.Counts.{dates-most, clipped-length}
 use Rattle.laws_zone.specs.Zones.{fits-sound}
-use Rattle.instant.specs.Instant.{nanos, firstSecond}
+use Rattle.instant.specs.Instant.{nanos}
 use Rattle.instant.specs.declared.Instant.{Instant}
 use Rattle.block.specs.declared.Block.{Block as Item}
 use Rattle.civil.specs.Dates.{timeIn, TimeFits}
 use Rattle.civil.specs.declared.Time.{Time}
-use Rattle.zone.specs.Zones.{meant, ZoneOk}
+use Rattle.zone.specs.Zones.{zoneIs, ZoneOk}
 use Rattle.zone.specs.declared.Zone.{Zone as Zone′}
 use Rattle.rule.specs.declared.Rule.{Rule as Rule′}
 use Rattle.rule.specs.Rules.{fileAt, ruleIs, RuleFits}
@@ -31,15 +31,16 @@ use Rattle.zone_local.proofs.Facts.{plain-piece, kept-small}
 use Rattle.window_dates.specs.Windows.{Window, IsLocalDates}
 use Rattle.window_dates.specs.declared.LocalDates.{LocalDates}
 use Rattle.window_dates.proofs.Fill.{shown}
-use Rattle.window_piece.specs.Filled.{Inside, Filled, IsFrame, midnight, plainPiece}
+use Rattle.window_piece.specs.Filled.{InFortnight, Filled, IsFrame, midnight, plainPiece}
 use Rattle.window_piece.specs.declared.Frame.{Frame}
 use Rattle.window_piece.proofs.Laws.{Apart, apart-clipped}
 use Rattle.window_piece.proofs.Fills.{filled-same, apart-shown}
+use Rattle.laws_blocks.specs.Lists.{firstStart, firstEnd}
 
 -- what a rule shows of a date, by the offset
 plain-clipped : (f : List ℕ) (z : Zone′) (from to : Time) (lo hi : Instant) (o d : ℕ) → ZoneOk f z → TimeFits from → TimeFits to
-    → KeepsOffset (meant f z) (nanos lo) (nanos hi) o → IsIn (meant f z) lo hi d → 0 < o
-    → pieceOf (during (meant f z) (timeIn from) (timeIn to)) (nanos lo) (nanos hi) d
+    → KeepsOffset (zoneIs f z) (nanos lo) (nanos hi) o → IsIn (zoneIs f z) lo hi d → 0 < o
+    → pieceOf (during (zoneIs f z) (timeIn from) (timeIn to)) (nanos lo) (nanos hi) d
     ≡ clipped (nanos lo) (nanos hi) (less (o * second) d (timeIn from)) (less (o * second) d (tillTime (timeIn from) (timeIn to)))
 unfolding held clipped
 plain-clipped f z from to lo hi o d k a b q i h =
@@ -93,9 +94,9 @@ unfolding blocksOf localDates pieceOf
 rule-shows r lo hi a b p q = rw (p, q)
 
 -- a window of seven days has at most 14 dates
-pub few-dates : (f : List ℕ) (z : Zone′) (lo hi : Instant) (days : LocalDates) → ZoneOk f z → Window 7 lo hi → IsLocalDates (meant f z) lo hi days → days .last + 1 ≤ days .first + 14
+pub few-dates : (f : List ℕ) (z : Zone′) (lo hi : Instant) (days : LocalDates) → ZoneOk f z → Window 7 lo hi → IsLocalDates (zoneIs f z) lo hi days → days .last + 1 ≤ days .first + 14
 few-dates f z lo hi days o w q =
-    let k = dates-most (meant f z) (fits-sound (meant f z) (o .fits)) (nanos lo) (nanos hi) 7 (w .short) in
+    let k = dates-most (zoneIs f z) (fits-sound (zoneIs f z) (o .fits)) (nanos lo) (nanos hi) 7 (w .short) in
     let a = q .first-is in let b = q .last-is in
     omega arith
 
@@ -103,7 +104,7 @@ few-dates f z lo hi days o w q =
 pub few-count : (first last k : ℕ) → last + 1 ≤ first + k → last + 1 - first ≤ k
 few-count first last k h = omega arith
 
-pub offset-small : (f : List ℕ) (z : Zone′) (lo hi : Instant) (days : LocalDates) → ZoneOk f z → Window 14 lo hi → IsLocalDates (meant f z) lo hi days → days .offset ≤ 187199
+pub offset-small : (f : List ℕ) (z : Zone′) (lo hi : Instant) (days : LocalDates) → ZoneOk f z → Window 14 lo hi → IsLocalDates (zoneIs f z) lo hi days → days .offset ≤ 187199
 offset-small f z lo hi days o w q = small (days .offset) (λ h. kept-small f z lo hi (days .offset) o (q .kept) (w .order) h)
   where
     small : (o : ℕ) → (0 < o → o ≤ 187199) → o ≤ 187199
@@ -112,9 +113,9 @@ offset-small f z lo hi days o w q = small (days .offset) (λ h. kept-small f z l
 
 module _ (lo hi : Instant) (days : LocalDates) (w : Window 14 lo hi) (x : Frame) (m : IsFrame days lo hi x) (known : 0 < x .first) where
   -- a whole date, by the offset
-  pub free-plain : (f : List ℕ) (z : Zone′) → ZoneOk f z → IsLocalDates (meant f z) lo hi days → (d : ℕ) → days .first ≤ d → d ≤ days .last
+  pub free-plain : (f : List ℕ) (z : Zone′) → ZoneOk f z → IsLocalDates (zoneIs f z) lo hi days → (d : ℕ) → days .first ≤ d → d ≤ days .last
       → onward (x .lo) (clipped (x .lo) (x .hi) (midnight (x .first) (days .first) d) (midnight (x .first) (days .first) d + day))
-      ≡ onward (nanos lo) (pieceOf (during (meant f z) 0 0) (nanos lo) (nanos hi) d)
+      ≡ onward (nanos lo) (pieceOf (during (zoneIs f z) 0 0) (nanos lo) (nanos hi) d)
   unfolding tillTime
   free-plain f z o q d h k =
       let zero-time : Time = record { seconds = 0; nanos = 0 } in
@@ -141,17 +142,8 @@ module _ (lo hi : Instant) (days : LocalDates) (w : Window 14 lo hi) (x : Frame)
 
 -- ---- what the functions on one piece are asked
 
--- the borders of a list's first block
-abbrev firstStart : List Block → ℕ
-firstStart [] = 0
-firstStart (b ∷ l) = b .start
-
-abbrev firstEnd : List Block → ℕ
-firstEnd [] = 0
-firstEnd (b ∷ l) = b .end
-
 -- a block that is cut to the window lies in it
-pub piece-inside : (lo hi : Instant) (x : Item) (s e : ℕ) → Window 14 lo hi → held x ≡ clipped (nanos lo) (nanos hi) s e → Inside lo x
+pub piece-inside : (lo hi : Instant) (x : Item) (s e : ℕ) → Window 14 lo hi → held x ≡ clipped (nanos lo) (nanos hi) s e → InFortnight lo x
 unfolding held clipped
 piece-inside lo hi x s e w h = record { range = w .low .high; from = λ k. go k .0; upto = λ k. let q = go k .1 in let z = w .short in omega arith }
   where
@@ -172,7 +164,7 @@ piece-inside lo hi x s e w h = record { range = w .low .high; from = λ k. go k 
         absurd (omega arith))
 
 -- the same, of what a rule shows of a date
-pub shown-inside : (lo hi : Instant) (x : Item) (r : Rule) (d : ℕ) → Window 14 lo hi → held x ≡ pieceOf r (nanos lo) (nanos hi) d → Inside lo x
+pub shown-inside : (lo hi : Instant) (x : Item) (r : Rule) (d : ℕ) → Window 14 lo hi → held x ≡ pieceOf r (nanos lo) (nanos hi) d → InFortnight lo x
 unfolding pieceOf
 shown-inside lo hi x r d w h = piece-inside lo hi x (startOf r d) (endOf r d) w h
 

@@ -69,15 +69,6 @@ subtract-onward t l k n f m g =
 pub total-onward : (t : ℕ) (l : List Block) → NonEmpty l → From t l → total (onward t l) ≡ total l
 total-onward t l n f = sym (total-moved t (onward t l)) ∙ ap total (back-again t l n f)
 
--- blocks that are apart sum up to no more than the span that they lie in
-pub total-within : (m e : ℕ) (l : List Block) → m ≤ e → Chain m l → Ends e l → m + total l ≤ e
-unfolding total
-total-within m e [] h c p = omega arith
-total-within m e (b ∷ l) h c p =
-    let q = total-within (b .end) e l (p .0) (chain-weaken (b .end) (suc (b .end)) l (omega arith) (c .2)) (p .1) in
-    let u = c .0 in let v = c .1 in
-    omega arith
-
 -- ---- lists of non-empty blocks from t on
 
 pub record Apart (t : ℕ) (l : List Block) : Type 0 where

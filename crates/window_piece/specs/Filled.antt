@@ -4,10 +4,10 @@ use mathlib.Core.List.{List, _++_}
 use Prim.Native.Nat.{ℕ, _+_, _*_, _-_, _≤_, _<_}
 use lib.ListN.{length}
 use Rattle.model.specs.Blocks.{Block, clipped, union}
-use Rattle.model.specs.Instant.{second, day}
+use Rattle.model.specs.Instant.{second, day, lastSecond, daySeconds}
 use Rattle.model.specs.Walk.{onward}
 use Rattle.laws_blocks.specs.Members.{Normal}
-use Rattle.instant.specs.Instant.{nanos, lastSecond}
+use Rattle.instant.specs.Instant.{nanos}
 use Rattle.instant.specs.declared.Instant.{Instant}
 use Rattle.block.specs.declared.Block.{Block as Item}
 use Rattle.window_dates.specs.declared.LocalDates.{LocalDates}
@@ -29,13 +29,13 @@ abbrev pub lead : ℕ
 lead = 1303200
 
 -- a block of the code that holds anything lies in the 14 days from lo on
-pub record Inside (lo : Instant) (x : Item) : Type 0 where
+pub record InFortnight (lo : Instant) (x : Item) : Type 0 where
   pub range : lo .sec ≤ lastSecond
   pub from : nanos (x .start) < nanos (x .end) → nanos lo ≤ nanos (x .start)
   pub upto : nanos (x .start) < nanos (x .end) → nanos (x .end) ≤ nanos lo + fortnight
 
 -- the first w blocks are sorted and apart, and there is room for k more
-pub record Ready (l : List ℕ) (w k : ℕ) : Type 0 where
+pub record PairsReady (l : List ℕ) (w k : ℕ) : Type 0 where
   pub normal : Normal (pairs w l)
   pub room : 2 * (w + k) ≤ length l
 
@@ -52,7 +52,7 @@ pub record IsFrame (days : LocalDates) (lo hi : Instant) (f : Frame) : Type 0 wh
   pub lo-is : f .lo ≡ fortnight + lo .ns
   pub hi-is : f .hi + nanos lo ≡ f .lo + nanos hi
   pub known : 0 < f .first → 0 < days .offset
-  pub first-is : 0 < f .first → f .first + (lo .sec + days .offset) * second ≡ (days .first * 86400 + lead) * second
+  pub first-is : 0 < f .first → f .first + (lo .sec + days .offset) * second ≡ (days .first * daySeconds + lead) * second
   pub close : f .first ≤ near
 
 -- the midnight of a date d, the first one's standing at m

@@ -3,12 +3,12 @@
 ghost use mathlib.Core.Path.{_≡_};
 ghost use Prim.Native.Nat.{_+_, _*_, _-_, _≤_, _<_};
 ghost use Rattle.model.specs.Blocks.{clipped};
-ghost use Rattle.model.specs.Instant.{day};
-ghost use Rattle.instant.specs.Instant.{nanos, lastSecond};
+ghost use Rattle.model.specs.Instant.{day, lastSecond};
+ghost use Rattle.instant.specs.Instant.{nanos};
 ghost use Rattle.civil.specs.Dates.{timeIn, TimeFits};
 ghost use Rattle.zone_local.specs.Dates.{held, tillTime};
 ghost use Rattle.window_dates.specs.Windows.{Window};
-ghost use Rattle.window_piece.specs.Filled.{fortnight, twoDays, Inside, Filled, Ready, IsFrame};
+ghost use Rattle.window_piece.specs.Filled.{fortnight, twoDays, InFortnight, Filled, PairsReady, IsFrame};
 use block::Block;
 use civil::Time;
 use instant::Instant;
@@ -44,7 +44,7 @@ pub fn since(lo: Instant, t: Instant) -> u64
 
 // Adds x to the first w blocks, if it holds anything.
 pub fn piece_into(x: Block, lo: Instant, out: &mut [u64], w: usize) -> usize
-    requires { ⌜ Inside lo x × Ready (now out) w 1 ⌝ }
+    requires { ⌜ InFortnight lo x × PairsReady (now out) w 1 ⌝ }
     ensures { λ r. ⌜ Filled (nanos lo) (now (out .entry)) w (held x) 1 (now (out .exit)) r ⌝ }
 {
     let s = x.start;
@@ -59,7 +59,7 @@ pub fn piece_into(x: Block, lo: Instant, out: &mut [u64], w: usize) -> usize
 
 // Adds the part of [s, e) in [lo, hi), as distances from lo.
 pub fn span_into(s: u64, e: u64, lo: u64, hi: u64, out: &mut [u64], w: usize) -> usize
-    requires { ⌜ Ready (now out) w 1 ⌝ }
+    requires { ⌜ PairsReady (now out) w 1 ⌝ }
     ensures { λ r. ⌜ Filled lo (now (out .entry)) w (clipped lo hi s e) 1 (now (out .exit)) r ⌝ }
 {
     let from = number::maximum(s, lo);

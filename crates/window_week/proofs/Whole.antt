@@ -21,7 +21,8 @@ use Rattle.window_dates.proofs.Whole.{off-is}
 use Rattle.block_pairs.specs.Pairs.{part, pairs}
 use Rattle.window_piece.specs.Filled.{Filled}
 use Rattle.window_piece.proofs.Frames.{rule-apart}
-use Rattle.window_piece.proofs.Laws.{Apart, apart-both, apart-onward, union-onto, onward-append, union-onward, subtract-onward, total-onward, total-within, onward-nonempty}
+use Rattle.window_piece.proofs.Laws.{Apart, apart-both, apart-onward, union-onto, onward-append, union-onward, subtract-onward, total-onward, onward-nonempty}
+use Rattle.laws_skip.specs.Schedules.{working-most}
 
 -- ---- blocks from the window's start on
 
@@ -120,16 +121,12 @@ module _ (s : Schedule) (lo hi : ℕ) where
       chain-at 0 lo hi (subtract (union W) (union O)) (subtract-normal (union W) (union O) a b)
       (λ t i. all-in lo hi (s .work) t (union-in t W .0 (subtract-in t (union W) (union O) b .0 i .0)))
 
-  -- the time of a window is no more than its length
-  pub working-most : lo ≤ hi → total (working s lo hi) ≤ hi - lo
-  working-most h = let c = work-chain in let t = total-within lo hi (working s lo hi) h (c .0) (c .1) in omega arith
-
   pub total-fits : lo ≤ hi → hi ≤ lo + 7 * day → (r : List Block) → r ≡ onward lo (working s lo hi) → NonEmpty r × (total r < 18446744073709551616)
   total-fits h k r e =
       let c = work-chain in
       let n = chain-nonempty lo (working s lo hi) (c .0) in
       let f = chain-sorted lo (working s lo hi) (c .0) .1 in
-      let t = working-most h in
+      let t = working-most s lo hi h in
       let o = total-onward lo (working s lo hi) n f in
       rw e (onward-nonempty lo (working s lo hi) n f, omega arith)
 

@@ -8,7 +8,7 @@ use Rattle.instant.specs.Instant.{nanos}
 use Rattle.instant.specs.declared.Instant.{Instant}
 use Rattle.rule.specs.Rules.{ruleIs, RuleFits}
 use Rattle.rule.specs.declared.Rule.{Rule}
-use Rattle.window_dates.specs.Windows.{Window, IsLocalDates, mostDates, rulePiece, ruleBlocks}
+use Rattle.window_dates.specs.Windows.{Window, IsLocalDates, mostWindowDates, rulePiece, ruleBlocks}
 use Rattle.window_dates.specs.declared.LocalDates.{LocalDates}
 use Rattle.window_piece.specs.Filled.{Filled, near, twoDays, plainPiece}
 use Rattle.window_piece.specs.declared.Frame.{Frame}
@@ -37,7 +37,7 @@ plain f first last set a b = joined (map (plainPiece f first a b) (filter (λ d.
 
 -- the dates from first to last, and the times of day a and b
 abbrev pub PlainFits : Frame → ℕ → ℕ → ℕ → ℕ → Type 0
-PlainFits f first last a b = (f .first ≤ near) × (a ≤ twoDays) × (b ≤ twoDays) × (last + 1 ≤ first + mostDates) × (last ≤ lastDay)
+PlainFits f first last a b = (f .first ≤ near) × (a ≤ twoDays) × (b ≤ twoDays) × (last + 1 ≤ first + mostWindowDates) × (last ≤ lastDay)
 
 -- what these dates show was added
 abbrev pub PlainAdded : Frame → ℕ → ℕ → ℕ → ℕ → ℕ → List ℕ → ℕ → List ℕ → ℕ → Type 0

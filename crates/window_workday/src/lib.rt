@@ -3,7 +3,7 @@
 ghost use Prim.Native.Nat.{_+_, _-_};
 ghost use Rattle.rule.specs.Rules.{RuleFits};
 ghost use Rattle.window_dates.specs.Windows.{Window, RuleDate};
-ghost use Rattle.window_piece.specs.Filled.{Ready};
+ghost use Rattle.window_piece.specs.Filled.{PairsReady};
 ghost use Rattle.window_workday.specs.Workday.{dateCount, RuleDates, PieceAdded, RuleAdded, PlainFits, PlainAdded};
 use instant::Instant;
 use rule::Rule;
@@ -21,7 +21,7 @@ fn plain_into(
     out: &mut [u64],
     w: usize,
 ) -> usize
-    requires { ⌜ PlainFits f first last a b × Ready (now out) w (last + 1 - first) ⌝ }
+    requires { ⌜ PlainFits f first last a b × PairsReady (now out) w (last + 1 - first) ⌝ }
     ensures { λ n. ⌜ PlainAdded f first last set a b (now (out .entry)) w (now (out .exit)) n ⌝ }
 {
     let lo = f.lo;
@@ -53,7 +53,7 @@ fn date_into(
     out: &mut [u64],
     w: usize,
 ) -> usize
-    requires { ⌜ RuleDate (now pack) r days day lo hi × Ready (now out) w 1 ⌝ }
+    requires { ⌜ RuleDate (now pack) r days day lo hi × PairsReady (now out) w 1 ⌝ }
     ensures { λ n. ⌜ PieceAdded (now (pack .entry)) r lo hi day (now (out .entry)) w (now (out .exit)) n ⌝ }
 {
     let x = window_dates::piece_of(pack, r, days, day, lo, hi);
@@ -70,7 +70,7 @@ fn dates_into(
     out: &mut [u64],
     w: usize,
 ) -> usize
-    requires { ⌜ RuleDates (now pack) r days lo hi × Ready (now out) w (dateCount days) ⌝ }
+    requires { ⌜ RuleDates (now pack) r days lo hi × PairsReady (now out) w (dateCount days) ⌝ }
     ensures { λ n. ⌜ RuleAdded (now (pack .entry)) r lo hi (dateCount days) (now (out .entry)) w (now (out .exit)) n ⌝ }
 {
     let last = days.last;
@@ -90,7 +90,7 @@ fn dates_into(
 
 // Adds what the rule has in a window of at most seven days, which has at most 14 dates, to the first w blocks.
 pub fn rule_into(pack: &[u8], r: Rule, lo: Instant, hi: Instant, out: &mut [u64], w: usize) -> usize
-    requires { ⌜ RuleFits (now pack) r × Window 7 lo hi × Ready (now out) w 14 ⌝ }
+    requires { ⌜ RuleFits (now pack) r × Window 7 lo hi × PairsReady (now out) w 14 ⌝ }
     ensures { λ n. ⌜ RuleAdded (now (pack .entry)) r lo hi 14 (now (out .entry)) w (now (out .exit)) n ⌝ }
 {
     let z = r.zone;

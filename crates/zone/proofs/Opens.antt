@@ -19,7 +19,7 @@ use Rattle.zone_footer.specs.Parsed.{footerIs}
 use Rattle.zone.specs.declared.Zone.{Zone}
 use Rattle.zone.specs.declared.ZoneRead.{ZoneRead}
 use Rattle.zone.specs.declared.ZoneRead.the-variants as R
-use Rattle.zone.specs.Zones.{meant, ZoneOk, zoneRead, ReadOk, opened as fine-zone, refused, ruled}
+use Rattle.zone.specs.Zones.{zoneIs, ZoneOk, zoneRead, ReadOk, opened as fine-zone, refused, ruled}
 
 abbrev zone : Layout → Footer → Zone
 zone l foot = record { table = l; footer = foot }
@@ -37,8 +37,8 @@ abbrev Opens : List ℕ → ZoneRead → Type 0
 Opens f r = (zoneRead f r ≡ zoneOf f) × ReadOk f r
 
 module _ (f : List ℕ) (l : Layout) (e : readOf f ≡ T.Table l) where
-  whole : (foot : Footer) → zoneOf f ≡ some (meant f (zone l foot)) → Opens f (R.Opened (zone l foot))
-  whole foot q = (sym q, fine-zone (record { table = opened f l e; fits = zone-fits f (meant f (zone l foot)) q }))
+  whole : (foot : Footer) → zoneOf f ≡ some (zoneIs f (zone l foot)) → Opens f (R.Opened (zone l foot))
+  whole foot q = (sym q, fine-zone (record { table = opened f l e; fits = zone-fits f (zoneIs f (zone l foot)) q }))
 
   pub open-is : (foot : Footer) {s : List ℕ} (r : ZoneRead) → s ≡ lineAt f l → footerIs foot ≡ model.footerOf s → r ≡ ruled l foot → Opens f r
   unfolding ruled
@@ -50,7 +50,7 @@ module _ (f : List ℕ) (l : Layout) (e : readOf f ≡ T.Table l) where
 utc-fits : ZoneFits utc
 utc-fits = record { initial-fits = (omega arith, omega arith); changes-fit = tt; footer-fits = tt }
 
-pub utc-is : (l : Layout) → l ≡ utcLayout → (f : List ℕ) → (meant f (zone l Empty) ≡ utc) × ZoneOk f (zone l Empty)
+pub utc-is : (l : Layout) → l ≡ utcLayout → (f : List ℕ) → (zoneIs f (zone l Empty) ≡ utc) × ZoneOk f (zone l Empty)
 utc-is l e f =
     let z = utc-zone f in
     rw e (z, record { table = utc-opened f; fits = rw z utc-fits })

@@ -17,7 +17,7 @@ use Rattle.zone_tzif.specs.Places.{offsetAfter, timeAt}
 use Rattle.zone_tzif.specs.Opened.{Opened, zoneAt, countAt}
 use Rattle.zone_tzif.proofs.Laws.{offset-early, offset-late, count-end, table-run}
 use Rattle.zone.specs.Zones.{inRun}
-use Rattle.model.specs.Tzif.{greatestOffset}
+use Rattle.model.specs.Offset.{greatestOffset}
 
 pub in-run-yes : (u o e x : ℕ) → inRun u o e x ≡ true → (u + o ≤ x) × (x - o < e)
 unfolding inRun

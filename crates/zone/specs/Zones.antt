@@ -19,13 +19,13 @@ use Rattle.zone.specs.declared.ZoneRead.the-variants as R
 use Rattle.instant.specs.Instant.{yearsEnd}
 
 -- the zone of the definitions
-abbrev pub meant : List ℕ → Zone → model.Zone
-meant f z = zoneAt f (z .table) (theFooter (z .footer))
+abbrev pub zoneIs : List ℕ → Zone → model.Zone
+zoneIs f z = zoneAt f (z .table) (theFooter (z .footer))
 
 -- what an open zone has: its table lies in the file, and its offsets and its footer's changes are in bounds
 pub record ZoneOk (f : List ℕ) (z : Zone) : Type 0 where
   pub table : Opened f (z .table)
-  pub fits : ZoneFits (meant f z)
+  pub fits : ZoneFits (zoneIs f z)
 
 -- an open zone is asked for a second of the calendar's years
 abbrev pub Asked : List ℕ → Zone → ℕ → Type 0
@@ -33,11 +33,11 @@ Asked f z u = ZoneOk f z × (u < yearsEnd)
 
 -- its offset at a second
 abbrev pub zoneOffset : List ℕ → Zone → ℕ → ℕ
-zoneOffset f z = offsetAt (meant f z)
+zoneOffset f z = offsetAt (zoneIs f z)
 
 -- what `open` answers
 abbrev pub zoneRead : List ℕ → ZoneRead → Option model.Zone
-zoneRead f (R.Opened z) = some (meant f z)
+zoneRead f (R.Opened z) = some (zoneIs f z)
 zoneRead f R.Unusable = none
 
 -- a table and a parsed footer make a zone, unless the footer is broken

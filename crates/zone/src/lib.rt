@@ -3,13 +3,14 @@ ghost use mathlib.Core.Path.{_≡_};
 ghost use mathlib.Core.List.{List};
 ghost use Prim.Native.Nat.{ℕ, _+_, _-_, _≤_, _<_};
 ghost use Rattle.model.specs.Zone as model;
-ghost use Rattle.model.specs.Tzif.{greatestOffset, zoneOf};
+ghost use Rattle.model.specs.Tzif.{zoneOf};
+ghost use Rattle.model.specs.Offset.{greatestOffset};
 ghost use Rattle.laws_zone.specs.Resolve.{Resolves};
 ghost use Rattle.laws_zone.specs.Runs.{Past};
 ghost use Rattle.laws_zone.specs.Sound.{firstLocal};
 ghost use Rattle.instant.specs.Instant.{yearsEnd};
 ghost use Rattle.zone_changes.specs.Meaning.{IsOffset};
-ghost use Rattle.zone.specs.Zones.{meant, ZoneOk, Asked, zoneOffset, zoneRead, ReadOk, ruled, inRun};
+ghost use Rattle.zone.specs.Zones.{zoneIs, ZoneOk, Asked, zoneOffset, zoneRead, ReadOk, ruled, inRun};
 use zone_changes::OffsetUntil;
 use zone_footer::Footer;
 use zone_tzif::Layout;
@@ -59,7 +60,7 @@ pub fn open(f: &[u8]) -> ZoneRead
 
 // UTC, which needs no file.
 pub fn utc() -> Zone
-    ensures { λ r. ⌜ ((f : List ℕ) → (meant f r ≡ model.utc) × ZoneOk f r) ⌝ }
+    ensures { λ r. ⌜ ((f : List ℕ) → (zoneIs f r ≡ model.utc) × ZoneOk f r) ⌝ }
 {
     let table = zone_tzif::utc();
     let footer = Footer::Empty;
@@ -114,7 +115,7 @@ fn read_after(f: &[u8], z: Zone, x: u64, from: u64, d: u64) -> u64
 // The second of the local second x: the earliest that reads so, or by the earliest jump over it.
 pub fn second_of(f: &[u8], z: Zone, x: u64) -> u64
     requires { ⌜ ZoneOk (now f) z × (firstLocal ≤ x) × (x < yearsEnd) ⌝ }
-    ensures { λ r. ⌜ r ≡ model.secondOf (meant (now (f .entry)) z) x ⌝ }
+    ensures { λ r. ⌜ r ≡ model.secondOf (zoneIs (now (f .entry)) z) x ⌝ }
 {
     let r = run_at(f, z, x - zone_offset::GREATEST_64);
     let mut off = r.offset as u64;

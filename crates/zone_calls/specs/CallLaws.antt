@@ -12,11 +12,12 @@ use mir.Val.{SFits, toZ, ofZ}
 use borrow.Author.Tests.{ltb-true, ltb-false, lt-ltb}
 use Rattle.model.specs.Answer.{gives, refuses}
 use Rattle.model.specs.Calendar.{isLeap, isDate, dayNumber}
-use Rattle.model.specs.Instant.{second, instantOf, instant, isBelow0}
+use Rattle.model.specs.Instant.{second, instantOf, instant, isBelow0, lastSecond, daySeconds}
 use Rattle.model.specs.Tzif as model
-use Rattle.model.specs.Tzif.{zoneOf, offsetBias}
+use Rattle.model.specs.Tzif.{zoneOf}
+use Rattle.model.specs.Offset.{offsetBias}
 use Rattle.model.specs.Zone.{offsetAt, resolve}
-use Rattle.laws_base.specs.Test.{by-test, and-both, clash}
+use Rattle.laws_base.specs.Test.{by-test, and-both, clash, never}
 use Rattle.laws_calendar.specs.Dates.{date-facts, at-most-31, day-from, day-to}
 use Rattle.civil.specs.Dates.{dayRead, timeRead}
 use Rattle.civil.specs.declared.Date.{Date}
@@ -24,11 +25,11 @@ use Rattle.civil.specs.declared.DayRead.{DayRead}
 use Rattle.civil.specs.declared.DayRead.the-variants as D
 use Rattle.civil.specs.declared.TimeRead.{TimeRead}
 use Rattle.civil.specs.declared.TimeRead.the-variants as T
-use Rattle.instant.specs.Instant.{nanos, lastSecond, secondsOfDay}
+use Rattle.instant.specs.Instant.{nanos}
 use Rattle.instant.specs.declared.Instant.{Instant}
 use Rattle.instant_signed.specs.Signed.{biased, unbiased, sub-nat, sub-neg, biased-plus, biased-minus, unbiased-low, unbiased-high}
 use Rattle.instant_signed.specs.Reads.{secondsFrom}
-use Rattle.zone.specs.Zones.{meant, zoneRead}
+use Rattle.zone.specs.Zones.{zoneIs, zoneRead}
 use Rattle.zone.specs.declared.Zone.{Zone}
 use Rattle.zone.specs.declared.ZoneRead.{ZoneRead}
 use Rattle.zone.specs.declared.ZoneRead.the-variants as Z
@@ -38,13 +39,10 @@ use Rattle.zone_next_change.specs.NextLaws.{next-in}
 use Rattle.zone_next_change.specs.declared.Next.{Next}
 use Rattle.zone_next_change.specs.declared.Next.the-variants as N
 use Rattle.model.specs.ZoneCalls.{zoneIn, east, offsetCall, changeCall, yearFrom, dayGiven, timeGiven, resolveCall}
-use Rattle.zone_calls.specs.Given.{capped, dayIs, yearZero, yearAfter, monthAfter, dayAfter}
-use Rattle.instant_signed.specs.InstantLaws.{Reads, instant-written}
+use Rattle.zone_calls.specs.Given.{clippedTo, dayAnswer, yearZero, yearAfter, monthAfter, dayAfter}
+use Rattle.instant_signed.specs.InstantLaws.{ReadsInstant, instant-written}
 use Rattle.zone_local.specs.Dates.{IsDay}
 use mir.Facts.{toZ-ofZ}
-
-never : {P : Type 0} → _≡_ {A = ℕ} 0 1 → P
-never z = absurd (omega arith)
 
 -- ---- what the file is
 
@@ -52,8 +50,8 @@ module _ (f : List ℕ) {r : ZoneRead} (e : zoneRead f r ≡ zoneOf f) where
   pub file-no : r ≡ Z.Unusable → zoneIn f ≡ refuses 5 0
   file-no u = let z : zoneOf f ≡ none = sym e ∙ ap (zoneRead f) u in rw z
 
-  pub file-yes : {z : Zone} → r ≡ Z.Opened z → zoneIn f ≡ gives (meant f z)
-  file-yes {z} u = let y : zoneOf f ≡ some (meant f z) = sym e ∙ ap (zoneRead f) u in rw y
+  pub file-yes : {z : Zone} → r ≡ Z.Opened z → zoneIn f ≡ gives (zoneIs f z)
+  file-yes {z} u = let y : zoneOf f ≡ some (zoneIs f z) = sym e ∙ ap (zoneRead f) u in rw y
 
 -- ---- the offset and the next change
 
@@ -82,7 +80,7 @@ module _ (f : List ℕ) (s n : ℤ) where
     unfolding changeCall
     change-out i = rw (u, i)
 
-    module _ {t : Instant} (i : Reads s n t) where
+    module _ {t : Instant} (i : ReadsInstant s n t) where
       at-second : nanos t / second ≡ t .sec
       at-second = omega (arith, i .in-range .ns)
 
@@ -109,18 +107,18 @@ change-in z u {n} {v} h k = next-in z u v (sym h ∙ ap theNext k)
 
 -- ---- numbers with a cap
 
-pub cap-low : (z : ℤ) (cap : ℕ) → SFits w64 z → biased z < 2 ^ 63 → cap ≡ capped z cap
-unfolding capped
+pub cap-low : (z : ℤ) (cap : ℕ) → SFits w64 z → biased z < 2 ^ 63 → cap ≡ clippedTo z cap
+unfolding clippedTo
 cap-low (pos n) cap f h = absurd (omega (arith, biased-plus n))
 cap-low (negsuc n) cap f h = refl
 
-pub cap-high : (z : ℤ) (cap : ℕ) → SFits w64 z → cap < biased z - 2 ^ 63 → cap ≡ capped z cap
-unfolding capped
+pub cap-high : (z : ℤ) (cap : ℕ) → SFits w64 z → cap < biased z - 2 ^ 63 → cap ≡ clippedTo z cap
+unfolding clippedTo
 cap-high (pos n) cap f h = omega (arith, biased-plus n)
 cap-high (negsuc n) cap f h = refl
 
-pub cap-is : (z : ℤ) (cap : ℕ) {x : ℕ} → SFits w64 z → 2 ^ 63 ≤ biased z → x ≤ cap → x ≡ biased z - 2 ^ 63 → x ≡ capped z cap
-unfolding capped
+pub cap-is : (z : ℤ) (cap : ℕ) {x : ℕ} → SFits w64 z → 2 ^ 63 ≤ biased z → x ≤ cap → x ≡ biased z - 2 ^ 63 → x ≡ clippedTo z cap
+unfolding clippedTo
 cap-is (pos n) cap f h k e = omega (arith, biased-plus n)
 cap-is (negsuc n) cap f h k e = absurd (omega (arith, biased-minus n (f .sfits), f .sfits))
 
@@ -137,8 +135,8 @@ year-is (pos n) f h e = omega (arith, biased-plus n)
 year-is (negsuc n) f h e = omega (arith, biased-minus n (f .sfits), f .sfits)
 
 -- what is below the cap is the number itself
-kept : (z : ℤ) (cap : ℕ) → capped z cap < cap → z ≡ pos (capped z cap)
-unfolding capped
+kept : (z : ℤ) (cap : ℕ) → clippedTo z cap < cap → z ≡ pos (clippedTo z cap)
+unfolding clippedTo
 kept (pos n) cap h = ap pos (omega arith)
 kept (negsuc n) cap h = absurd (omega arith)
 
@@ -146,26 +144,26 @@ kept (negsuc n) cap h = absurd (omega arith)
 
 -- the date that the code makes of three numbers
 abbrev dateGiven : ℤ → ℤ → ℤ → Date
-dateGiven y m d = record { year = min (yearFrom y) yearAfter; month = capped m monthAfter; day = capped d dayAfter }
+dateGiven y m d = record { year = min (yearFrom y) yearAfter; month = clippedTo m monthAfter; day = clippedTo d dayAfter }
 
 on-day : (y : ℤ) (m d : ℕ) → isDate (yearFrom y) m d ≡ true → gives (dayNumber (yearFrom y) m d) ≡ dayGiven y (pos m) (pos d)
 unfolding dayGiven
 on-day y m d t = rw t
 
 module _ (y m d : ℤ) where
-  is-day : isDate (min (yearFrom y) yearAfter) (capped m monthAfter) (capped d dayAfter) ≡ true → dayIs (dayRead (dateGiven y m d)) ≡ dayGiven y m d
+  is-day : isDate (min (yearFrom y) yearAfter) (clippedTo m monthAfter) (clippedTo d dayAfter) ≡ true → dayAnswer (dayRead (dateGiven y m d)) ≡ dayGiven y m d
   unfolding dayRead
   is-day t =
-      let v = date-facts {y = min (yearFrom y) yearAfter} {m = capped m monthAfter} {d = capped d dayAfter} t in
-      let h : capped d dayAfter < dayAfter = omega (arith, at-most-31 (isLeap (min (yearFrom y) yearAfter)) (capped m monthAfter) (v .month-high)) in
+      let v = date-facts {y = min (yearFrom y) yearAfter} {m = clippedTo m monthAfter} {d = clippedTo d dayAfter} t in
+      let h : clippedTo d dayAfter < dayAfter = omega (arith, at-most-31 (isLeap (min (yearFrom y) yearAfter)) (clippedTo m monthAfter) (v .month-high)) in
       let p : min (yearFrom y) yearAfter ≡ yearFrom y = omega arith in
-      let a : m ≡ pos (capped m monthAfter) = kept m monthAfter (omega arith) in
-      let b : d ≡ pos (capped d dayAfter) = kept d dayAfter h in
-      let u : isDate (yearFrom y) (capped m monthAfter) (capped d dayAfter) ≡ true = rw p at t in
-      rw (t, p) (on-day y (capped m monthAfter) (capped d dayAfter) u ∙ (λ i. dayGiven y (sym a i) (sym b i)))
+      let a : m ≡ pos (clippedTo m monthAfter) = kept m monthAfter (omega arith) in
+      let b : d ≡ pos (clippedTo d dayAfter) = kept d dayAfter h in
+      let u : isDate (yearFrom y) (clippedTo m monthAfter) (clippedTo d dayAfter) ≡ true = rw p at t in
+      rw (t, p) (on-day y (clippedTo m monthAfter) (clippedTo d dayAfter) u ∙ (λ i. dayGiven y (sym a i) (sym b i)))
 
-no-day : (y m d : ℤ) → isDate (min (yearFrom y) yearAfter) (capped m monthAfter) (capped d dayAfter) ≡ false → refuses 8 0 ≡ dayGiven y m d
-unfolding dayGiven capped
+no-day : (y m d : ℤ) → isDate (min (yearFrom y) yearAfter) (clippedTo m monthAfter) (clippedTo d dayAfter) ≡ false → refuses 8 0 ≡ dayGiven y m d
+unfolding dayGiven clippedTo
 no-day y (negsuc m) d e = refl
 no-day y (pos m) (negsuc d) e = refl
 no-day y (pos m) (pos d) e =
@@ -178,25 +176,25 @@ no-day y (pos m) (pos d) e =
     clash (isDate (yearFrom y) m d) t (rw (p, a, b) at e))
     (λ t. rw t)
 
-either-day : (y m d : ℤ) → dayIs (dayRead (dateGiven y m d)) ≡ dayGiven y m d
+either-day : (y m d : ℤ) → dayAnswer (dayRead (dateGiven y m d)) ≡ dayGiven y m d
 unfolding dayRead
-either-day y m d = by-test (isDate (min (yearFrom y) yearAfter) (capped m monthAfter) (capped d dayAfter)) (is-day y m d) (λ t. rw t (no-day y m d t))
+either-day y m d = by-test (isDate (min (yearFrom y) yearAfter) (clippedTo m monthAfter) (clippedTo d dayAfter)) (is-day y m d) (λ t. rw t (no-day y m d t))
 
-pub day-is : (y m d : ℤ) {a b c : ℕ} → a ≡ min (yearFrom y) yearAfter → b ≡ capped m monthAfter → c ≡ capped d dayAfter → {r : DayRead}
-    → r ≡ dayRead (record { year = a; month = b; day = c }) → dayIs r ≡ dayGiven y m d
-day-is y m d p q o e = ap dayIs (e ∙ (λ i. dayRead (record { year = p i; month = q i; day = o i }))) ∙ either-day y m d
+pub day-is : (y m d : ℤ) {a b c : ℕ} → a ≡ min (yearFrom y) yearAfter → b ≡ clippedTo m monthAfter → c ≡ clippedTo d dayAfter → {r : DayRead}
+    → r ≡ dayRead (record { year = a; month = b; day = c }) → dayAnswer r ≡ dayGiven y m d
+day-is y m d p q o e = ap dayAnswer (e ∙ (λ i. dayRead (record { year = p i; month = q i; day = o i }))) ∙ either-day y m d
 
 -- a date of 64-bit numbers: refused, or the number of its day, which lies in the range
 module _ (y m d : ℤ) (fy : SFits w64 y) (fm : SFits w64 m) (fd : SFits w64 d) where
   same-date : dayGiven (toZ w64 (ofZ w64 y)) (toZ w64 (ofZ w64 m)) (toZ w64 (ofZ w64 d)) ≡ dayGiven y m d
   same-date = λ i. dayGiven (toZ-ofZ {w = w64} fy i) (toZ-ofZ {w = w64} fm i) (toZ-ofZ {w = w64} fd i)
 
-  module _ {r : DayRead} (e : dayIs r ≡ dayGiven (toZ w64 (ofZ w64 y)) (toZ w64 (ofZ w64 m)) (toZ w64 (ofZ w64 d))) where
+  module _ {r : DayRead} (e : dayAnswer r ≡ dayGiven (toZ w64 (ofZ w64 y)) (toZ w64 (ofZ w64 m)) (toZ w64 (ofZ w64 d))) where
     pub date-no : r ≡ D.NoDate → dayGiven y m d ≡ refuses 8 0
-    date-no h = sym (e ∙ same-date) ∙ ap dayIs h
+    date-no h = sym (e ∙ same-date) ∙ ap dayAnswer h
 
     pub date-yes : {n : ℕ} → r ≡ D.Day n → dayGiven y m d ≡ gives n
-    date-yes h = sym (e ∙ same-date) ∙ ap dayIs h
+    date-yes h = sym (e ∙ same-date) ∙ ap dayAnswer h
 
 pub day-in : (y m d : ℤ) {n : ℕ} → dayGiven y m d ≡ gives n → IsDay n
 unfolding dayGiven
@@ -213,44 +211,44 @@ day-in y m d {n} e =
 -- ---- the time of day
 
 -- a time of day that is read has its seconds and nanoseconds
-pub time-in : (s n : ℕ) {y : TimeRead} {k : ℕ} → y ≡ timeRead s n → y ≡ T.Nanoseconds k → (s < secondsOfDay) × (n < second)
+pub time-in : (s n : ℕ) {y : TimeRead} {k : ℕ} → y ≡ timeRead s n → y ≡ T.Nanoseconds k → (s < daySeconds) × (n < second)
 unfolding timeRead
 time-in s n {y} {k} p q =
-    by-test (ltb s secondsOfDay && ltb n second)
-    (λ e. let h = and-both (ltb s secondsOfDay) (ltb n second) e in (ltb-true s secondsOfDay (h .0), ltb-true n second (h .1)))
+    by-test (ltb s daySeconds && ltb n second)
+    (λ e. let h = and-both (ltb s daySeconds) (ltb n second) e in (ltb-true s daySeconds (h .0), ltb-true n second (h .1)))
     (λ e. let g : T.NoTime ≡ T.Nanoseconds k = (rw e at (sym p ∙ q)) in never (cc))
 
-at-time : (s n : ℕ) → s < secondsOfDay → n < second → timeGiven (pos s) (pos n) ≡ gives (s * second + n)
+at-time : (s n : ℕ) → s < daySeconds → n < second → timeGiven (pos s) (pos n) ≡ gives (s * second + n)
 unfolding timeGiven
-at-time s n h k = simp (lt-ltb s secondsOfDay h, lt-ltb n second k)
+at-time s n h k = simp (lt-ltb s daySeconds h, lt-ltb n second k)
 
-is-time : (s n : ℤ) → capped s secondsOfDay < secondsOfDay → capped n second < second → timeGiven s n ≡ gives (capped s secondsOfDay * second + capped n second)
-is-time s n h k = (λ i. timeGiven (kept s secondsOfDay h i) (kept n second k i)) ∙ at-time (capped s secondsOfDay) (capped n second) h k
+is-time : (s n : ℤ) → clippedTo s daySeconds < daySeconds → clippedTo n second < second → timeGiven s n ≡ gives (clippedTo s daySeconds * second + clippedTo n second)
+is-time s n h k = (λ i. timeGiven (kept s daySeconds h i) (kept n second k i)) ∙ at-time (clippedTo s daySeconds) (clippedTo n second) h k
 
-no-time : (s n : ℤ) → timeRead (capped s secondsOfDay) (capped n second) ≡ T.NoTime → timeGiven s n ≡ refuses 8 0
-unfolding timeGiven timeRead capped
+no-time : (s n : ℤ) → timeRead (clippedTo s daySeconds) (clippedTo n second) ≡ T.NoTime → timeGiven s n ≡ refuses 8 0
+unfolding timeGiven timeRead clippedTo
 no-time (negsuc s) n e = refl
 no-time (pos s) (negsuc n) e = refl
 no-time (pos s) (pos n) e =
-    by-test (ltb s secondsOfDay && ltb n second)
+    by-test (ltb s daySeconds && ltb n second)
     (λ t.
-    let h = and-both (ltb s secondsOfDay) (ltb n second) t in
-    let a : s < secondsOfDay = ltb-true s secondsOfDay (h .0) in
+    let h = and-both (ltb s daySeconds) (ltb n second) t in
+    let a : s < daySeconds = ltb-true s daySeconds (h .0) in
     let b : n < second = ltb-true n second (h .1) in
-    let p : min s secondsOfDay ≡ s = omega arith in
+    let p : min s daySeconds ≡ s = omega arith in
     let q : min n second ≡ n = omega arith in
     let g : T.Nanoseconds (s * second + n) ≡ T.NoTime = rw (p, q, t) at e in
     never (cc))
     (λ t. rw t)
 
 -- a time of 64-bit numbers: refused, or the nanoseconds of its day
-module _ (s n : ℤ) (f : SFits w64 s) (g : SFits w64 n) {a b : ℕ} (i : a ≡ capped (toZ w64 (ofZ w64 s)) secondsOfDay)
-    (j : b ≡ capped (toZ w64 (ofZ w64 n)) second) {w : TimeRead} (e : w ≡ timeRead a b) where
-  seconds-are : a ≡ capped s secondsOfDay
-  seconds-are = i ∙ (λ k. capped (toZ-ofZ {w = w64} f k) secondsOfDay)
+module _ (s n : ℤ) (f : SFits w64 s) (g : SFits w64 n) {a b : ℕ} (i : a ≡ clippedTo (toZ w64 (ofZ w64 s)) daySeconds)
+    (j : b ≡ clippedTo (toZ w64 (ofZ w64 n)) second) {w : TimeRead} (e : w ≡ timeRead a b) where
+  seconds-are : a ≡ clippedTo s daySeconds
+  seconds-are = i ∙ (λ k. clippedTo (toZ-ofZ {w = w64} f k) daySeconds)
 
-  rest-is : b ≡ capped n second
-  rest-is = j ∙ (λ k. capped (toZ-ofZ {w = w64} g k) second)
+  rest-is : b ≡ clippedTo n second
+  rest-is = j ∙ (λ k. clippedTo (toZ-ofZ {w = w64} g k) second)
 
   pub time-no : w ≡ T.NoTime → timeGiven s n ≡ refuses 8 0
   time-no h = no-time s n ((λ k. timeRead (sym seconds-are k) (sym rest-is k)) ∙ sym e ∙ h)

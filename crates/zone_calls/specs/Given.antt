@@ -19,11 +19,11 @@ abbrev pub dayAfter : ℕ
 dayAfter = 32
 
 -- the number, and the cap where it is below 0 or beyond the cap
-unfoldable pub capped : ℤ → ℕ → ℕ
-capped (pos n) cap = min n cap
-capped (negsuc n) cap = cap
+unfoldable pub clippedTo : ℤ → ℕ → ℕ
+clippedTo (pos n) cap = min n cap
+clippedTo (negsuc n) cap = cap
 
 -- the day that was read, or the refusal
-abbrev pub dayIs : DayRead → Answer ℕ
-dayIs (D.Day n) = gives n
-dayIs D.NoDate = refuses 8 0
+abbrev pub dayAnswer : DayRead → Answer ℕ
+dayAnswer (D.Day n) = gives n
+dayAnswer D.NoDate = refuses 8 0

@@ -5,7 +5,7 @@ ghost use mathlib.Core.Path.{_≡_};
 ghost use Prim.Native.Nat.{min};
 ghost use Rattle.model.specs.ZoneCalls as definition;
 ghost use Rattle.zone_calls.specs.Answers.{offsetIs, changeIs, resolveIs};
-ghost use Rattle.zone_calls.specs.Given.{yearAfter, capped, dayIs};
+ghost use Rattle.zone_calls.specs.Given.{yearAfter, clippedTo, dayAnswer};
 use civil::Date;
 use civil::DayRead;
 use civil::Time;
@@ -13,14 +13,6 @@ use civil::TimeRead;
 use instant_signed::InstantRead;
 use zone::ZoneRead;
 use zone_next_change::Next;
-
-// 2^63, which `lift` adds and `lower` takes off.
-const HALF: u64 = 9223372036854775808;
-
-// The refusals: a file that is not usable; an instant, a date or a time of day that there is not.
-const UNUSABLE: u32 = 5;
-
-const OUT_OF_RANGE: u32 = 8;
 
 // The year 0 counted from -10400.
 const YEAR_ZERO: u64 = 10400;
@@ -32,9 +24,9 @@ const MONTH_AFTER: u32 = 13;
 
 const DAY_AFTER: u32 = 32;
 
-const SECOND_AFTER: u32 = 86400;
+const SECOND_AFTER: u32 = instant::DAY as u32;
 
-const NANOSECOND_AFTER: u32 = 1000000000;
+const NANOSECOND_AFTER: u32 = instant::SECOND as u32;
 
 // ---- the offset at an instant
 
@@ -48,7 +40,7 @@ pub enum OffsetAnswer {
 fn east(offset: u32) -> i64
     ensures { λ r. ⌜ r ≡ definition.east offset ⌝ }
 {
-    instant_signed::lower(HALF + offset as u64 - zone_offset::BIAS_64)
+    instant_signed::lower(instant_signed::HALF + offset as u64 - zone_offset::BIAS_64)
 }
 
 // The offset at an instant.
@@ -56,10 +48,10 @@ pub fn offset_in(file: &[u8], sec: i64, ns: i64) -> OffsetAnswer
     ensures { λ r. ⌜ offsetIs r ≡ definition.offsetCall (now (file .entry)) sec ns ⌝ }
 {
     let ZoneRead::Opened(z) = zone::open(file) else {
-        return OffsetAnswer::Refused(UNUSABLE, 0);
+        return OffsetAnswer::Refused(refusal::ZONE_UNUSABLE, 0);
     };
     let InstantRead::At(t) = instant_signed::instant_of(sec, ns) else {
-        return OffsetAnswer::Refused(OUT_OF_RANGE, 0);
+        return OffsetAnswer::Refused(refusal::INSTANT_OUT_OF_RANGE, 0);
     };
     let r = zone::run_at(file, z, t.sec);
     OffsetAnswer::Is(east(r.offset))
@@ -79,10 +71,10 @@ pub fn next_change_in(file: &[u8], sec: i64, ns: i64) -> ChangeAnswer
     ensures { λ r. ⌜ changeIs r ≡ definition.changeCall (now (file .entry)) sec ns ⌝ }
 {
     let ZoneRead::Opened(z) = zone::open(file) else {
-        return ChangeAnswer::Refused(UNUSABLE, 0);
+        return ChangeAnswer::Refused(refusal::ZONE_UNUSABLE, 0);
     };
     let InstantRead::At(t) = instant_signed::instant_of(sec, ns) else {
-        return ChangeAnswer::Refused(OUT_OF_RANGE, 0);
+        return ChangeAnswer::Refused(refusal::INSTANT_OUT_OF_RANGE, 0);
     };
     let Next::At(v) = zone_next_change::next_change(file, z, t.sec) else {
         return ChangeAnswer::Never;
@@ -100,16 +92,16 @@ pub enum ResolveAnswer {
 
 // x, and the cap where x is below 0 or beyond the cap.
 fn capped(x: i64, cap: u32) -> u32
-    ensures { λ r. ⌜ r ≡ capped x cap ⌝ }
+    ensures { λ r. ⌜ r ≡ clippedTo x cap ⌝ }
 {
     let k = instant_signed::lift(x);
-    if k < HALF {
+    if k < instant_signed::HALF {
         return cap;
     }
-    if (cap as u64) < k - HALF {
+    if (cap as u64) < k - instant_signed::HALF {
         return cap;
     }
-    (k - HALF) as u32
+    (k - instant_signed::HALF) as u32
 }
 
 // A year counted from -10400; 0 for all before, and 20,800 for all from 10400 on.
@@ -117,18 +109,18 @@ fn year_from(year: i64) -> u32
     ensures { λ r. ⌜ r ≡ min (definition.yearFrom year) yearAfter ⌝ }
 {
     let k = instant_signed::lift(year);
-    if k < HALF - YEAR_ZERO {
+    if k < instant_signed::HALF - YEAR_ZERO {
         return 0;
     }
-    if HALF + YEAR_ZERO < k {
+    if instant_signed::HALF + YEAR_ZERO < k {
         return YEAR_AFTER;
     }
-    (k - (HALF - YEAR_ZERO)) as u32
+    (k - (instant_signed::HALF - YEAR_ZERO)) as u32
 }
 
 // The number of a date's day. There is no month 13 and no day 32.
 fn day_given(year: i64, month: i64, day: i64) -> DayRead
-    ensures { λ r. ⌜ dayIs r ≡ definition.dayGiven year month day ⌝ }
+    ensures { λ r. ⌜ dayAnswer r ≡ definition.dayGiven year month day ⌝ }
 {
     civil::day_of(Date {
         year: year_from(year),
@@ -149,15 +141,15 @@ pub fn resolve_in(
     ensures { λ r. ⌜ resolveIs r ≡ definition.resolveCall (now (file .entry)) year month day second ns ⌝ }
 {
     let ZoneRead::Opened(z) = zone::open(file) else {
-        return ResolveAnswer::Refused(UNUSABLE, 0);
+        return ResolveAnswer::Refused(refusal::ZONE_UNUSABLE, 0);
     };
     let DayRead::Day(d) = day_given(year, month, day) else {
-        return ResolveAnswer::Refused(OUT_OF_RANGE, 0);
+        return ResolveAnswer::Refused(refusal::INSTANT_OUT_OF_RANGE, 0);
     };
     let seconds = capped(second, SECOND_AFTER);
     let nanos = capped(ns, NANOSECOND_AFTER);
     let TimeRead::Nanoseconds(_) = civil::time_of(seconds, nanos) else {
-        return ResolveAnswer::Refused(OUT_OF_RANGE, 0);
+        return ResolveAnswer::Refused(refusal::INSTANT_OUT_OF_RANGE, 0);
     };
     let time = Time { seconds, nanos };
     let t = zone_local::resolve(file, z, d, time);

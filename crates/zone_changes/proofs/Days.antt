@@ -8,23 +8,24 @@ use Rattle.model.specs.Calendar.{isLeap, daysBeforeYear, daysBeforeMonth, daysI
 use Rattle.model.specs.Footer as model
 use Rattle.model.specs.Footer.{dayIn, changeIn}
 use Rattle.model.specs.Zone.{yearAt}
-use Rattle.laws_base.specs.Claim.{le, if, all, at-each}
+use Rattle.laws_base.specs.Claim.{le, if, allBelow, at-each}
 use Rattle.laws_calendar.specs.Years.{dby-hi}
 use Rattle.laws_calendar.specs.Dates.{year-within, year-below}
 use Rattle.laws_zone.specs.FooterChanges.{DayFits}
 use Rattle.zone_footer.specs.Parsed.{dayIs}
 use Rattle.zone_footer.specs.declared.Day.{Day}
 use Rattle.zone_footer.specs.declared.Day.the-variants.{Month, Julian, Plain}
-use Rattle.model.specs.Tzif.{offsetBias}
+use Rattle.model.specs.Offset.{offsetBias}
 use Rattle.instant.specs.Instant.{yearsEnd}
 use Rattle.zone_changes.specs.Meaning.{lastYear}
+use Rattle.model.specs.Instant.{daySeconds}
 
 pub year-small : (y : ℕ) → y ≤ lastYear → daysBeforeYear y ≤ 7597500
 year-small y h = omega (arith, dby-hi y)
 
 -- months by computing
 starts : (l : Bool) (m : ℕ) → m < 13 → daysBeforeMonth l m ≤ 335
-unfolding daysBeforeMonth daysInMonth all
+unfolding daysBeforeMonth daysInMonth allBelow
 starts true = at-each (λ m. le (daysBeforeMonth true m) 335) 13 tt
 starts false = at-each (λ m. le (daysBeforeMonth false m) 335) 13 tt
 
@@ -32,7 +33,7 @@ pub start-small : (l : Bool) (m : ℕ) → m ≤ 12 → daysBeforeMonth l m ≤ 
 start-small l m h = starts l m (omega arith)
 
 lengths : (l : Bool) (m : ℕ) → m < 13 → daysInMonth l m ≤ 31
-unfolding daysInMonth all
+unfolding daysInMonth allBelow
 lengths true = at-each (λ m. le (daysInMonth true m) 31) 13 tt
 lengths false = at-each (λ m. le (daysInMonth false m) 31) 13 tt
 
@@ -40,7 +41,7 @@ pub length-small : (l : Bool) (m : ℕ) → m ≤ 12 → daysInMonth l m ≤ 31
 length-small l m h = lengths l m (omega arith)
 
 floors : (l : Bool) (m : ℕ) → m < 13 → 1 ≤ m → 28 ≤ daysInMonth l m
-unfolding daysInMonth all
+unfolding daysInMonth allBelow
 floors true = at-each (λ m. if (le 1 m) (le 28 (daysInMonth true m))) 13 tt
 floors false = at-each (λ m. if (le 1 m) (le 28 (daysInMonth false m))) 13 tt
 
@@ -48,7 +49,7 @@ pub length-big : (l : Bool) (m : ℕ) → 1 ≤ m → m ≤ 12 → 28 ≤ daysIn
 length-big l m p h = floors l m (omega arith) p
 
 pub years-in : (u : ℕ) {y : ℕ} → u < yearsEnd → y ≡ yearAt u → y ≤ 20799
-years-in u h e = omega (arith, year-below {n = u / 86400} (omega arith) (year-within (u / 86400)))
+years-in u h e = omega (arith, year-below {n = u / daySeconds} (omega arith) (year-within (u / daySeconds)))
 
 -- ---- Mm.w.d
 
@@ -99,6 +100,6 @@ pub plain-is : (y n : ℕ) {b : ℕ} → b ≡ daysBeforeYear y → b + n ≡ da
 unfolding dayIn
 plain-is y n e = rw e
 
-pub change-is : (o y : ℕ) (t : model.ChangeRule) {r k : ℕ} → k ≡ dayIn y (t .day) → r ≡ k * 86400 + t .time + offsetBias - o → r ≡ changeIn o t y
+pub change-is : (o y : ℕ) (t : model.ChangeRule) {r k : ℕ} → k ≡ dayIn y (t .day) → r ≡ k * daySeconds + t .time + offsetBias - o → r ≡ changeIn o t y
 unfolding changeIn
 change-is o y t q p = p ∙ rw q

@@ -12,7 +12,7 @@ use Rattle.laws_zone.specs.Runs.{Run}
 use Rattle.zone_footer.specs.declared.ChangeRule.{ChangeRule}
 use Rattle.zone_footer.specs.declared.Footer.{Footer}
 use Rattle.zone_footer.specs.declared.Footer.the-variants.{Empty, Fixed, Rules, Broken}
-use Rattle.zone_changes.specs.Meaning.{theFooter, Near, lastYear, changesEnd, rulesOf}
+use Rattle.zone_changes.specs.Meaning.{theFooter, Near, lastYear, changesEnd, footerRules}
 use Rattle.zone_changes.specs.MeaningLaws.{rules-run, rules-daylight, rules-standard}
 
 -- r is the footer's offset at u and stays it up to n
@@ -33,11 +33,11 @@ fixed-stays o e h = rw e (refl, record { on = h; same = λ v p q. refl })
 
 -- two rules: what holds of them holds of the footer that has them
 module _ {f : Footer} {std dst : ℕ} {start end : ChangeRule} (e : f ≡ Rules std dst start end) where
-  pub rules-fit : FooterFits (theFooter f) → FooterFits (rulesOf std dst start end)
+  pub rules-fit : FooterFits (theFooter f) → FooterFits (footerRules std dst start end)
   rules-fit h = rw e at h
 
-  pub rules-stay : (last : ℕ) {u o n : ℕ} → (o ≡ ruledAt (rulesOf std dst start end) last u)
-      × Run (ruledAt (rulesOf std dst start end) last) u n → Stays f last u o n
+  pub rules-stay : (last : ℕ) {u o n : ℕ} → (o ≡ ruledAt (footerRules std dst start end) last u)
+      × Run (ruledAt (footerRules std dst start end) last) u n → Stays f last u o n
   rules-stay last h = rw e h
 
 module _ (std dst : ℕ) (start end : model.ChangeRule) (fits : FooterFits (model.rules std dst start end)) {u la na lb nb n : ℕ}

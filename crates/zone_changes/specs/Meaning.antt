@@ -28,14 +28,14 @@ abbrev pub changesEnd : ℕ
 changesEnd = 1099511627776
 
 -- a footer with daylight time
-abbrev pub rulesOf : ℕ → ℕ → ChangeRule → ChangeRule → model.Footer
-rulesOf std dst start end = model.rules std dst (changeRuleIs start) (changeRuleIs end)
+abbrev pub footerRules : ℕ → ℕ → ChangeRule → ChangeRule → model.Footer
+footerRules std dst start end = model.rules std dst (changeRuleIs start) (changeRuleIs end)
 
 -- a broken footer counts as an empty one: no zone that is open has one
 abbrev pub theFooter : Footer → model.Footer
 theFooter Empty = model.empty
 theFooter (Fixed o) = model.fixed o
-theFooter (Rules std dst start end) = rulesOf std dst start end
+theFooter (Rules std dst start end) = footerRules std dst start end
 theFooter Broken = model.empty
 
 -- `last` is the latest change at or before u, and `next` the first behind it

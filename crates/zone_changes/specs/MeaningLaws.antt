@@ -15,7 +15,7 @@ use Rattle.laws_zone.specs.FooterChanges.{ChangeRuleFits, latest-is, latest-le,
 use Rattle.laws_zone.specs.Grammar.{FooterFits}
 use Rattle.laws_zone.specs.Runs as runs
 use Rattle.zone_changes.specs.Meaning.{Near}
-use Rattle.model.specs.Tzif.{greatestOffset}
+use Rattle.model.specs.Offset.{greatestOffset}
 
 -- ---- the latest of four that rise
 

@@ -13,7 +13,7 @@ use Rattle.laws_calendar.specs.Years.{dby-hi, dby-lo}
 use Rattle.laws_zone.specs.FooterChanges.{ChangeRuleFits, latest-is, latest-le, latest-of-all, change-rises, change-varies, daylight, standard}
 use Rattle.laws_zone.specs.Grammar.{FooterFits}
 use Rattle.zone_changes.specs.Meaning.{ByTwoChanges, undecided, between, ahead, behind, Sure, fourWeeks, leastYear}
-use Rattle.model.specs.Tzif.{greatestOffset}
+use Rattle.model.specs.Offset.{greatestOffset}
 
 -- ---- one change
 

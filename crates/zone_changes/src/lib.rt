@@ -8,8 +8,8 @@ ghost use Rattle.zone_footer.specs.Parsed.{dayIs, changeRuleIs};
 ghost use Rattle.laws_zone.specs.FooterChanges.{DayFits, ChangeRuleFits};
 ghost use Rattle.laws_zone.specs.Grammar.{FooterFits};
 ghost use Rattle.instant.specs.Instant.{yearsEnd};
-ghost use Rattle.model.specs.Tzif.{greatestOffset};
-ghost use Rattle.zone_changes.specs.Meaning.{lastYear, changesEnd, rulesOf, theFooter, IsOffset, Near, Sure, ByTwoChanges};
+ghost use Rattle.model.specs.Offset.{greatestOffset};
+ghost use Rattle.zone_changes.specs.Meaning.{lastYear, changesEnd, footerRules, theFooter, IsOffset, Near, Sure, ByTwoChanges};
 use zone_footer::ChangeRule;
 use zone_footer::Day;
 use zone_footer::Footer;
@@ -173,8 +173,8 @@ fn by_two_changes(inner: u32, outer: u32, p: u64, q: u64, u: u64) -> OffsetUntil
 // The offset at u by the two changes of one year, that of u or the next to it. Where they do not decide, `until` is at or before u: they lie
 // close together, or u lies close to the year's end and one of them does too.
 fn by_one_year(std: u32, dst: u32, start: ChangeRule, end: ChangeRule, u: u64) -> OffsetUntil
-    requires { ⌜ FooterFits (rulesOf std dst start end) × (u < yearsEnd) ⌝ }
-    ensures { λ r. ⌜ ((last : ℕ) → Sure (ruledAt (rulesOf std dst start end) last) u (r .offset) (r .until)) ⌝ }
+    requires { ⌜ FooterFits (footerRules std dst start end) × (u < yearsEnd) ⌝ }
+    ensures { λ r. ⌜ ((last : ℕ) → Sure (ruledAt (footerRules std dst start end) last) u (r .offset) (r .until)) ⌝ }
 {
     let year = (u / MEAN_YEAR) as u32;
     if year < 2 {
@@ -199,8 +199,8 @@ fn by_one_year(std: u32, dst: u32, start: ChangeRule, end: ChangeRule, u: u64) -
 
 // The offset at u by the latest changes of all years.
 fn by_all_years(std: u32, dst: u32, start: ChangeRule, end: ChangeRule, u: u64) -> OffsetUntil
-    requires { ⌜ FooterFits (rulesOf std dst start end) × (u < yearsEnd) ⌝ }
-    ensures { λ r. ⌜ ((last : ℕ) → IsOffset (ruledAt (rulesOf std dst start end) last) u r) ⌝ }
+    requires { ⌜ FooterFits (footerRules std dst start end) × (u < yearsEnd) ⌝ }
+    ensures { λ r. ⌜ ((last : ℕ) → IsOffset (ruledAt (footerRules std dst start end) last) u r) ⌝ }
 {
     let a = around(std, start, u);
     let b = around(dst, end, u);

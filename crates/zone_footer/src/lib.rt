@@ -5,7 +5,7 @@ ghost use mathlib.Core.Option.{some};
 ghost use Prim.Native.Nat.{_≤_};
 ghost use lib.ListN.{drop};
 ghost use Rattle.model.specs.Footer as grammar;
-ghost use Rattle.model.specs.Tzif.{greatestOffset};
+ghost use Rattle.model.specs.Offset.{greatestOffset};
 ghost use Rattle.zone_footer_numbers.specs.Numbered.{skipIn};
 ghost use Rattle.zone_footer.specs.Parsed.{IsNameEnd, dayFrom, changeRuleFrom, rulesText, footerIs};
 use zone_footer_numbers::Num;

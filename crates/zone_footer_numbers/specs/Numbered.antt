@@ -10,7 +10,7 @@ use Rattle.zone_footer_numbers.specs.declared.Num.{Num}
 use Rattle.zone_footer_numbers.specs.declared.Num.the-variants.{Val, Bad}
 use Rattle.zone_footer_numbers.specs.declared.Skip.{Skip}
 use Rattle.zone_footer_numbers.specs.declared.Skip.the-variants.{To, Not}
-use Rattle.model.specs.Tzif.{offsetBias}
+use Rattle.model.specs.Offset.{offsetBias}
 
 -- the number, and the text behind it
 abbrev pub numberIn : List ℕ → Num → Option (ℕ × List ℕ)

@@ -4,7 +4,8 @@ ghost use mathlib.Core.Path.{_≡_};
 ghost use Prim.Native.Nat.{_≤_, _<_};
 ghost use lib.ListN.{drop};
 ghost use Rattle.model.specs.Footer as grammar;
-ghost use Rattle.model.specs.Tzif.{offsetBias, greatestOffset, latestClock};
+ghost use Rattle.model.specs.Footer.{latestClock};
+ghost use Rattle.model.specs.Offset.{offsetBias, greatestOffset};
 ghost use Rattle.zone_footer_numbers.specs.Numbered.{threeDigits, IsNumber, markIn, skipIn, westText};
 
 // The seconds of a minute and of an hour.

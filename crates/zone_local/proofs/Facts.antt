@@ -8,8 +8,9 @@ use lib.Dec.{ltb}
 use borrow.Author.Tests.{lt-ltb, le-ltb, le-leb, lt-leb, ltb-true, ltb-false}
 use Rattle.model.specs.Blocks.{Block as Block′, block, put, clipped}
 use Rattle.model.specs.Calendar.{firstDay, lastDay, dayOfYearZero}
-use Rattle.model.specs.Instant.{second, day, firstInstant, lastInstant}
-use Rattle.model.specs.Tzif.{Zone, offsetBias, greatestOffset}
+use Rattle.model.specs.Instant.{second, day, firstInstant, lastInstant, firstSecond, lastSecond, daySeconds}
+use Rattle.model.specs.Tzif.{Zone}
+use Rattle.model.specs.Offset.{offsetBias, greatestOffset}
 use Rattle.model.specs.Zone.{offsetAt, secondOf, resolve}
 use Rattle.model.specs.Working.{localDay, firstDate, lastDate, startOf, endOf}
 use Rattle.laws_base.specs.Test.{by-test}
@@ -18,9 +19,9 @@ use Rattle.laws_zone.specs.Zones.{fits-sound}
 use Rattle.laws_zone.specs.Runs.{Run}
 use Rattle.laws_demand3.specs.Local.{offsetNanos, off-high}
 use Rattle.laws_skip.specs.Steady.{less, till, const-date}
-use Rattle.instant.specs.Instant.{nanos, InRange, firstSecond, lastSecond, secondsOfDay}
+use Rattle.instant.specs.Instant.{nanos, InRange}
 use Rattle.instant.specs.declared.Instant.{Instant}
-use Rattle.zone.specs.Zones.{meant, ZoneOk}
+use Rattle.zone.specs.Zones.{zoneIs, ZoneOk}
 use Rattle.zone.specs.declared.Zone.{Zone as Zone′}
 use Rattle.civil.specs.Dates.{timeIn, TimeFits}
 use Rattle.civil.specs.declared.Time.{Time}
@@ -28,7 +29,7 @@ use Rattle.block.specs.Counted.{blockOf}
 use Rattle.block.specs.declared.Block.{Block}
 use Rattle.zone_local.specs.Dates.{during, rangeEnd, pieceOf, held, KeepsOffset, IsIn, tillTime}
 
-pub local-is : (z : Zone) (sec ns o : ℕ) → ns < second → o ≡ offsetAt z sec → (sec + o - offsetBias) / secondsOfDay ≡ localDay z (sec * second + ns)
+pub local-is : (z : Zone) (sec ns o : ℕ) → ns < second → o ≡ offsetAt z sec → (sec + o - offsetBias) / daySeconds ≡ localDay z (sec * second + ns)
 unfolding localDay
 local-is z sec ns o h e = let q : (sec * second + ns) / second ≡ sec = omega arith in rw (q, e)
 
@@ -57,7 +58,7 @@ pub end-late : (d : ℕ) → dayOfYearZero ≤ d → lastSecond * second + 99999
 unfolding rangeEnd
 end-late d h = rw (le-ltb d dayOfYearZero h)
 
-module _ (z : Zone) (d sec ns s : ℕ) (h : ns < second) (e : s ≡ secondOf z (d * secondsOfDay + sec + offsetBias)) where
+module _ (z : Zone) (d sec ns s : ℕ) (h : ns < second) (e : s ≡ secondOf z (d * daySeconds + sec + offsetBias)) where
   quotient : (sec * second + ns) / second ≡ sec
   quotient = omega arith
 
@@ -132,22 +133,22 @@ kept-run z lo hi e o i j p q r s t =
       same = λ h u x y. ap (λ (k : ℕ). k * second) (s .same (u / second) (omega arith) (omega arith) ∙ sym r);
     }
 
-pub kept-small : (f : List ℕ) (z : Zone′) (lo hi : Instant) (o : ℕ) → ZoneOk f z → KeepsOffset (meant f z) (nanos lo) (nanos hi) o → nanos lo ≤ nanos hi → 0 < o → o ≤ greatestOffset
+pub kept-small : (f : List ℕ) (z : Zone′) (lo hi : Instant) (o : ℕ) → ZoneOk f z → KeepsOffset (zoneIs f z) (nanos lo) (nanos hi) o → nanos lo ≤ nanos hi → 0 < o → o ≤ greatestOffset
 kept-small f z lo hi o k q l h =
     let e = q .same h (nanos lo) (omega arith) (omega arith) in
-    let b = off-high (meant f z) (fits-sound (meant f z) (k .fits)) (nanos lo) in
+    let b = off-high (zoneIs f z) (fits-sound (zoneIs f z) (k .fits)) (nanos lo) in
     omega arith
 
-pub plain-start : (o d fs fn base : ℕ) → o ≤ greatestOffset → firstDay ≤ d → base ≡ d * secondsOfDay + offsetBias - o → (base + fs) * second + fn ≡ less (o * second) d (fs * second + fn)
+pub plain-start : (o d fs fn base : ℕ) → o ≤ greatestOffset → firstDay ≤ d → base ≡ d * daySeconds + offsetBias - o → (base + fs) * second + fn ≡ less (o * second) d (fs * second + fn)
 plain-start o d fs fn base a b e = omega arith
 
-pub plain-same : (from o d ts tn base : ℕ) → o ≤ greatestOffset → firstDay ≤ d → base ≡ d * secondsOfDay + offsetBias - o → ltb from (ts * second + tn) ≡ true
+pub plain-same : (from o d ts tn base : ℕ) → o ≤ greatestOffset → firstDay ≤ d → base ≡ d * daySeconds + offsetBias - o → ltb from (ts * second + tn) ≡ true
     → (base + ts) * second + tn ≡ less (o * second) d (tillTime from (ts * second + tn))
 unfolding tillTime
 plain-same from o d ts tn base a b e t = rw t (omega arith)
 
-pub plain-next : (from o d ts tn base : ℕ) → o ≤ greatestOffset → firstDay ≤ d → base ≡ d * secondsOfDay + offsetBias - o → ltb from (ts * second + tn) ≡ false
-    → (base + secondsOfDay + ts) * second + tn ≡ less (o * second) d (tillTime from (ts * second + tn))
+pub plain-next : (from o d ts tn base : ℕ) → o ≤ greatestOffset → firstDay ≤ d → base ≡ d * daySeconds + offsetBias - o → ltb from (ts * second + tn) ≡ false
+    → (base + daySeconds + ts) * second + tn ≡ less (o * second) d (tillTime from (ts * second + tn))
 unfolding tillTime
 plain-next from o d ts tn base a b e t = rw t (omega arith)
 
@@ -156,15 +157,15 @@ time-below t f = let a = f .seconds in let b = f .nanos in omega arith
 
 -- the clipped block is the one that the offset gives
 pub plain-piece : (f : List ℕ) (z : Zone′) (from to : Time) (lo hi : Instant) (o d s e : ℕ) (x : Block) → ZoneOk f z → TimeFits from → TimeFits to
-    → KeepsOffset (meant f z) (nanos lo) (nanos hi) o → IsIn (meant f z) lo hi d → 0 < o
+    → KeepsOffset (zoneIs f z) (nanos lo) (nanos hi) o → IsIn (zoneIs f z) lo hi d → 0 < o
     → s ≡ less (o * second) d (timeIn from) → e ≡ less (o * second) d (tillTime (timeIn from) (timeIn to))
-    → blockOf x ≡ block (max s (nanos lo)) (min e (nanos hi)) → held x ≡ pieceOf (during (meant f z) (timeIn from) (timeIn to)) (nanos lo) (nanos hi) d
+    → blockOf x ≡ block (max s (nanos lo)) (min e (nanos hi)) → held x ≡ pieceOf (during (zoneIs f z) (timeIn from) (timeIn to)) (nanos lo) (nanos hi) d
 unfolding held pieceOf clipped tillTime till
 plain-piece f z from to lo hi o d s e x k fa fb q i h p r b =
-    let sound : Sound (meant f z) = fits-sound (meant f z) (k .fits) in
+    let sound : Sound (zoneIs f z) = fits-sound (zoneIs f z) (k .fits) in
     let small = kept-small f z lo hi o k q (i .order) h in
     let l = q .low h in let u = q .high h in let n = i .order in
     ap (λ (y : Block′). put (y .start) (y .end) []) b ∙ ap₂ (λ (m n : ℕ). put (max m (nanos lo)) (min n (nanos hi)) []) p r
-    ∙ sym (const-date (during (meant f z) (timeIn from) (timeIn to)) (record { sound = sound; from-day = time-below from fa; to-day = time-below to fb })
+    ∙ sym (const-date (during (zoneIs f z) (timeIn from) (timeIn to)) (record { sound = sound; from-day = time-below from fa; to-day = time-below to fb })
     (nanos lo - 4 * day) (nanos hi + 4 * day) (o * second) (omega arith) u (q .same h) (omega arith) (omega arith)
     (nanos lo) (nanos hi) d (omega arith) n (omega arith) (i .first) (i .last))

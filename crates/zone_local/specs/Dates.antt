@@ -15,7 +15,7 @@ use Rattle.laws_demand3.specs.Local.{offsetNanos}
 use Rattle.laws_skip.specs.Steady.{less}
 use Rattle.civil.specs.Dates.{timeIn, TimeFits}
 use Rattle.civil.specs.declared.Time.{Time}
-use Rattle.zone.specs.Zones.{meant, ZoneOk}
+use Rattle.zone.specs.Zones.{zoneIs, ZoneOk}
 use Rattle.zone.specs.declared.Zone.{Zone as CodeZone}
 use Rattle.instant.specs.Instant.{nanos}
 use Rattle.instant.specs.declared.Instant.{Instant}
@@ -35,7 +35,7 @@ during z from to = record { zone = z; on = λ d. true; from = from; to = to }
 
 -- the same, for a zone and times of the code
 abbrev pub ruleOf : List ℕ → CodeZone → Time → Time → Rule
-ruleOf f z from to = during (meant f z) (timeIn from) (timeIn to)
+ruleOf f z from to = during (zoneIs f z) (timeIn from) (timeIn to)
 
 -- what is asked of a rule's date: an open zone, a date of the range, and times of a day
 abbrev pub AskedDate : List ℕ → CodeZone → ℕ → Time → Time → Type 0
@@ -79,4 +79,4 @@ pub record IsIn (z : Zone) (lo hi : Instant) (d : ℕ) : Type 0 where
 -- what is asked of a rule's date in a window: the date, the offset that the zone keeps there, and that it is one of the window's dates
 abbrev pub AskedPiece : List ℕ → CodeZone → ℕ → Time → Time → ℕ → Instant → Instant → Type 0
 AskedPiece f z o from to d lo hi =
-    ZoneOk f z × IsDay d × TimeFits from × TimeFits to × KeepsOffset (meant f z) (nanos lo) (nanos hi) o × IsIn (meant f z) lo hi d
+    ZoneOk f z × IsDay d × TimeFits from × TimeFits to × KeepsOffset (zoneIs f z) (nanos lo) (nanos hi) o × IsIn (zoneIs f z) lo hi d

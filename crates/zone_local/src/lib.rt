@@ -4,11 +4,11 @@ ghost use mathlib.Core.Path.{_≡_};
 ghost use Prim.Native.Nat.{_≤_};
 ghost use lib.Dec.{ltb};
 ghost use Rattle.instant.specs.Instant.{nanos, InRange};
-ghost use Rattle.model.specs.Tzif.{greatestOffset};
+ghost use Rattle.model.specs.Offset.{greatestOffset};
 ghost use Rattle.model.specs.Zone as model;
 ghost use Rattle.model.specs.Working.{localDay, firstDate, lastDate, endOf};
 ghost use Rattle.civil.specs.Dates.{timeIn, TimeFits};
-ghost use Rattle.zone.specs.Zones.{meant, ZoneOk};
+ghost use Rattle.zone.specs.Zones.{zoneIs, ZoneOk};
 ghost use Rattle.zone_local.specs.Dates.{IsDay, rangeEnd, ruleOf, AskedDate, IsTaken, pieceOf, held, KeepsOffset, IsTakenBy, AskedPiece};
 use block::Block;
 use civil::Time;
@@ -32,7 +32,7 @@ const LAST_KEPT: u64 = instant::LAST - FOUR_DAYS;
 // The local date at t.
 pub fn local_day(f: &[u8], z: Zone, t: Instant) -> u32
     requires { ⌜ ZoneOk (now f) z × InRange t ⌝ }
-    ensures { λ r. ⌜ r ≡ localDay (meant (now (f .entry)) z) (nanos t) ⌝ }
+    ensures { λ r. ⌜ r ≡ localDay (zoneIs (now (f .entry)) z) (nanos t) ⌝ }
 {
     let run = zone::run_at(f, z, t.sec);
     ((t.sec + run.offset as u64 - zone_offset::BIAS_64) / instant::DAY) as u32
@@ -41,7 +41,7 @@ pub fn local_day(f: &[u8], z: Zone, t: Instant) -> u32
 // The first of a window's dates, two before the local date at its start lo.
 pub fn first_date(f: &[u8], z: Zone, lo: Instant) -> u32
     requires { ⌜ ZoneOk (now f) z × InRange lo ⌝ }
-    ensures { λ r. ⌜ r ≡ firstDate (meant (now (f .entry)) z) (nanos lo) ⌝ }
+    ensures { λ r. ⌜ r ≡ firstDate (zoneIs (now (f .entry)) z) (nanos lo) ⌝ }
 {
     let d = local_day(f, z, lo);
     if THIRD_DAY <= d {
@@ -53,7 +53,7 @@ pub fn first_date(f: &[u8], z: Zone, lo: Instant) -> u32
 // The last of a window's dates, one after the local date at its end hi.
 pub fn last_date(f: &[u8], z: Zone, hi: Instant) -> u32
     requires { ⌜ ZoneOk (now f) z × InRange hi ⌝ }
-    ensures { λ r. ⌜ r ≡ lastDate (meant (now (f .entry)) z) (nanos hi) ⌝ }
+    ensures { λ r. ⌜ r ≡ lastDate (zoneIs (now (f .entry)) z) (nanos hi) ⌝ }
 {
     let d = local_day(f, z, hi);
     if d < LAST_DAY {
@@ -81,7 +81,7 @@ fn range_end(day: u32) -> Instant
 // The instant of a time of day on a date.
 pub fn resolve(f: &[u8], z: Zone, day: u32, time: Time) -> Instant
     requires { ⌜ ZoneOk (now f) z × IsDay day × TimeFits time ⌝ }
-    ensures { λ r. ⌜ (nanos r ≡ model.resolve (meant (now (f .entry)) z) day (timeIn time)) × InRange r ⌝ }
+    ensures { λ r. ⌜ (nanos r ≡ model.resolve (zoneIs (now (f .entry)) z) day (timeIn time)) × InRange r ⌝ }
 {
     let s = zone::second_of(
         f,
@@ -159,7 +159,7 @@ pub fn piece_on(
 // The offset that the zone keeps from four days before the window to four days after it, if it is seen to keep one; else 0.
 pub fn one_offset(f: &[u8], z: Zone, lo: Instant, hi: Instant) -> u32
     requires { ⌜ ZoneOk (now f) z × InRange lo × InRange hi ⌝ }
-    ensures { λ r. ⌜ KeepsOffset (meant (now (f .entry)) z) (nanos lo) (nanos hi) r ⌝ }
+    ensures { λ r. ⌜ KeepsOffset (zoneIs (now (f .entry)) z) (nanos lo) (nanos hi) r ⌝ }
 {
     if lo.sec < FIRST_KEPT {
         return 0;

@@ -6,9 +6,10 @@ use Prim.Native.Nat.{ℕ, _+_, _*_, _-_}
 use native.Mathlib.Omega.{arith}
 use Rattle.model.specs.Bytes.{hex, text}
 use Rattle.model.specs.Calendar.{dayNumber}
-use Rattle.model.specs.Instant.{epoch}
+use Rattle.model.specs.Instant.{epoch, daySeconds}
 use Rattle.model.specs.Footer.{month, empty, rules}
-use Rattle.model.specs.Tzif.{Zone, Change, zoneOf, offsetBias}
+use Rattle.model.specs.Tzif.{Zone, Change, zoneOf}
+use Rattle.model.specs.Offset.{offsetBias}
 use Rattle.model.specs.All.{everything}
 use Rattle.laws_zone.specs.Grammar.{FooterFits}
 use Rattle.model.specs.NextChange.{firstOf, nextChange}
@@ -62,7 +63,7 @@ renamed-change = refl
 
 -- the second of an hour of a date from the year 0 on
 abbrev at : ℕ → ℕ → ℕ → ℕ → ℕ
-at y m d hours = dayNumber (10400 + y) m d * 86400 + hours * 3600
+at y m d hours = dayNumber (10400 + y) m d * daySeconds + hours * 3600
 
 abbrev berlin : Zone
 berlin = record {

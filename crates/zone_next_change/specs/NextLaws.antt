@@ -14,14 +14,15 @@ use Rattle.laws_base.specs.Test.{by-test, clash}
 use Rattle.laws_zone.specs.Changes.{steady-same}
 use Rattle.laws_zone.specs.Grammar.{FooterFits}
 use Rattle.laws_zone.specs.Runs.{Run}
-use Rattle.model.specs.NextChange.{lastSecond, firstOf, nextChange}
+use Rattle.model.specs.NextChange.{firstOf, nextChange}
+use Rattle.model.specs.Instant.{lastSecond}
 
 -- what an answer says of the offsets `off`
-pub data Says (off : ℕ → ℕ) (u : ℕ) : Option ℕ → Type 0 where
+pub data SaysNext (off : ℕ → ℕ) (u : ℕ) : Option ℕ → Type 0 where
   -- v is after u and in the range, the offset there differs from that at u, and between u and v the offset is that of u
-  changes : (v : ℕ) → u < v → v ≤ lastSecond → (off v ≡ off u → ⊥) → ((w : ℕ) → u ≤ w → w < v → off w ≡ off u) → Says off u (some v)
+  changes : (v : ℕ) → u < v → v ≤ lastSecond → (off v ≡ off u → ⊥) → ((w : ℕ) → u ≤ w → w < v → off w ≡ off u) → SaysNext off u (some v)
   -- the offset is that of u to the range's end
-  stays : ((w : ℕ) → u ≤ w → w ≤ lastSecond → off w ≡ off u) → Says off u none
+  stays : ((w : ℕ) → u ≤ w → w ≤ lastSecond → off w ≡ off u) → SaysNext off u none
 
 -- ---- the next change says so
 
@@ -46,7 +47,7 @@ module _ (z : Zone) (u : ℕ) where
       go (yes h) = s w a h
       go (no h) = let q : w ≡ v = omega arith in ap (offsetAt z) q ∙ p
 
-  found : (n v : ℕ) → u < v → n ≡ lastSecond + 1 - v → Same v → Says (offsetAt z) u (firstOf (isChange z) v n)
+  found : (n v : ℕ) → u < v → n ≡ lastSecond + 1 - v → Same v → SaysNext (offsetAt z) u (firstOf (isChange z) v n)
   unfolding firstOf
   found zero v h e s = stays (λ w a b. s w a (omega arith))
   found (suc n) v h e s =
@@ -54,7 +55,7 @@ module _ (z : Zone) (u : ℕ) where
       by-test (isChange z v) (λ t. rw t (changes v h (omega arith) (differs z u v t p) s))
       (λ t. rw t (found n (suc v) (omega arith) (omega arith) (longer v s (unchanged z v t ∙ p))))
 
-  pub next-means : Says (offsetAt z) u (nextChange z u)
+  pub next-means : SaysNext (offsetAt z) u (nextChange z u)
   unfolding nextChange
   next-means = found (lastSecond - u) (suc u) (omega arith) (omega arith) (λ w a b. let q : w ≡ u = omega arith in ap (offsetAt z) q)
 
@@ -68,20 +69,20 @@ module _ {off : ℕ → ℕ} {u : ℕ} where
       go (yes k) = absurd (d (s v (omega arith) k))
       go (no k) = omega arith
 
-  pub says-once : {a b : Option ℕ} → Says off u a → Says off u b → a ≡ b
+  pub says-once : {a b : Option ℕ} → SaysNext off u a → SaysNext off u b → a ≡ b
   says-once (changes v h m d s) (changes w i n e t) = let q : v ≡ w = omega (arith, later v w d h t, later w v e i s) in ap some q
   says-once (changes v h m d s) (stays t) = absurd (d (t v (omega arith) m))
   says-once (stays t) (changes v h m d s) = absurd (d (t v (omega arith) m))
   says-once (stays t) (stays s) = refl
 
 -- what says so is the next change
-pub is-next : (z : Zone) (u : ℕ) {a : Option ℕ} → Says (offsetAt z) u a → a ≡ nextChange z u
+pub is-next : (z : Zone) (u : ℕ) {a : Option ℕ} → SaysNext (offsetAt z) u a → a ≡ nextChange z u
 is-next z u s = says-once s (next-means z u)
 
 pub next-in : (z : Zone) (u v : ℕ) → nextChange z u ≡ some v → v ≤ lastSecond
 next-in z u v e = go (rw e at (next-means z u))
   where
-    go : Says (offsetAt z) u (some v) → v ≤ lastSecond
+    go : SaysNext (offsetAt z) u (some v) → v ≤ lastSecond
     go (changes v h m d s) = m
 
 -- ---- found by runs of one offset

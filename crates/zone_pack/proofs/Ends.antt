@@ -12,8 +12,8 @@ use Rattle.model.specs.Directory.{partsOf}
 use Rattle.model.specs.Pack.{sameName, packOf, find}
 use Rattle.big_endian.specs.Maybe.{isSome}
 use Rattle.big_endian.specs.Walk.{allFrom}
-use Rattle.directory.specs.Directory.{countAt, startAt, lenAt, dirOk}
-use Rattle.zone_pack.specs.Pack.{namedFrom, namedAt, nameAtOk, mostZones, packOk, zoneFile, bytesOf, Finds}
+use Rattle.directory.specs.Directory.{entryCount, startAt, lenAt, dirOk}
+use Rattle.zone_pack.specs.Pack.{namedFrom, namedAt, nameAtOk, mostZones, packOk, zoneFile, bytesOf, FindsZone}
 use Rattle.zone_pack.specs.declared.Place.{Place}
 use Rattle.zone_pack.specs.declared.Place.the-variants.{At, Absent}
 use Rattle.directory.proofs.Parts.{as-dir}
@@ -21,7 +21,7 @@ use Rattle.zone_pack.proofs.Names.{pack-index, as-pack}
 
 -- ---- the pack: too many records; a broken directory; else by its names
 
-module _ (s : List ℕ) {n : ℕ} (e : n ≡ countAt s) where
+module _ (s : List ℕ) {n : ℕ} (e : n ≡ entryCount s) where
   pub pack-many : mostZones < n → false ≡ isSome (packOf s)
   unfolding packOk
   pack-many h = as-pack s (rw (← e, lt-leb n mostZones h))
@@ -63,18 +63,18 @@ take-all (suc n) (x ∷ l) = rw (take-all n l)
 
 module _ (p nm : List ℕ) where
   -- no such name, where `at` stands for no part
-  nothing : (at : ℕ) → zoneFile p nm ≡ none → Finds p nm false at []
+  nothing : (at : ℕ) → zoneFile p nm ≡ none → FindsZone p nm false at []
   nothing at e = record { file = rw e; found = rw e; part = refl }
 
-  module _ (r : Place) {n : ℕ} (ok : isSome (packOf p) ≡ true) (en : n ≡ countAt p) (er : bytesOf p r ≡ find nm (map (namedAt p) (run 0 n))) where
+  module _ (r : Place) {n : ℕ} (ok : isSome (packOf p) ≡ true) (en : n ≡ entryCount p) (er : bytesOf p r ≡ find nm (map (namedAt p) (run 0 n))) where
     place-is : zoneFile p nm ≡ bytesOf p r
     unfolding zoneFile
     place-is = let t : packOk p ≡ true = as-pack p refl ∙ ok in sym (rw (pack-index p, t, ← en) er)
 
-    pub look-found : {a m : ℕ} {x : List ℕ} → r ≡ At a m → x ≡ take m (drop a p) → Finds p nm true a x
+    pub look-found : {a m : ℕ} {x : List ℕ} → r ≡ At a m → x ≡ take m (drop a p) → FindsZone p nm true a x
     look-found {a} {m} {x} q ex =
         let e : zoneFile p nm ≡ some x = place-is ∙ rw (q, ex) in
         record { file = rw e; found = rw e; part = rw ex (sym (take-all m (drop a p))) }
 
-    pub look-absent : (at : ℕ) → r ≡ Absent → Finds p nm false at []
+    pub look-absent : (at : ℕ) → r ≡ Absent → FindsZone p nm false at []
     look-absent at q = nothing at (place-is ∙ rw q)

@@ -17,7 +17,7 @@ use Rattle.model.specs.Pack.{Named, namedOf, packOf}
 use Rattle.laws_base.specs.Test.{by-test, and-both}
 use Rattle.big_endian.specs.Walk.{both, allFrom}
 use Rattle.big_endian.specs.Maybe.{isSome}
-use Rattle.directory.specs.Directory.{longestName, countAt, startAt, lenAt, partAt, recordOk, entriesOk, dirOk}
+use Rattle.directory.specs.Directory.{longestName, entryCount, startAt, lenAt, partAt, recordOk, entriesOk, dirOk}
 use Rattle.zone_pack.specs.Pack.{namedFrom, namedAt, nameOk, nameAtOk, mostZones, packOk}
 use Rattle.directory.proofs.Parts.{parts-index, counted, some-given, drop-take, entries-hold}
 
@@ -87,16 +87,16 @@ named-each s (suc k) lo i h =
     given-more (nameAtOk s i) (allFrom (nameAtOk s) (i + 1) k) (namedAt s i) (map (namedAt s) (run (suc i) k)) (named-one s lo i (p .0)) more
 
 -- the pack by index
-pub pack-index : (s : List ℕ) → packOf s ≡ given (packOk s) (map (namedAt s) (run 0 (countAt s)))
+pub pack-index : (s : List ℕ) → packOf s ≡ given (packOk s) (map (namedAt s) (run 0 (entryCount s)))
 unfolding packOf packOk
 pack-index s =
     by-test (dirOk s)
     (λ e.
     let w = entries-hold s e in
-    rw (parts-index s, e, counted s (w .0), named-each s (countAt s) (4 + 8 * countAt s) 0 (w .1))
-    (by-test (leb (countAt s) mostZones) (λ f. rw f) (λ f. rw f)))
+    rw (parts-index s, e, counted s (w .0), named-each s (entryCount s) (4 + 8 * entryCount s) 0 (w .1))
+    (by-test (leb (entryCount s) mostZones) (λ f. rw f) (λ f. rw f)))
     (λ e. rw (parts-index s, e, and-false) (by-test (leb (be 4 s) mostZones) (λ f. rw f) (λ f. rw f)))
 
 -- the test by index passes exactly where there are records
 pub as-pack : (s : List ℕ) {r : Bool} → r ≡ packOk s → r ≡ isSome (packOf s)
-as-pack s e = rw (pack-index s) (e ∙ some-given (packOk s) (map (namedAt s) (run 0 (countAt s))))
+as-pack s e = rw (pack-index s) (e ∙ some-given (packOk s) (map (namedAt s) (run 0 (entryCount s))))

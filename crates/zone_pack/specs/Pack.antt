@@ -10,7 +10,7 @@ use Rattle.model.specs.Basic.{_>>=_, isIn, run}
 use Rattle.model.specs.Pack.{Named, packOf, find}
 use Rattle.big_endian.specs.Maybe.{isSome, orEmpty}
 use Rattle.big_endian.specs.Walk.{allFrom}
-use Rattle.directory.specs.Directory.{longestName, countAt, startAt, lenAt, dirOk}
+use Rattle.directory.specs.Directory.{longestName, entryCount, startAt, lenAt, dirOk}
 use Rattle.zone_pack.specs.declared.Place.{Place}
 use Rattle.zone_pack.specs.declared.Place.the-variants.{At, Absent}
 
@@ -37,7 +37,7 @@ mostZones = 1024
 
 -- the pack keeps its layout, by the code's tests and by the definitions
 unfoldable pub packOk : List ℕ → Bool
-packOk s = leb (countAt s) mostZones && (dirOk s && allFrom (nameAtOk s) 0 (countAt s))
+packOk s = leb (entryCount s) mostZones && (dirOk s && allFrom (nameAtOk s) 0 (entryCount s))
 
 abbrev pub isPack : List ℕ → Bool
 isPack s = isSome (packOf s)
@@ -57,7 +57,7 @@ firstFile p name n = find name (map (namedAt p) (run 0 n))
 
 -- what the finder answers: r is the zone file of the name, a part of the pack that begins at `at`. Document 01: "a yes or no beside it tells an absent
 -- name from an empty file".
-pub record Finds (p name : List ℕ) (yes : Bool) (at : ℕ) (r : List ℕ) : Type 0 where
+pub record FindsZone (p name : List ℕ) (yes : Bool) (at : ℕ) (r : List ℕ) : Type 0 where
   pub file : r ≡ orEmpty (zoneFile p name)
   pub found : yes ≡ isSome (zoneFile p name)
   pub part : r ≡ take (length r) (drop at p)

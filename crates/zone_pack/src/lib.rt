@@ -7,10 +7,10 @@ ghost use Prim.Native.Nat.{_+_, _*_, _-_, _<_};
 ghost use Rattle.model.specs.Pack.{lower, sameName};
 ghost use Rattle.big_endian.specs.Be.{fourBytes};
 ghost use Rattle.big_endian.specs.Walk.{allFrom};
-ghost use Rattle.zone_pack.specs.Pack.{namedAt, nameOk, nameAtOk, isPack, bytesOf, firstFile, Finds};
+ghost use Rattle.zone_pack.specs.Pack.{namedAt, nameOk, nameAtOk, isPack, bytesOf, firstFile, FindsZone};
 
 // Document 01's limit: the most zones of a pack.
-const MOST_ZONES: usize = 1024;
+pub const MOST_ZONES: usize = 1024;
 
 // How much a small letter is above its capital.
 const CASE: u8 = 32;
@@ -153,7 +153,7 @@ fn find_in(p: &[u8], name: &[u8], n: usize) -> Place
 // the name, so that an absent name is told from an empty file, and where the part begins.
 pub fn look_in<'a>(p: &'a [u8], name: &[u8], found: &mut bool, at: &mut usize) -> &'a [u8]
     requires { ⌜ isPack (now p) ≡ true ⌝ }
-    ensures { λ r. ⌜ Finds (now (p .entry)) (now (name .entry)) (now (found .exit)) (now (at .exit)) (now r) ⌝ }
+    ensures { λ r. ⌜ FindsZone (now (p .entry)) (now (name .entry)) (now (found .exit)) (now (at .exit)) (now r) ⌝ }
 {
     match find_in(p, name, directory::count_of(p)) {
         Place::At(a, n) => {

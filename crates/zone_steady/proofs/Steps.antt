@@ -7,7 +7,8 @@ use native.Mathlib.Omega.{arith}
 use native.Mathlib.Decide.{decLt}
 use Rattle.model.specs.Footer as model
 use Rattle.model.specs.Footer.{changeIn}
-use Rattle.model.specs.Tzif.{Zone, greatestOffset}
+use Rattle.model.specs.Tzif.{Zone}
+use Rattle.model.specs.Offset.{greatestOffset}
 use Rattle.model.specs.Zone.{latest, offsetAt, ruledAt, steady}
 use Rattle.laws_base.specs.Test.{by-test, by-either}
 use Rattle.laws_zone.specs.Changes.{same-steady}
@@ -20,14 +21,14 @@ use Rattle.zone_tzif.specs.declared.Layout.{Layout}
 use Rattle.zone_tzif_block.specs.Parts.{keyAt}
 use Rattle.zone_tzif.specs.Places.{timeAt, offsetAfter}
 use Rattle.zone_tzif.specs.Opened.{Opened, zoneAt, countAt}
-use Rattle.zone_tzif.proofs.Laws.{count-most, count-past, count-next, count-is, offset-early, offset-late}
+use Rattle.zone_tzif.proofs.Laws.{times-rise, count-most, count-past, count-next, count-is, offset-early, offset-late}
 use Rattle.zone_footer.specs.Parsed.{changeRuleIs}
 use Rattle.zone_footer.specs.declared.ChangeRule.{ChangeRule}
 use Rattle.zone_footer.specs.declared.Footer.{Footer}
 use Rattle.zone_footer.specs.declared.Footer.the-variants.{Empty, Fixed, Rules, Broken}
 use Rattle.zone_changes.specs.Meaning.{theFooter, Near}
 use Rattle.zone_changes.specs.MeaningLaws.{rules-daylight, rules-standard}
-use Rattle.zone_steady.specs.Steady.{Room, Back, sinceAt, low, high}
+use Rattle.zone_steady.specs.Steady.{SteadyRoom, Back, sinceAt, low, high}
 
 -- ---- the table
 
@@ -41,17 +42,11 @@ since-next f l zero h e = absurd (h refl)
 since-next f l (suc k) h e = let q : suc k - 1 ≡ k = omega arith in e ∙ ap (timeAt f l) q
 
 module _ (f : List ℕ) (l : Layout) (o : Opened f l) where
-  times-rise : Rises (timeAt f l) (l .count)
-  unfolding timeAt
-  times-rise i j h k =
-      let r : keyAt f (l .times) i ≤ keyAt f (l .times) j = rises (keyAt f (l .times)) (l .count) (o .rise) i j h k in
-      omega arith
-
   -- a second of the table's k-th part lies behind each transition before it
   behind-each : (k v : ℕ) → k ≤ l .count → sinceAt f l k ≤ v → (j : ℕ) → j < k → timeAt f l j ≤ v
   unfolding sinceAt
   behind-each zero v m h j q = absurd (omega arith)
-  behind-each (suc k) v m h j q = omega (arith, times-rise j k (omega arith) (omega arith))
+  behind-each (suc k) v m h j q = omega (arith, times-rise f l o j k (omega arith) (omega arith))
 
   since-upto : (u k : ℕ) → k ≡ countAt f l u → sinceAt f l k ≤ u
   unfolding sinceAt
@@ -149,10 +144,10 @@ module _ {f : Footer} {std dst : ℕ} {start end : ChangeRule} (e : f ≡ Rules 
 -- ---- how far it stays
 
 module _ (z : Zone) (k : Sound z) {lo hi : ℕ} (d : dawn ≤ lo) where
-  pub on-changes : {e : ℕ} → Run (offsetAt z) lo e → e ≤ hi → (offsetAt z e ≡ offsetAt z lo → ⊥) → Room (λ e. steady z lo (hi + e)) 0
+  pub on-changes : {e : ℕ} → Run (offsetAt z) lo e → e ≤ hi → (offsetAt z e ≡ offsetAt z lo → ⊥) → SteadyRoom (λ e. steady z lo (hi + e)) 0
   on-changes r h n = let q : hi + 0 ≡ hi = omega arith in record { none = λ _. rw q (sym (run-changes z r k hi d h n)); each = λ e h. absurd (omega arith) }
 
-  pub back-changes : {s : ℕ} → Back (offsetAt z) hi s → lo < s → (offsetAt z (s - 1) ≡ offsetAt z hi → ⊥) → Room (λ e. steady z (lo - e) hi) 0
+  pub back-changes : {s : ℕ} → Back (offsetAt z) hi s → lo < s → (offsetAt z (s - 1) ≡ offsetAt z hi → ⊥) → SteadyRoom (λ e. steady z (lo - e) hi) 0
   back-changes {s} b h n =
       let q : lo - 0 ≡ lo = omega arith in
       record {
@@ -162,10 +157,10 @@ module _ (z : Zone) (k : Sound z) {lo hi : ℕ} (d : dawn ≤ lo) where
         each = λ e h. absurd (omega arith);
       }
 
-pub on-stays : (z : Zone) {lo hi e : ℕ} → Run (offsetAt z) lo e → hi < e → Room (λ e. steady z lo (hi + e)) (e - hi)
+pub on-stays : (z : Zone) {lo hi e : ℕ} → Run (offsetAt z) lo e → hi < e → SteadyRoom (λ e. steady z lo (hi + e)) (e - hi)
 on-stays z {lo} {hi} {e} r h = record { none = λ q. absurd (omega arith); each = λ x p. sym (run-steady z r (hi + x) (omega arith)) }
 
-pub back-stays : (z : Zone) {lo hi s : ℕ} → Back (offsetAt z) hi s → s ≤ lo → lo ≤ hi → Room (λ e. steady z (lo - e) hi) (lo - s + 1)
+pub back-stays : (z : Zone) {lo hi s : ℕ} → Back (offsetAt z) hi s → s ≤ lo → lo ≤ hi → SteadyRoom (λ e. steady z (lo - e) hi) (lo - s + 1)
 back-stays z {lo} {hi} {s} b h k = record {
   none = λ q. absurd (omega arith);
   each = λ x p. same-steady z (lo - x) hi (λ u i j. b .same u (omega arith) j ∙ sym (b .same (lo - x) (omega arith) (omega arith)));
@@ -181,8 +176,8 @@ back-on {off} {u} {s} {r} b h c q = record { to = omega (arith, b .to, c .to); s
 
 -- ---- either way
 
-pub room-back : {back : Bool} (z : Zone) (lo hi : ℕ) {r : ℕ} → back ≡ true → Room (λ e. steady z (lo - e) hi) r → Room (λ e. steady z (low back lo e) (high back hi e)) r
+pub room-back : {back : Bool} (z : Zone) (lo hi : ℕ) {r : ℕ} → back ≡ true → SteadyRoom (λ e. steady z (lo - e) hi) r → SteadyRoom (λ e. steady z (low back lo e) (high back hi e)) r
 room-back z lo hi e r = rw e r
 
-pub room-on : {back : Bool} (z : Zone) (lo hi : ℕ) {r : ℕ} → back ≡ false → Room (λ e. steady z lo (hi + e)) r → Room (λ e. steady z (low back lo e) (high back hi e)) r
+pub room-on : {back : Bool} (z : Zone) (lo hi : ℕ) {r : ℕ} → back ≡ false → SteadyRoom (λ e. steady z lo (hi + e)) r → SteadyRoom (λ e. steady z (low back lo e) (high back hi e)) r
 room-on z lo hi e r = rw e r

@@ -14,7 +14,7 @@ use Rattle.zone_tzif.specs.declared.Layout.{Layout}
 use Rattle.zone_tzif.specs.Places.{timeAt}
 
 -- the test passes at each number below the room, and the room is 0 only where the test fails at 0
-pub record Room (test : ℕ → Bool) (room : ℕ) : Type 0 where
+pub record SteadyRoom (test : ℕ → Bool) (room : ℕ) : Type 0 where
   pub none : room ≡ 0 → test 0 ≡ false
   pub each : (e : ℕ) → e < room → test e ≡ true
 
@@ -51,4 +51,4 @@ high false b e = b + e
 
 -- how far one offset is kept beyond the span from lo to hi
 abbrev pub RoomBeyond : model.Zone → Bool → ℕ → ℕ → ℕ → Type 0
-RoomBeyond z back lo hi r = Room (λ e. steady z (low back lo e) (high back hi e)) r
+RoomBeyond z back lo hi r = SteadyRoom (λ e. steady z (low back lo e) (high back hi e)) r

@@ -7,8 +7,8 @@ ghost use Rattle.laws_zone.specs.Grammar.{FooterFits};
 ghost use Rattle.zone_changes.specs.Meaning.{theFooter};
 ghost use Rattle.instant.specs.Instant.{yearsEnd};
 ghost use Rattle.zone_tzif.specs.Opened.{Opened};
-ghost use Rattle.zone.specs.Zones.{meant, Asked, zoneOffset};
-ghost use Rattle.zone_steady.specs.Steady.{Room, IsOffsetSince, IsOffsetFrom, AskedSpan, RoomBeyond, sinceAt};
+ghost use Rattle.zone.specs.Zones.{zoneIs, Asked, zoneOffset};
+ghost use Rattle.zone_steady.specs.Steady.{SteadyRoom, IsOffsetSince, IsOffsetFrom, AskedSpan, RoomBeyond, sinceAt};
 use zone::Zone;
 use zone_footer::Footer;
 use zone_tzif::Layout;
@@ -79,7 +79,7 @@ pub fn run_behind(f: &[u8], z: Zone, u: u64) -> OffsetSince
 // How far behind hi the offset stays: 0 if it changes from lo to hi.
 fn room_on(f: &[u8], z: Zone, lo: u64, hi: u64) -> u64
     requires { ⌜ AskedSpan (now f) z lo hi ⌝ }
-    ensures { λ r. ⌜ Room (λ e. model.steady (meant (now (f .entry)) z) lo (hi + e)) r ⌝ }
+    ensures { λ r. ⌜ SteadyRoom (λ e. model.steady (zoneIs (now (f .entry)) z) lo (hi + e)) r ⌝ }
 {
     let r = zone::run_at(f, z, lo);
     let mut until = r.until;
@@ -96,7 +96,7 @@ fn room_on(f: &[u8], z: Zone, lo: u64, hi: u64) -> u64
 // How far before lo the offset stays: 0 if it changes from lo to hi.
 fn room_back(f: &[u8], z: Zone, lo: u64, hi: u64) -> u64
     requires { ⌜ AskedSpan (now f) z lo hi ⌝ }
-    ensures { λ r. ⌜ Room (λ e. model.steady (meant (now (f .entry)) z) (lo - e) hi) r ⌝ }
+    ensures { λ r. ⌜ SteadyRoom (λ e. model.steady (zoneIs (now (f .entry)) z) (lo - e) hi) r ⌝ }
 {
     let r = run_behind(f, z, hi);
     let mut since = r.since;
@@ -113,7 +113,7 @@ fn room_back(f: &[u8], z: Zone, lo: u64, hi: u64) -> u64
 // How far beyond the span from lo to hi the offset stays, one more than the last second that is sure: 0 if it changes from lo to hi.
 pub fn room(f: &[u8], z: Zone, back: bool, lo: u64, hi: u64) -> u64
     requires { ⌜ AskedSpan (now f) z lo hi ⌝ }
-    ensures { λ r. ⌜ RoomBeyond (meant (now (f .entry)) z) back lo hi r ⌝ }
+    ensures { λ r. ⌜ RoomBeyond (zoneIs (now (f .entry)) z) back lo hi r ⌝ }
 {
     if back {
         return room_back(f, z, lo, hi);

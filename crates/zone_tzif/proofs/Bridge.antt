@@ -14,18 +14,18 @@ use lib.Dec.{leb, ltb, eqb}
 use lib.ListN.{length, getD, take, drop, length-drop, length-map, drop-of-length-le}
 use lib.Seq.{drop-cons, drop-drop, drop-length, getD-drop, getD-take, take-take, length-take-le}
 use Rattle.model.specs.Basic.{_>>=_, given, need, isIn, all, sameList}
-use Rattle.model.specs.Bytes.{be, words, pieces, lifted}
+use Rattle.model.specs.Bytes.{be, words, pieces, lifted, newline}
 use Rattle.model.specs.Instant.{epoch}
 use Rattle.model.specs.Tzif as M
-use Rattle.model.specs.Tzif.{Header, headerOf, sizeOf, offsetIn, typeOk, countsOk, changesOf, lineOf, Table, tableIn, tableOf, headerSize, typeSize, newline}
+use Rattle.model.specs.Tzif.{Header, headerOf, sizeOf, offsetIn, typeOk, countsOk, changesOf, lineOf, Table, tableIn, tableOf, headerSize, typeSize}
 use Rattle.laws_base.specs.Test.{by-test, and-both}
 use Rattle.big_endian.specs.Be.{be32}
-use Rattle.big_endian.specs.Walk.{allFrom, rising}
+use Rattle.big_endian.specs.Walk.{allFrom, risesAt}
 use Rattle.big_endian.proofs.Lists.{at-4, at-8, word-at, piece-at, words-length, pieces-length, all-index}
 use Rattle.big_endian.proofs.Walk.{all-at}
 use Rattle.zone_tzif_head.specs.declared.Head.{Head}
-use Rattle.zone_tzif_head.specs.Heads.{meant, headOk, headAt, secondAt}
-use Rattle.zone_tzif_block.specs.Parts.{keyAt, byteBelow, offsetIs, typeFits, kindsAt, typesAt, marksAt, tailAt, tailOk, timesRise, tablesOk, blockOk}
+use Rattle.zone_tzif_head.specs.Heads.{headerIs, headOk, headAt, secondAt}
+use Rattle.zone_tzif_block.specs.Parts.{keyAt, byteBelow, typeOffset, typeFits, kindsAt, typesAt, marksAt, tailAt, tailOk, timesRise, tablesOk, blockOk}
 use Rattle.zone_tzif.specs.Places.{layoutAt, usable, layoutOf, timeAt, offsetAfter, changesFrom, changesAt, tableAt}
 
 -- ---- headers
@@ -44,7 +44,7 @@ module _ (f : List ℕ) (a : ℕ) where
       ∙ ap (be 4) (drop-drop (4 * k) 20 (drop a f) ∙ drop-drop (20 + 4 * k) a f)
       ∙ sym (at-4 f (a + (20 + 4 * k)) (omega arith))
 
-  head-is : headerOf (drop a f) ≡ given (headOk f a) (meant (headAt f a))
+  head-is : headerOf (drop a f) ≡ given (headOk f a) (headerIs (headAt f a))
   unfolding headerOf headOk headAt
   head-is =
       rw (length-drop, room a (length f))
@@ -112,15 +112,15 @@ less : (n : ℕ) → suc n - 1 ≡ n
 less n = omega arith
 
 -- a rising list, by index
-rising-is : (key : ℕ → ℕ) (l : List ℕ) (i : ℕ) → ((j : ℕ) → j < length l → key (i + j) ≡ getD l j 0) → M.rising l ≡ allFrom (rising key) i (length l - 1)
+rising-is : (key : ℕ → ℕ) (l : List ℕ) (i : ℕ) → ((j : ℕ) → j < length l → key (i + j) ≡ getD l j 0) → M.rising l ≡ allFrom (risesAt key) i (length l - 1)
 unfolding M.rising allFrom
 rising-is key [] i h = refl
 rising-is key (a ∷ []) i h = refl
 rising-is key (a ∷ b ∷ l) i h =
     let ea : key i ≡ a = ap key (omega arith) ∙ h 0 (omega arith) in
     let eb : key (i + 1) ≡ b = h 1 (omega arith) in
-    let r : M.rising (b ∷ l) ≡ allFrom (rising key) (i + 1) (length l) =
-    rising-is key (b ∷ l) (i + 1) (λ j k. ap key (omega arith) ∙ h (suc j) (suc-le-suc k)) ∙ ap (allFrom (rising key) (i + 1)) (less (length l)) in
+    let r : M.rising (b ∷ l) ≡ allFrom (risesAt key) (i + 1) (length l) =
+    rising-is key (b ∷ l) (i + 1) (λ j k. ap key (omega arith) ∙ h (suc j) (suc-le-suc k)) ∙ ap (allFrom (risesAt key) (i + 1)) (less (length l)) in
     rw (less (suc (length l)), ea, eb, r) (by-test (ltb a b) (λ q. rw q) (λ q. rw q))
 
 -- the changes, by index
@@ -159,7 +159,7 @@ module _ (f : List ℕ) (b : ℕ) (h : Head) (fits : tailAt b h + 1 < length f) 
   times-are =
       rising-is (keyAt f b) (map (lifted 8) (words 8 n (drop b f))) 0
       (λ j l. ap (keyAt f b) (omega arith) ∙ sym (key-is j (omega (arith, times-long))))
-      ∙ ap (λ (k : ℕ). allFrom (rising (keyAt f b)) 0 (k - 1)) times-long
+      ∙ ap (λ (k : ℕ). allFrom (risesAt (keyAt f b)) 0 (k - 1)) times-long
 
   -- a byte of k bytes from a on
   byte-is : (a k i : ℕ) → i < k → getD (take k (drop a (drop b f))) i 0 ≡ getD f (b + a + i) 0
@@ -181,8 +181,8 @@ module _ (f : List ℕ) (b : ℕ) (h : Head) (fits : tailAt b h + 1 < length f) 
   type-bytes i l =
       piece-at 6 (h .types) (drop (n * 9) (drop b f)) i l ∙ rw (drop-drop (6 * i) (n * 9) (drop b f), drop-drop (n * 9 + 6 * i) b f, add-assoc b (n * 9) (6 * i))
 
-  type-offset : (i : ℕ) → i < h .types → offsetIn (take 6 (drop (typesAt b n + 6 * i) f)) ≡ offsetIs (be32 f (typesAt b n + 6 * i))
-  unfolding offsetIs
+  type-offset : (i : ℕ) → i < h .types → offsetIn (take 6 (drop (typesAt b n + 6 * i) f)) ≡ typeOffset (be32 f (typesAt b n + 6 * i))
+  unfolding typeOffset
   type-offset i l =
       let e : take 4 (take 6 (drop (typesAt b n + 6 * i) f)) ≡ take 4 (drop (typesAt b n + 6 * i) f) = take-take 4 6 (drop (typesAt b n + 6 * i) f) (omega arith) in
       rw (e, ← at-4 f (typesAt b n + 6 * i) (omega arith))
@@ -203,7 +203,7 @@ module _ (f : List ℕ) (b : ℕ) (h : Head) (fits : tailAt b h + 1 < length f) 
       ∙ ap (allFrom (typeFits f (typesAt b n) (h .chars)) 0) e
 
   -- type i's offset
-  offset-is : (i : ℕ) → i < h .types → getD (map offsetIn (pieces typeSize (h .types) (drop (n * 9) (drop b f)))) i 0 ≡ offsetIs (be32 f (typesAt b n + 6 * i))
+  offset-is : (i : ℕ) → i < h .types → getD (map offsetIn (pieces typeSize (h .types) (drop (n * 9) (drop b f)))) i 0 ≡ typeOffset (be32 f (typesAt b n + 6 * i))
   offset-is i l =
       map-at offsetIn (pieces typeSize (h .types) (drop (n * 9) (drop b f))) i [] (omega (arith, pieces-length 6 (h .types) (drop (n * 9) (drop b f))))
       ∙ ap offsetIn (type-bytes i l) ∙ type-offset i l
@@ -226,7 +226,7 @@ module _ (f : List ℕ) (b : ℕ) (h : Head) (fits : tailAt b h + 1 < length f) 
       let w = byte-is (n * 8) n j r in
       let v = k j r in
       ap (λ (x : ℕ). getD offs x 0) w ∙ offset-is (getD f (kindsAt b n + j) 0) v
-      ∙ ap (λ (x : ℕ). offsetIs (be32 f (typesAt b n + 6 * getD f (kindsAt b n + x) 0))) z)
+      ∙ ap (λ (x : ℕ). typeOffset (be32 f (typesAt b n + 6 * getD f (kindsAt b n + x) 0))) z)
       ∙ ap (changesFrom (timeAt f l) (offsetAfter f l) 0) e
 
   -- the four tests of the tables
@@ -272,15 +272,15 @@ tail-in : (f : List ℕ) (t : ℕ) → tailOk f t ≡ true → t + 1 < length f
 unfolding tailOk
 tail-in f t e = ltb-true _ _ (and-both (ltb (t + 1) (length f)) (eqb (getD f t 0) newline && eqb (getD f (length f - 1) 0) newline) e .0)
 
-block-is : (f : List ℕ) (b : ℕ) (h : Head) → tableIn (meant h) (drop b f) ≡ given (blockOk f b h) (tableAt f (layoutAt f b h))
+block-is : (f : List ℕ) (b : ℕ) (h : Head) → tableIn (headerIs h) (drop b f) ≡ given (blockOk f b h) (tableAt f (layoutAt f b h))
 unfolding tableIn blockOk
 block-is f b h =
-    by-test (countsOk (meant h))
-    (λ c. rw (c, drop-drop (sizeOf 8 (meant h)) b f, line-is f (tailAt b h))
+    by-test (countsOk (headerIs h))
+    (λ c. rw (c, drop-drop (sizeOf 8 (headerIs h)) b f, line-is f (tailAt b h))
     (by-test (tailOk f (tailAt b h))
     (λ t. let i = tail-in f (tailAt b h) t in
     rw (t, tests-are f b h i)
-    (by-test (tablesOk f b h) (λ e. rw e (ap some (block-table f b h i e (has-types (meant h) c)))) (λ e. rw e)))
+    (by-test (tablesOk f b h) (λ e. rw e (ap some (block-table f b h i e (has-types (headerIs h) c)))) (λ e. rw e)))
     (λ t. rw t)))
     (λ c. rw c)
 
@@ -290,7 +290,7 @@ first-version f = refl
 
 -- behind two headers, the second of which is at s
 rest-is : (f : List ℕ) (s : ℕ) →
-    (need (eqb (headAt f 0 .version) (headAt f s .version)) >>= λ _. tableIn (meant (headAt f s)) (drop 44 (drop s f)))
+    (need (eqb (headAt f 0 .version) (headAt f s .version)) >>= λ _. tableIn (headerIs (headAt f s)) (drop 44 (drop s f)))
     ≡ given (eqb (getD f 4 0) (headAt f s .version) && blockOk f (s + 44) (headAt f s)) (tableAt f (layoutAt f (s + 44) (headAt f s)))
 rest-is f s =
     rw (first-version f)
@@ -302,7 +302,7 @@ rest-is f s =
 pub table-is : (f : List ℕ) → tableOf f ≡ given (usable f) (tableAt f (layoutOf f))
 unfolding tableOf usable layoutOf secondAt
 table-is f =
-    let s = 44 + sizeOf 4 (meant (headAt f 0)) in
+    let s = 44 + sizeOf 4 (headerIs (headAt f 0)) in
     rw (head-is f 0)
     (by-test (headOk f 0)
     (λ p. rw (p, head-is f s) (by-test (headOk f s) (λ q. rw q (rest-is f s)) (λ q. rw q)))
@@ -312,5 +312,5 @@ table-is f =
 pub block-in : (f : List ℕ) (b : ℕ) (h : Head) → blockOk f b h ≡ true → tailAt b h + 1 < length f
 unfolding blockOk
 block-in f b h e =
-    let p = and-both (countsOk (meant h)) (tailOk f (tailAt b h) && tablesOk f b h) e in
+    let p = and-both (countsOk (headerIs h)) (tailOk f (tailAt b h) && tablesOk f b h) e in
     tail-in f (tailAt b h) (and-both (tailOk f (tailAt b h)) (tablesOk f b h) (p .1) .0)

@@ -11,9 +11,10 @@ use lib.ListN.{length, getD}
 use borrow.Author.Tests.{lt-ltb, le-ltb, le-leb, lt-leb, leb-true, ltb-true, ltb-false}
 use Rattle.model.specs.Basic.{if_then_else_, _>>=_, isIn}
 use Rattle.model.specs.Footer.{Footer, footerOf}
-use Rattle.model.specs.Tzif.{countsOk, zeroOr, tableOf, zoneOf, greatestOffset, mostTypes, mostTransitions}
+use Rattle.model.specs.Tzif.{countsOk, zeroOr, tableOf, zoneOf, mostTypes, mostTransitions}
+use Rattle.model.specs.Offset.{greatestOffset}
 use Rattle.model.specs.Zone.{offsetFrom, offsetAt, ruledAt}
-use Rattle.laws_base.specs.Test.{by-test, and-both}
+use Rattle.laws_base.specs.Test.{by-test, and-both, never}
 use Rattle.laws_zone.specs.Runs.{Run}
 use Rattle.big_endian.specs.Be.{be32}
 use Rattle.big_endian.specs.Walk.{allFrom, upTo}
@@ -21,8 +22,8 @@ use Rattle.big_endian.proofs.Walk.{all-at, rises, Rises, count-in, count-out, c
 use Rattle.zone_tzif_head.specs.declared.Head.{Head}
 use Rattle.zone_tzif.specs.declared.Layout.{Layout}
 use Rattle.zone_tzif.specs.declared.TzifRead.the-variants as R
-use Rattle.zone_tzif_head.specs.Heads.{meant, headOk, headAt, secondAt}
-use Rattle.zone_tzif_block.specs.Parts.{keyAt, byteBelow, offsetIs, typeFits, kindsAt, typesAt, marksAt, tailAt, tailOk, timesRise, tablesOk, blockOk}
+use Rattle.zone_tzif_head.specs.Heads.{headerIs, headOk, headAt, secondAt}
+use Rattle.zone_tzif_block.specs.Parts.{keyAt, byteBelow, typeOffset, typeFits, kindsAt, typesAt, marksAt, tailAt, tailOk, timesRise, tablesOk, blockOk}
 use Rattle.zone_tzif.specs.Places.{layoutAt, usable, layoutOf, readOf, timeAt, offsetAfter, changesFrom, lineAt, tableAt}
 use Rattle.zone_tzif.specs.Opened.{Opened, zoneAt, countAt}
 use Rattle.zone_tzif.proofs.Bridge.{table-is, block-in}
@@ -38,7 +39,7 @@ record Passed (f : List ℕ) (b : ℕ) (h : Head) : Type 0 where
   kinds : allFrom (byteBelow f (kindsAt b (h .times)) (h .types)) 0 (h .times) ≡ true
   fit : allFrom (typeFits f (typesAt b (h .times)) (h .chars)) 0 (h .types) ≡ true
 
-counts : (h : Head) → countsOk (meant h) ≡ true → (1 ≤ h .types) × (h .times ≤ mostTransitions)
+counts : (h : Head) → countsOk (headerIs h) ≡ true → (1 ≤ h .types) × (h .times ≤ mostTransitions)
 unfolding countsOk
 counts h e =
     let rest = leb 1 (h .chars) && (eqb (h .leaps) 0 && (zeroOr (h .types) (h .stds) && zeroOr (h .types) (h .uts))) in
@@ -52,7 +53,7 @@ passed f b h e =
     let marks = allFrom (byteBelow f (marksAt b h) 2) 0 (h .stds + h .uts) in
     let types = allFrom (typeFits f (typesAt b (h .times)) (h .chars)) 0 (h .types) in
     let kinds = allFrom (byteBelow f (kindsAt b (h .times)) (h .types)) 0 (h .times) in
-    let p = and-both (countsOk (meant h)) (tailOk f (tailAt b h) && tablesOk f b h) e in
+    let p = and-both (countsOk (headerIs h)) (tailOk f (tailAt b h) && tablesOk f b h) e in
     let q = and-both (tailOk f (tailAt b h)) (tablesOk f b h) (p .1) in
     let r = and-both (timesRise f b (h .times)) (kinds && (types && marks)) (q .1) in
     let s = and-both kinds (types && marks) (r .1) in
@@ -64,10 +65,10 @@ module _ (f : List ℕ) (b : ℕ) (h : Head) (p : Passed f b h) where
   unfolding byteBelow
   kind-below i l = ltb-true _ _ (all-at (byteBelow f (kindsAt b (h .times)) (h .types)) (h .times) i (p .kinds) l)
 
-  offset-fits : (k : ℕ) → k < h .types → (1 ≤ offsetIs (be32 f (typesAt b (h .times) + 6 * k))) × (offsetIs (be32 f (typesAt b (h .times) + 6 * k)) ≤ greatestOffset)
+  offset-fits : (k : ℕ) → k < h .types → (1 ≤ typeOffset (be32 f (typesAt b (h .times) + 6 * k))) × (typeOffset (be32 f (typesAt b (h .times) + 6 * k)) ≤ greatestOffset)
   unfolding typeFits
   offset-fits k l =
-      let o = offsetIs (be32 f (typesAt b (h .times) + 6 * k)) in
+      let o = typeOffset (be32 f (typesAt b (h .times) + 6 * k)) in
       let a = typesAt b (h .times) + 6 * k in
       let t = and-both (isIn 1 greatestOffset o) (ltb (getD f (a + 4) 0) 2 && ltb (getD f (a + 5) 0) (h .chars)) (all-at (typeFits f (typesAt b (h .times)) (h .chars)) (h .types) k (p .fit) l) in
       let s = and-both (leb 1 o) (leb o greatestOffset) (t .0) in
@@ -112,13 +113,13 @@ module _ (f : List ℕ) where
   unfolding readOf
   read-no e l q =
       let z : R.Unusable ≡ R.Table l = rw e at q in
-      absurd (let w : _≡_ {A = ℕ} 0 1 = cc in omega arith)
+      never (cc)
 
   read-none : readOf f ≡ R.Unusable → usable f ≡ false
   unfolding readOf
   read-none q =
       by-test (usable f)
-      (λ e. let z : R.Table (layoutOf f) ≡ R.Unusable = rw e at q in absurd (let w : _≡_ {A = ℕ} 0 1 = cc in omega arith))
+      (λ e. let z : R.Table (layoutOf f) ≡ R.Unusable = rw e at q in never (cc))
       (λ e. e)
 
   -- a layout that `read` answers is one that the lookups take ..
@@ -175,7 +176,7 @@ module _ (time off : ℕ → ℕ) (foot : Footer) (u : ℕ) where
       rw (lt-leb (time i) u g, e, lt-ltb i (i + suc n) (omega arith)))
 
 module _ (f : List ℕ) (l : Layout) (o : Opened f l) where
-  times-rise : Rises (timeAt f l) (l .count)
+  pub times-rise : Rises (timeAt f l) (l .count)
   unfolding timeAt
   times-rise i j h k =
       let r : keyAt f (l .times) i ≤ keyAt f (l .times) j = rises (keyAt f (l .times)) (l .count) (o .rise) i j h k in
@@ -290,8 +291,8 @@ module _ (f : List ℕ) (l : Layout) (o : Opened f l) where
   offset-first k e = gives k (l .initial) (omega arith) (rw e)
 
   pub offset-next : {k kind v r : ℕ} → k ≤ l .count → 1 ≤ k → kind ≡ getD f (kindsAt (l .times) (l .count) + (k - 1)) 0
-      → v ≡ be32 f (typesAt (l .times) (l .count) + 6 * kind) → r ≡ offsetIs v → Gives f l k r
+      → v ≡ be32 f (typesAt (l .times) (l .count) + 6 * kind) → r ≡ typeOffset v → Gives f l k r
   unfolding offsetAfter
   offset-next {k} {kind} {v} {r} h i a b c =
       let z : k ≡ suc (k - 1) = omega arith in
-      gives k r h (c ∙ ap offsetIs b ∙ ap (λ (m : ℕ). offsetIs (be32 f (typesAt (l .times) (l .count) + 6 * m))) a ∙ sym (ap (offsetAfter f l) z))
+      gives k r h (c ∙ ap typeOffset b ∙ ap (λ (m : ℕ). typeOffset (be32 f (typesAt (l .times) (l .count) + 6 * m))) a ∙ sym (ap (offsetAfter f l) z))

@@ -7,9 +7,10 @@ use Prim.Native.Nat.{ℕ, zero, suc, _+_, _*_, _≤_, _<_}
 use native.Mathlib.Omega.{arith}
 use lib.ListN.{length, getD}
 use Rattle.model.specs.Footer.{Footer, empty}
-use Rattle.model.specs.Tzif.{Zone, zoneWith, offsetBias, greatestOffset, typeSize, mostTransitions}
+use Rattle.model.specs.Tzif.{Zone, zoneWith, typeSize, mostTransitions}
+use Rattle.model.specs.Offset.{offsetBias, greatestOffset}
 use Rattle.model.specs.Zone.{utc}
-use Rattle.big_endian.specs.Walk.{allFrom, countOf, upTo}
+use Rattle.big_endian.specs.Walk.{allFrom, countBelow, upTo}
 use Rattle.zone_tzif.specs.declared.Layout.{Layout}
 use Rattle.zone_tzif_block.specs.Parts.{kindsAt, typesAt, timesRise}
 use Rattle.zone_tzif.specs.Places.{timeAt, offsetAfter, changesFrom, tableAt}
@@ -30,7 +31,7 @@ zoneAt f l foot = zoneWith (tableAt f l) foot
 
 -- how many transitions are at or before the second u
 unfoldable pub countAt : List ℕ → Layout → ℕ → ℕ
-countAt f l u = countOf (upTo (timeAt f l) u) (l .count)
+countAt f l u = countBelow (upTo (timeAt f l) u) (l .count)
 
 -- ---- UTC, without a file
 

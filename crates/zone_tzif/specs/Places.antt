@@ -11,7 +11,7 @@ use Rattle.model.specs.Tzif.{Change, Table, typeSize, headerSize}
 use Rattle.big_endian.specs.Be.{be32}
 use Rattle.zone_tzif_head.specs.Heads.{headOk, headAt, secondAt}
 use Rattle.zone_tzif_head.specs.declared.Head.{Head}
-use Rattle.zone_tzif_block.specs.Parts.{keyAt, offsetIs, kindsAt, typesAt, tailAt, blockOk}
+use Rattle.zone_tzif_block.specs.Parts.{keyAt, typeOffset, kindsAt, typesAt, tailAt, blockOk}
 use Rattle.zone_tzif.specs.declared.Layout.{Layout}
 use Rattle.zone_tzif.specs.declared.TzifRead.{TzifRead}
 use Rattle.zone_tzif.specs.declared.TzifRead.the-variants as R
@@ -23,7 +23,7 @@ unfoldable pub layoutAt : List ℕ → ℕ → Head → Layout
 layoutAt f b h = record {
   count = h .times;
   times = b;
-  initial = offsetIs (be32 f (typesAt b (h .times)));
+  initial = typeOffset (be32 f (typesAt b (h .times)));
   line = tailAt b h + 1;
   len = length f - (tailAt b h + 2);
 }
@@ -51,7 +51,7 @@ timeAt f l i = keyAt f (l .times) i - (2 ^ 63 - epoch)
 -- the offset after k transitions
 unfoldable pub offsetAfter : List ℕ → Layout → ℕ → ℕ
 offsetAfter f l zero = l .initial
-offsetAfter f l (suc i) = offsetIs (be32 f (typesAt (l .times) (l .count) + typeSize * getD f (kindsAt (l .times) (l .count) + i) 0))
+offsetAfter f l (suc i) = typeOffset (be32 f (typesAt (l .times) (l .count) + typeSize * getD f (kindsAt (l .times) (l .count) + i) 0))
 
 -- n changes from the one of index i on, whose times and offsets are given
 unfoldable pub changesFrom : (ℕ → ℕ) → (ℕ → ℕ) → ℕ → ℕ → List Change

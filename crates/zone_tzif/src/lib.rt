@@ -4,8 +4,8 @@
 ghost use mathlib.Core.Path.{_≡_};
 ghost use Prim.Native.Nat.{_+_, _*_, _≤_, _<_};
 ghost use lib.ListN.{length};
-ghost use Rattle.model.specs.Tzif.{greatestOffset};
-ghost use Rattle.zone_tzif_head.specs.Heads.{Small};
+ghost use Rattle.model.specs.Offset.{greatestOffset};
+ghost use Rattle.zone_tzif_head.specs.Heads.{SmallHead};
 ghost use Rattle.zone_tzif_block.specs.Parts.{blocksEnd, tailAt};
 ghost use Rattle.zone_tzif.specs.Places.{layoutAt, readOf, timeAt, offsetAfter};
 ghost use Rattle.zone_tzif.specs.Opened.{Opened, countAt, utcLayout};
@@ -35,7 +35,7 @@ pub enum TzifRead {
 
 // The layout of the block that starts at b and has the header h.
 fn layout_at(f: &[u8], b: usize, h: Head) -> Layout
-    requires { ⌜ (b < blocksEnd) × Small h × (tailAt b h + 1 < length (now f)) ⌝ }
+    requires { ⌜ (b < blocksEnd) × SmallHead h × (tailAt b h + 1 < length (now f)) ⌝ }
     ensures { λ r. ⌜ r ≡ layoutAt (now (f .entry)) b h ⌝ }
 {
     let t = zone_tzif_block::tail_at(b, h);

@@ -5,21 +5,21 @@ use Prim.Native.Nat.{ℕ, _+_, _*_, _-_, _≤_, _<_}
 use native.Mathlib.Omega.{arith}
 use Rattle.model.specs.Bytes.{lifted}
 use Rattle.big_endian.specs.Be.{be64}
-use Rattle.zone_tzif_block.specs.Parts.{keyAt, offsetIs}
-use Rattle.model.specs.Tzif.{offsetBias}
+use Rattle.zone_tzif_block.specs.Parts.{keyAt, typeOffset}
+use Rattle.model.specs.Offset.{offsetBias}
 
 pub key-is : (f : List ℕ) (b i : ℕ) {v r : ℕ} → v ≡ be64 f (b + 8 * i) → r ≡ lifted 8 v → r ≡ keyAt f b i
 unfolding keyAt
 key-is f b i e h = omega arith
 
-pub offset-east : (v : ℕ) → v < 2147483648 → v + offsetBias ≡ offsetIs v
-unfolding offsetIs
+pub offset-east : (v : ℕ) → v < 2147483648 → v + offsetBias ≡ typeOffset v
+unfolding typeOffset
 offset-east v h = omega arith
 
-pub offset-none : (v : ℕ) → 2147483648 ≤ v → v < 4294873696 → 0 ≡ offsetIs v
-unfolding offsetIs
+pub offset-none : (v : ℕ) → 2147483648 ≤ v → v < 4294873696 → 0 ≡ typeOffset v
+unfolding typeOffset
 offset-none v h k = omega arith
 
-pub offset-west : (v : ℕ) → 4294873696 ≤ v → v < 4294967296 → v - 4294873696 ≡ offsetIs v
-unfolding offsetIs
+pub offset-west : (v : ℕ) → 4294873696 ≤ v → v < 4294967296 → v - 4294873696 ≡ typeOffset v
+unfolding typeOffset
 offset-west v h k = omega arith

@@ -5,11 +5,12 @@ use Prim.Native.Nat.{ℕ, _+_, _*_, _-_, _^_}
 use lib.Dec.{ltb, eqb}
 use lib.ListN.{length, getD}
 use Rattle.model.specs.Basic.{isIn}
-use Rattle.model.specs.Bytes.{lifted}
-use Rattle.model.specs.Tzif.{sizeOf, countsOk, offsetBias, greatestOffset, typeSize, newline}
+use Rattle.model.specs.Bytes.{lifted, newline}
+use Rattle.model.specs.Tzif.{sizeOf, countsOk, typeSize}
+use Rattle.model.specs.Offset.{offsetBias, greatestOffset}
 use Rattle.big_endian.specs.Be.{be32, be64}
-use Rattle.big_endian.specs.Walk.{allFrom, rising}
-use Rattle.zone_tzif_head.specs.Heads.{meant}
+use Rattle.big_endian.specs.Walk.{allFrom, risesAt}
+use Rattle.zone_tzif_head.specs.Heads.{headerIs}
 use Rattle.zone_tzif_head.specs.declared.Head.{Head}
 
 -- the bytes of a time and of a transition, a time and a type number
@@ -36,13 +37,13 @@ unfoldable pub byteBelow : List ℕ → ℕ → ℕ → ℕ → Bool
 byteBelow f b n i = ltb (getD f (b + i) 0) n
 
 -- an offset of four bytes, with the 26 hours added; 0 for one below -93,599 s
-unfoldable pub offsetIs : ℕ → ℕ
-offsetIs v = lifted 4 v - (2 ^ 31 - offsetBias)
+unfoldable pub typeOffset : ℕ → ℕ
+typeOffset v = lifted 4 v - (2 ^ 31 - offsetBias)
 
 -- type i of those from b on
 unfoldable pub typeFits : List ℕ → ℕ → ℕ → ℕ → Bool
 typeFits f b chars i =
-    isIn 1 greatestOffset (offsetIs (be32 f (b + typeSize * i)))
+    isIn 1 greatestOffset (typeOffset (be32 f (b + typeSize * i)))
     && (ltb (getD f (b + typeSize * i + 4) 0) 2 && ltb (getD f (b + typeSize * i + 5) 0) chars)
 
 -- where type numbers, types, indicators and the footer's newline stand
@@ -56,7 +57,7 @@ abbrev pub marksAt : ℕ → Head → ℕ
 marksAt b h = b + (h .times * transitionSize + h .types * typeSize + h .chars)
 
 abbrev pub tailAt : ℕ → Head → ℕ
-tailAt b h = b + sizeOf 8 (meant h)
+tailAt b h = b + sizeOf 8 (headerIs h)
 
 -- a newline at t and another one as the last byte
 unfoldable pub tailOk : List ℕ → ℕ → Bool
@@ -64,7 +65,7 @@ tailOk f t = ltb (t + 1) (length f) && (eqb (getD f t 0) newline && eqb (getD f 
 
 -- n transition times are strictly ascending
 abbrev pub timesRise : List ℕ → ℕ → ℕ → Bool
-timesRise f b n = allFrom (rising (keyAt f b)) 0 (n - 1)
+timesRise f b n = allFrom (risesAt (keyAt f b)) 0 (n - 1)
 
 -- times, type numbers, types and indicators are allowed
 unfoldable pub tablesOk : List ℕ → ℕ → Head → Bool
@@ -76,4 +77,4 @@ tablesOk f b h =
 
 -- the block is usable, and so are the lines about its footer
 unfoldable pub blockOk : List ℕ → ℕ → Head → Bool
-blockOk f b h = countsOk (meant h) && (tailOk f (tailAt b h) && tablesOk f b h)
+blockOk f b h = countsOk (headerIs h) && (tailOk f (tailAt b h) && tablesOk f b h)

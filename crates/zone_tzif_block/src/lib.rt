@@ -3,8 +3,8 @@ ghost use mathlib.Core.Path.{_≡_};
 ghost use Prim.Native.Nat.{_+_, _*_, _^_, _<_};
 ghost use Rattle.big_endian.specs.Walk.{allFrom};
 ghost use Rattle.model.specs.Bytes.{lifted};
-ghost use Rattle.zone_tzif_head.specs.Heads.{wordsEnd, Small};
-ghost use Rattle.zone_tzif_block.specs.Parts.{timeSize, blocksEnd, placesEnd, keyAt, byteBelow, offsetIs, typeFits, marksAt, tailAt, tailOk, timesRise, tablesOk, blockOk};
+ghost use Rattle.zone_tzif_head.specs.Heads.{wordsEnd, SmallHead};
+ghost use Rattle.zone_tzif_block.specs.Parts.{timeSize, blocksEnd, placesEnd, keyAt, byteBelow, typeOffset, typeFits, marksAt, tailAt, tailOk, timesRise, tablesOk, blockOk};
 use zone_tzif_head::Head;
 
 // The bytes of a time and of a transition, a time and a type number.
@@ -86,7 +86,7 @@ fn bytes_below(f: &[u8], at: usize, n: usize, k: usize) -> bool
 
 // A type's offset as zones keep it, 0 for one below -93,599 s.
 pub fn offset_is(v: u32) -> u32
-    ensures { λ r. ⌜ r ≡ offsetIs v ⌝ }
+    ensures { λ r. ⌜ r ≡ typeOffset v ⌝ }
 {
     if v < SIGN_32 {
         return v + zone_offset::BIAS;
@@ -147,7 +147,7 @@ fn tail_ok(f: &[u8], t: usize) -> bool
 
 // Is each indicator 0 or 1?
 fn marks_ok(f: &[u8], b: usize, h: Head) -> bool
-    requires { ⌜ (b < blocksEnd) × Small h ⌝ }
+    requires { ⌜ (b < blocksEnd) × SmallHead h ⌝ }
     ensures { λ r. ⌜ r ≡ allFrom (byteBelow (now (f .entry)) (marksAt b h) 2) 0 (h .stds + h .uts) ⌝ }
 {
     bytes_below(
@@ -160,7 +160,7 @@ fn marks_ok(f: &[u8], b: usize, h: Head) -> bool
 
 // Are times, type numbers, types and indicators allowed?
 fn tables_ok(f: &[u8], b: usize, h: Head) -> bool
-    requires { ⌜ (b < blocksEnd) × Small h ⌝ }
+    requires { ⌜ (b < blocksEnd) × SmallHead h ⌝ }
     ensures { λ r. ⌜ r ≡ tablesOk (now (f .entry)) b h ⌝ }
 {
     if !times_rise(f, b, h.times) {
@@ -177,7 +177,7 @@ fn tables_ok(f: &[u8], b: usize, h: Head) -> bool
 
 // Where the newline before the footer stands.
 pub fn tail_at(b: usize, h: Head) -> usize
-    requires { ⌜ (b < blocksEnd) × Small h ⌝ }
+    requires { ⌜ (b < blocksEnd) × SmallHead h ⌝ }
     ensures { λ r. ⌜ (r ≡ tailAt b h) × (r < placesEnd) ⌝ }
 {
     b
@@ -191,7 +191,7 @@ pub fn tail_at(b: usize, h: Head) -> usize
 
 // Is the block usable, and are the lines about its footer?
 pub fn block_ok(f: &[u8], b: usize, h: Head) -> bool
-    requires { ⌜ (b < blocksEnd) × Small h ⌝ }
+    requires { ⌜ (b < blocksEnd) × SmallHead h ⌝ }
     ensures { λ r. ⌜ r ≡ blockOk (now (f .entry)) b h ⌝ }
 {
     if !zone_tzif_head::counts_ok(h) {

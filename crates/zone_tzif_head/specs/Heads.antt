@@ -18,8 +18,8 @@ abbrev pub headersEnd : ℕ
 headersEnd = 1099511627776
 
 -- the header that the code's numbers stand for
-abbrev pub meant : Head → Header
-meant h = record {
+abbrev pub headerIs : Head → Header
+headerIs h = record {
   version = h .version;
   uts = h .uts;
   stds = h .stds;
@@ -47,10 +47,10 @@ headAt f a = record {
 
 -- where the second header stands
 unfoldable pub secondAt : List ℕ → ℕ
-secondAt f = headerSize + sizeOf 4 (meant (headAt f 0))
+secondAt f = headerSize + sizeOf 4 (headerIs (headAt f 0))
 
 -- what four-byte numbers allow: no sum of them wraps
-pub record Small (h : Head) : Type 0 where
+pub record SmallHead (h : Head) : Type 0 where
   pub uts : h .uts < wordsEnd
   pub stds : h .stds < wordsEnd
   pub leaps : h .leaps < wordsEnd

@@ -2,7 +2,7 @@
 ghost use mathlib.Core.Path.{_≡_};
 ghost use Prim.Native.Nat.{_<_};
 ghost use Rattle.model.specs.Tzif.{countsOk, zeroOr};
-ghost use Rattle.zone_tzif_head.specs.Heads.{headersEnd, meant, Small, headOk, headAt, secondAt};
+ghost use Rattle.zone_tzif_head.specs.Heads.{headersEnd, headerIs, SmallHead, headOk, headAt, secondAt};
 
 // The bytes of a header and of a type.
 pub const HEADER_SIZE: usize = 44;
@@ -13,6 +13,21 @@ pub const TYPE_SIZE: usize = 6;
 const TRANSITION_SIZE: usize = 5;
 
 const LEAP_SIZE: usize = 8;
+
+// Where the version and the six counts stand in a header.
+const VERSION_AT: usize = 4;
+
+const UTS_AT: usize = 20;
+
+const STDS_AT: usize = 24;
+
+const LEAPS_AT: usize = 28;
+
+const TIMES_AT: usize = 32;
+
+const TYPES_AT: usize = 36;
+
+const CHARS_AT: usize = 40;
 
 // The bytes "TZif" as one number.
 const MAGIC: u32 = 0x545A6966;
@@ -44,7 +59,7 @@ pub fn head_ok(f: &[u8], at: usize) -> bool
     if big_endian::be32_at(f, at) != MAGIC {
         return false;
     }
-    let v = big_endian::byte_at(f, at + 4);
+    let v = big_endian::byte_at(f, at + VERSION_AT);
     if v < b'2' {
         return false;
     }
@@ -54,16 +69,16 @@ pub fn head_ok(f: &[u8], at: usize) -> bool
 // The header at `at`.
 pub fn head_at(f: &[u8], at: usize) -> Head
     requires { ⌜ at < headersEnd ⌝ }
-    ensures { λ r. ⌜ (r ≡ headAt (now (f .entry)) at) × Small r ⌝ }
+    ensures { λ r. ⌜ (r ≡ headAt (now (f .entry)) at) × SmallHead r ⌝ }
 {
     Head {
-        version: big_endian::small_at(f, at + 4),
-        uts: big_endian::size_at(f, at + 20),
-        stds: big_endian::size_at(f, at + 24),
-        leaps: big_endian::size_at(f, at + 28),
-        times: big_endian::size_at(f, at + 32),
-        types: big_endian::size_at(f, at + 36),
-        chars: big_endian::size_at(f, at + 40),
+        version: big_endian::small_at(f, at + VERSION_AT),
+        uts: big_endian::size_at(f, at + UTS_AT),
+        stds: big_endian::size_at(f, at + STDS_AT),
+        leaps: big_endian::size_at(f, at + LEAPS_AT),
+        times: big_endian::size_at(f, at + TIMES_AT),
+        types: big_endian::size_at(f, at + TYPES_AT),
+        chars: big_endian::size_at(f, at + CHARS_AT),
     }
 }
 
@@ -93,7 +108,7 @@ fn zero_or(k: usize, n: usize) -> bool
 
 // Are a header's counts allowed?
 pub fn counts_ok(h: Head) -> bool
-    ensures { λ r. ⌜ r ≡ countsOk (meant h) ⌝ }
+    ensures { λ r. ⌜ r ≡ countsOk (headerIs h) ⌝ }
 {
     if h.types < 1 {
         return false;

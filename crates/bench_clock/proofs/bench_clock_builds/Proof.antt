@@ -3,13 +3,13 @@ use Prim.Native.Nat.{_-_, _≤_}
 use lib.ListN.{length, length-set}
 use native.Mathlib.Omega.{arith}
 use borrow.Author.Needs.{needs}
-use Rattle.bench_week.proofs.Steps.{Done, none-done, one-done, all-done}
+use Rattle.laws_base.specs.Mapped.{MappedUpTo, none-done, one-done, all-done}
 use Rattle.bench_clock.specs.Asked.{limitOf}
 use Rattle.bench_clock.proofs.bench_clock_builds.Statement.{statement}
 use Rattle.bench_clock.proofs.bench_clock_builds.Tie as tie
 
 abbrev Inv-loop : tie.InvT-loop
-Inv-loop book pack xs₀ i₀ xs i = Done (limitOf book pack) xs₀ xs i × (i ≤ length xs)
+Inv-loop book pack xs₀ i₀ xs i = MappedUpTo (limitOf book pack) xs₀ xs i × (i ≤ length xs)
 
 abbrev μ-loop : tie.MeasureT-loop
 μ-loop book pack xs₀ i₀ xs i = length xs - i

@@ -7,13 +7,13 @@ use native.Mathlib.Omega.{arith}
 use borrow.Author.Needs.{needs}
 use mir.Facts.{toZ-ofZ}
 use Rattle.rule.specs.Rules.{scheduleIs}
-use Rattle.bench_clock.specs.Asked.{listed}
+use Rattle.bench_clock.specs.Asked.{listedOften}
 use Rattle.bench_clock.proofs.Steps.{lists-turned, lists-none}
 use Rattle.bench_clock.proofs.lists.Statement.{statement}
 use Rattle.bench_clock.proofs.lists.Tie as tie
 
 abbrev Inv-loop : tie.InvT-loop
-Inv-loop book pack s times a b c d out₀ left₀ out left = (listed left (scheduleIs book pack s) (toZ w64 a) (toZ w64 b) (toZ w64 c) (toZ w64 d) out ≡ listed times (scheduleIs book pack s) (toZ w64 a) (toZ w64 b) (toZ w64 c) (toZ w64 d) out₀) × (length out ≡ length out₀)
+Inv-loop book pack s times a b c d out₀ left₀ out left = (listedOften left (scheduleIs book pack s) (toZ w64 a) (toZ w64 b) (toZ w64 c) (toZ w64 d) out ≡ listedOften times (scheduleIs book pack s) (toZ w64 a) (toZ w64 b) (toZ w64 c) (toZ w64 d) out₀) × (length out ≡ length out₀)
 
 abbrev μ-loop : tie.MeasureT-loop
 μ-loop book pack s times a b c d out₀ left₀ out left = left

@@ -6,12 +6,12 @@ use lib.ListN.{length, length-set}
 use borrow.Author.Needs.{needs}
 use Rattle.rule.specs.Rules.{scheduleIs}
 use Rattle.bench_week.specs.Weeks.{weekIn}
-use Rattle.bench_week.proofs.Steps.{Done, none-done, one-done, all-done}
+use Rattle.laws_base.specs.Mapped.{MappedUpTo, none-done, one-done, all-done}
 use Rattle.bench_week.proofs.weeks.Statement.{statement}
 use Rattle.bench_week.proofs.weeks.Tie as tie
 
 abbrev Inv-loop : tie.InvT-loop
-Inv-loop book pack s xs₀ on₀ off₀ out₀ i₀ xs on off out i = Done (weekIn (scheduleIs book pack s)) xs₀ xs i × (i ≤ length xs) × (length on ≡ length on₀) × (length off ≡ length off₀) × (length out ≡ length out₀)
+Inv-loop book pack s xs₀ on₀ off₀ out₀ i₀ xs on off out i = MappedUpTo (weekIn (scheduleIs book pack s)) xs₀ xs i × (i ≤ length xs) × (length on ≡ length on₀) × (length off ≡ length off₀) × (length out ≡ length out₀)
 
 abbrev μ-loop : tie.MeasureT-loop
 μ-loop book pack s xs₀ on₀ off₀ out₀ i₀ xs on off out i = length xs - i

@@ -1,16 +1,16 @@
 -- `offsets` fills in place: the first i are done.
-use Rattle.zone.specs.Zones.{meant}
-use Rattle.bench_zone.specs.Each.{offsetIn}
+use Rattle.zone.specs.Zones.{zoneIs}
+use Rattle.bench_zone.specs.Each.{offsetAsked}
 use lib.ListN.{length, length-set}
 use Prim.Native.Nat.{_≤_, _-_}
 use borrow.Author.Needs.{needs}
 use native.Mathlib.Omega.{arith}
-use Rattle.bench_zone.proofs.Steps.{Done, none-done, one-done, all-done}
+use Rattle.laws_base.specs.Mapped.{MappedUpTo, none-done, one-done, all-done}
 use Rattle.bench_zone.proofs.offsets.Statement.{statement}
 use Rattle.bench_zone.proofs.offsets.Tie as tie
 
 abbrev Inv-loop : tie.InvT-loop
-Inv-loop f z us₀ i₀ us i = Done (offsetIn (meant f z)) us₀ us i × (i ≤ length us)
+Inv-loop f z us₀ i₀ us i = MappedUpTo (offsetAsked (zoneIs f z)) us₀ us i × (i ≤ length us)
 
 abbrev μ-loop : tie.MeasureT-loop
 μ-loop f z us₀ i₀ us i = length us - i

@@ -1,16 +1,16 @@
 -- `seconds` fills in place: the first i are done.
-use Rattle.zone.specs.Zones.{meant}
+use Rattle.zone.specs.Zones.{zoneIs}
 use Rattle.bench_zone.specs.Each.{secondIn}
 use lib.ListN.{length, length-set}
 use Prim.Native.Nat.{_≤_, _-_}
 use borrow.Author.Needs.{needs}
 use native.Mathlib.Omega.{arith}
-use Rattle.bench_zone.proofs.Steps.{Done, none-done, one-done, all-done}
+use Rattle.laws_base.specs.Mapped.{MappedUpTo, none-done, one-done, all-done}
 use Rattle.bench_zone.proofs.seconds.Statement.{statement}
 use Rattle.bench_zone.proofs.seconds.Tie as tie
 
 abbrev Inv-loop : tie.InvT-loop
-Inv-loop f z xs₀ i₀ xs i = Done (secondIn (meant f z)) xs₀ xs i × (i ≤ length xs)
+Inv-loop f z xs₀ i₀ xs i = MappedUpTo (secondIn (zoneIs f z)) xs₀ xs i × (i ≤ length xs)
 
 abbrev μ-loop : tie.MeasureT-loop
 μ-loop f z xs₀ i₀ xs i = length xs - i

@@ -1,6 +1,6 @@
 -- `book::read_time` meets its contract.
 use borrow.Author.Needs.{needs}
-use Rattle.book.specs.Meaning.{timeFrom}
+use Rattle.book.specs.Meaning.{timeWritten}
 use Rattle.book.proofs.read_time.Statement.{statement}
 use Rattle.book.proofs.read_time.Tie as tie
 
@@ -14,7 +14,7 @@ be32-at-requires-2 : tie.Need-be32-at-requires-2
 be32-at-requires-2 c κs = search needs
 
 returns : tie.Need-returns
-unfolding timeFrom
+unfolding timeWritten
 returns c = search (← (c .before .be32-at .ensures), ← (c .be32-at2 .ensures))
 
 pub read-time-spec : {M : Type 1} → statement M

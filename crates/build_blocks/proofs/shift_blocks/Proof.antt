@@ -2,7 +2,7 @@
 use Prim.Native.Nat.{_+_, _-_, _≤_, _<_}
 use borrow.Author.Needs.{needs}
 use lib.ListN.{length, length-map}
-use Rattle.window_dates.proofs.Fill.{all-front}
+use Rattle.window_dates.proofs.Fill.{}
 use Rattle.rule.specs.Rules.{ruleIs, RuleFits}
 use Rattle.instant.specs.Instant.{nanos}
 use native.Mathlib.Omega.{arith}
@@ -10,6 +10,7 @@ use mathlib.Core.Path.{_≡_, sym, _∙_}
 use Rattle.build_blocks.proofs.Filling.{Dating, Ruling, datesFrom, dating-starts, dating-room, dating-on, dating-off, dating-done, ruling-starts, ruling-room, ruling-turn, ruling-done}
 use Rattle.build_blocks.proofs.shift_blocks.Statement.{statement}
 use Rattle.build_blocks.proofs.shift_blocks.Tie as tie
+use Rattle.laws_base.specs.Every.{every-front}
 
 abbrev Inv-loop2 : tie.InvT-loop2
 Inv-loop2 n pack lo hi rules out₀ w₀ i r x last d₀ out w d = Dating (ruleIs pack r) (nanos lo) (nanos hi) last (datesFrom (ruleIs pack r) (nanos lo) (nanos hi) last (out₀ .items) w₀ d₀) (w₀ + (last + 1 - d₀)) (out .items) w d × (d₀ ≤ d)
@@ -36,7 +37,7 @@ array-copy-out-r : tie.Need-array-copy-out-r Inv-loop2 μ-loop2 Inv-loop μ-loop
 array-copy-out-r c = omega (arith, (c .before .before .before .before .pre .0), (c .loop-test .taken))
 
 shifts-of-requires : tie.Need-shifts-of-requires Inv-loop2 μ-loop2 Inv-loop μ-loop
-shifts-of-requires c κs = (all-front (RuleFits _) _ _ _ _ (c .before .loop-test .taken) (c .before .before .loop .inv .fits) (c .before .before .before .before .before .pre .1), (c .before .before .before .before .before .pre .2))
+shifts-of-requires c κs = (every-front (RuleFits _) _ _ _ _ (c .before .loop-test .taken) (c .before .before .loop .inv .fits) (c .before .before .before .before .before .pre .1), (c .before .before .before .before .before .pre .2))
 
 loop2-holds : tie.Need-loop2-holds Inv-loop2 μ-loop2 Inv-loop μ-loop
 loop2-holds c = dating-starts _ _ _ _ _ _ _ (c .before .before .before .before .loop .inv .long)
@@ -45,7 +46,7 @@ applies-requires : tie.Need-applies-requires Inv-loop2 μ-loop2 Inv-loop μ-loop
 applies-requires c κs = search needs
 
 piece-at-requires : tie.Need-piece-at-requires Inv-loop2 μ-loop2 Inv-loop μ-loop
-piece-at-requires c κs = (all-front (RuleFits _) _ _ _ _ (c .before .before .before .before .before .before .before .loop-test .taken) (c .before .before .before .before .before .before .before .before .loop .inv .fits) (c .before .before .before .before .before .before .before .before .before .before .before .pre .1), (c .before .before .before .before .before .before .before .before .before .before .before .pre .2), (c .before .before .before .before .before .shifts-of .ensures), (c .before .before .before .loop2 .inv .1), (omega (arith, c .before .before .loop2-test .taken)))
+piece-at-requires c κs = (every-front (RuleFits _) _ _ _ _ (c .before .before .before .before .before .before .before .loop-test .taken) (c .before .before .before .before .before .before .before .before .loop .inv .fits) (c .before .before .before .before .before .before .before .before .before .before .before .pre .1), (c .before .before .before .before .before .before .before .before .before .before .before .pre .2), (c .before .before .before .before .before .shifts-of .ensures), (c .before .before .before .loop2 .inv .1), (omega (arith, c .before .before .loop2-test .taken)))
 
 mul-y : tie.Need-mul-y Inv-loop2 μ-loop2 Inv-loop μ-loop
 mul-y c = let q : (c .before .before .before .before .loop2 .w) < 672 = dating-room _ _ _ _ _ _ _ _ _ (c .before .before .before .before .loop2 .inv .0) (omega (arith, c .before .before .before .loop2-test .taken)) (ruling-room _ _ _ _ _ _ _ _ (c .before .before .before .before .before .before .before .before .before .loop .inv) _ _ (c .before .before .before .before .before .before .shifts-of .ensures .dates .few) (c .before .before .before .before .before .before .before .before .before .before .before .before .pre .0) (c .before .before .before .before .before .before .before .before .loop-test .taken)) in omega arith

@@ -2,7 +2,7 @@
 use mathlib.Core.Path.{ap}
 use native.Mathlib.Omega.{arith}
 use Rattle.model.specs.Calendar.{dateOf, daysBeforeYear}
-use Rattle.laws_calendar.specs.Dates.{year-below, year-within, Within, year-step}
+use Rattle.laws_calendar.specs.Dates.{year-below, year-within, InYear, year-step}
 use borrow.Author.Needs.{needs}
 use Rattle.civil.proofs.date_of.Statement.{statement}
 use Rattle.civil.proofs.date_of.Tie as tie
@@ -18,7 +18,7 @@ sub-date-in c = omega (arith, year-within (c .before .before .args .day), ap day
 
 date-in-requires : tie.Need-date-in-requires
 date-in-requires c κs =
-    let w : Within (c .before .before .args .day) (c .before .year-of .result) = rw (c .before .year-of .ensures) (year-within _) in
+    let w : InYear (c .before .before .args .day) (c .before .year-of .result) = rw (c .before .year-of .ensures) (year-within _) in
     omega (arith, year-step (c .before .year-of .result))
 
 returns : tie.Need-returns

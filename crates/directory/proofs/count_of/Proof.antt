@@ -1,5 +1,5 @@
 -- `directory::count_of` meets its contract.
-use Rattle.directory.specs.Directory.{countAt}
+use Rattle.directory.specs.Directory.{entryCount}
 use borrow.Author.Needs.{needs}
 use Rattle.directory.proofs.count_of.Statement.{statement}
 use Rattle.directory.proofs.count_of.Tie as tie
@@ -8,7 +8,7 @@ size-at-requires : tie.Need-size-at-requires
 size-at-requires c κs = search needs
 
 returns : tie.Need-returns
-unfolding countAt
+unfolding entryCount
 returns c = search needs
 
 pub count-of-spec : {M : Type 1} → statement M

@@ -4,13 +4,13 @@ use native.Mathlib.Omega.{arith}
 use borrow.Author.Needs.{needs}
 use mathlib.Core.Path.{_≡_}
 use Prim.Native.Nat.{_≤_, _-_}
-use Rattle.big_endian.specs.Walk.{countOf}
+use Rattle.big_endian.specs.Walk.{countBelow}
 use Rattle.test_zones.specs.Answers.{agreesAt}
 use Rattle.test_zones.proofs.agreeing.Statement.{statement}
 use Rattle.test_zones.proofs.agreeing.Tie as tie
 
 abbrev Inv-loop : tie.InvT-loop
-Inv-loop f z a n k₀ i₀ k i = (k ≡ countOf (agreesAt f z a) i) × (k ≤ i) × (i ≤ n)
+Inv-loop f z a n k₀ i₀ k i = (k ≡ countBelow (agreesAt f z a) i) × (k ≤ i) × (i ≤ n)
 
 abbrev μ-loop : tie.MeasureT-loop
 μ-loop f z a n k₀ i₀ k i = n - i

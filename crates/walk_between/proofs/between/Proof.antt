@@ -26,7 +26,7 @@ slice-aggregate-between-into-3 : tie.Need-slice-aggregate-between-into-3
 slice-aggregate-between-into-3 c = search needs
 
 between-into-requires : tie.Need-between-into-requires
-between-into-requires c κs = let m = rw (c .before .before .before .enum-told .given .1) at (c .before .before .before .before .before .size-for .ensures) in ((c .before .before .before .before .before .before .before .before .before .before .pre .0), (c .before .before .before .before .before .before .before .before .before .before .pre .1), (omega arith, omega arith, omega arith))
+between-into-requires c κs = let m = rw (c .before .before .before .enum-told .given .1) at (c .before .before .before .before .before .size-for .ensures .1) in ((c .before .before .before .before .before .before .before .before .before .before .pre .0), (c .before .before .before .before .before .before .before .before .before .before .pre .1), (omega arith, omega arith, omega arith))
 
 enum-told-2 : tie.Need-enum-told-2
 enum-told-2 c = search needs
@@ -41,7 +41,7 @@ slice-aggregate-between-into-6 : tie.Need-slice-aggregate-between-into-6
 slice-aggregate-between-into-6 c = search needs
 
 between-into-requires-2 : tie.Need-between-into-requires-2
-between-into-requires-2 c κs = let m = rw (c .before .before .before .enum-told2 .given .1) at (c .before .before .before .before .before .size-for .ensures) in ((c .before .before .before .before .before .before .before .before .before .before .pre .0), (c .before .before .before .before .before .before .before .before .before .before .pre .1), (omega arith, omega arith, omega arith))
+between-into-requires-2 c κs = let m = rw (c .before .before .before .enum-told2 .given .1) at (c .before .before .before .before .before .size-for .ensures .1) in ((c .before .before .before .before .before .before .before .before .before .before .pre .0), (c .before .before .before .before .before .before .before .before .before .before .pre .1), (omega arith, omega arith, omega arith))
 
 enum-told-3 : tie.Need-enum-told-3
 enum-told-3 c = search needs
@@ -56,7 +56,7 @@ slice-aggregate-between-into-9 : tie.Need-slice-aggregate-between-into-9
 slice-aggregate-between-into-9 c = search needs
 
 between-into-requires-3 : tie.Need-between-into-requires-3
-between-into-requires-3 c κs = let m = rw (c .before .before .before .enum-told3 .given .1) at (c .before .before .before .before .before .size-for .ensures) in ((c .before .before .before .before .before .before .before .before .before .before .pre .0), (c .before .before .before .before .before .before .before .before .before .before .pre .1), (omega arith, omega arith, omega arith))
+between-into-requires-3 c κs = let m = rw (c .before .before .before .enum-told3 .given .1) at (c .before .before .before .before .before .size-for .ensures .1) in ((c .before .before .before .before .before .before .before .before .before .before .pre .0), (c .before .before .before .before .before .before .before .before .before .before .pre .1), (omega arith, omega arith, omega arith))
 
 returns : tie.Need-returns
 returns c = search needs

@@ -26,7 +26,7 @@ slice-aggregate-walk-into-3 : tie.Need-slice-aggregate-walk-into-3
 slice-aggregate-walk-into-3 c = search needs
 
 walk-into-requires : tie.Need-walk-into-requires
-walk-into-requires c κs = let h = rw (c .before .before .before .enum-told .given .1) at (c .before .before .before .before .before .size-for .ensures) in ((c .before .before .before .before .before .before .before .before .before .before .pre .0), (c .before .before .before .before .before .before .before .before .before .before .pre .1), (omega arith, omega arith, omega arith))
+walk-into-requires c κs = let h = rw (c .before .before .before .enum-told .given .1) at (c .before .before .before .before .before .size-for .ensures .1) in ((c .before .before .before .before .before .before .before .before .before .before .pre .0), (c .before .before .before .before .before .before .before .before .before .before .pre .1), (omega arith, omega arith, omega arith))
 
 enum-told-2 : tie.Need-enum-told-2
 enum-told-2 c = search needs
@@ -41,7 +41,7 @@ slice-aggregate-walk-into-6 : tie.Need-slice-aggregate-walk-into-6
 slice-aggregate-walk-into-6 c = search needs
 
 walk-into-requires-2 : tie.Need-walk-into-requires-2
-walk-into-requires-2 c κs = let h = rw (c .before .before .before .enum-told2 .given .1) at (c .before .before .before .before .before .size-for .ensures) in ((c .before .before .before .before .before .before .before .before .before .before .pre .0), (c .before .before .before .before .before .before .before .before .before .before .pre .1), (omega arith, omega arith, omega arith))
+walk-into-requires-2 c κs = let h = rw (c .before .before .before .enum-told2 .given .1) at (c .before .before .before .before .before .size-for .ensures .1) in ((c .before .before .before .before .before .before .before .before .before .before .pre .0), (c .before .before .before .before .before .before .before .before .before .before .pre .1), (omega arith, omega arith, omega arith))
 
 enum-told-3 : tie.Need-enum-told-3
 enum-told-3 c = search needs
@@ -56,7 +56,7 @@ slice-aggregate-walk-into-9 : tie.Need-slice-aggregate-walk-into-9
 slice-aggregate-walk-into-9 c = search needs
 
 walk-into-requires-3 : tie.Need-walk-into-requires-3
-walk-into-requires-3 c κs = let h = rw (c .before .before .before .enum-told3 .given .1) at (c .before .before .before .before .before .size-for .ensures) in ((c .before .before .before .before .before .before .before .before .before .before .pre .0), (c .before .before .before .before .before .before .before .before .before .before .pre .1), (omega arith, omega arith, omega arith))
+walk-into-requires-3 c κs = let h = rw (c .before .before .before .enum-told3 .given .1) at (c .before .before .before .before .before .size-for .ensures .1) in ((c .before .before .before .before .before .before .before .before .before .before .pre .0), (c .before .before .before .before .before .before .before .before .before .before .pre .1), (omega arith, omega arith, omega arith))
 
 returns : tie.Need-returns
 returns c = search needs

@@ -1,4 +1,4 @@
--- `walk_period_week::period_in_window` meets its contract: by its tests, of proofs/Hunting.antt. Assumes nothing.
+-- `walk_period_week::period_in_window` meets its contract: by its tests, of proofs/Finding.antt. Assumes nothing.
 use Rattle.instant.specs.Instant.{nanos}
 use Rattle.walk_distance.specs.Distances.{wayOf}
 use Rattle.walk_period_week.proofs.Finding.{window-grows, window-nothing, window-ended, window-far, window-open, window-closed}

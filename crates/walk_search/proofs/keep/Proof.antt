@@ -18,10 +18,10 @@ precedes-requires : tie.Need-precedes-requires
 precedes-requires c κs = search needs
 
 returns : tie.Need-returns
-returns c = (kept-whole _ _ _ _ _ _ (sym (c .before .before .is-week .ensures) ∙ (c .before .if1 .taken)) (c .precedes .ensures) (c .before .before .before .before .difference .ensures .0) (c .before .before .before .difference2 .ensures .0), record { time = (c .before .before .before .before .difference .ensures .1); edge = (c .before .before .before .difference2 .ensures .1) }, (c .before .before .before .difference2 .ensures .0))
+returns c = (kept-whole _ _ _ _ _ _ (sym (c .before .before .is-week .ensures) ∙ (c .before .if1 .taken)) (c .precedes .ensures) (c .before .before .before .before .difference .ensures .0) (c .before .before .before .difference2 .ensures .0), record { time = (c .before .before .before .before .difference .ensures .1); idle = (c .before .before .before .difference2 .ensures .1) }, (c .before .before .before .difference2 .ensures .0))
 
 returns-2 : tie.Need-returns-2
-returns-2 c = (kept-part _ (c .before .before .before .difference .ensures .0) (c .before .before .difference2 .ensures .0) (sym (c .before .is-week .ensures) ∙ (c .if1 .left)), record { time = (c .before .before .before .difference .ensures .1); edge = (c .before .before .difference2 .ensures .1) }, (c .before .before .difference2 .ensures .0))
+returns-2 c = (kept-part _ (c .before .before .before .difference .ensures .0) (c .before .before .difference2 .ensures .0) (sym (c .before .is-week .ensures) ∙ (c .if1 .left)), record { time = (c .before .before .before .difference .ensures .1); idle = (c .before .before .difference2 .ensures .1) }, (c .before .before .difference2 .ensures .0))
 
 pub keep-spec : {M : Type 1} → statement M
 keep-spec =

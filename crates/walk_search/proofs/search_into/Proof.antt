@@ -24,7 +24,7 @@ use Rattle.walk_search.proofs.search_into.Tie as tie
 
 abbrev Inv-loop : tie.InvT-loop
 Inv-loop book pack s t back on₀ off₀ out₀ end x₀ last₀ left₀ kept₀ resolved₀ on off out x last left kept resolved =
-    Searching (ahead (wayOf back) (scheduleIs book pack s) (nanos t)) (λ y. repeats (scheduleIs book pack s) (way.at (wayOf back) (nanos t) y)) (s .limit * second) (nanos end) (nanos left₀) (nanos x) (nanos last) (nanos left) resolved (nanos (kept .edge)) (previousIs kept)
+    Searching (ahead (wayOf back) (scheduleIs book pack s) (nanos t)) (λ y. repeats (scheduleIs book pack s) (way.at (wayOf back) (nanos t) y)) (s .limit * second) (nanos end) (nanos left₀) (nanos x) (nanos last) (nanos left) resolved (nanos (kept .idle)) (previousIs kept)
     × Short x × Exact last × Exact left × PreviousExact kept × (length on ≡ length on₀) × (length off ≡ length off₀) × (length out ≡ length out₀)
 
 abbrev μ-loop : tie.MeasureT-loop
@@ -35,7 +35,7 @@ reach-requires : tie.Need-reach-requires Inv-loop μ-loop
 reach-requires c κs = search needs
 
 loop-holds : tie.Need-loop-holds Inv-loop μ-loop
-loop-holds c = (searching-starts _ _ _ _ _ (c .before .before .before .before .before .before .pre .1 .1) _ refl, record { sec = omega arith; ns = omega arith }, omega arith, (c .before .before .before .before .before .before .pre .1 .3), record { time = omega arith; edge = omega arith }, refl, refl, refl)
+loop-holds c = (searching-starts _ _ _ _ _ (c .before .before .before .before .before .before .pre .1 .1) _ refl, record { sec = omega arith; ns = omega arith }, omega arith, (c .before .before .before .before .before .before .pre .1 .3), record { time = omega arith; idle = omega arith }, refl, refl, refl)
 
 precedes-requires : tie.Need-precedes-requires Inv-loop μ-loop
 precedes-requires c κs = search needs

@@ -7,9 +7,10 @@ use Rattle.instant.specs.Instant.{nanos}
 use Rattle.rule.specs.Rules.{holidaysIs}
 use Rattle.walk_skip.specs.Repeating.{noneWithin}
 use lib.ListN.{length}
-use Rattle.walk_skip.proofs.Rooms.{Open, open-starts, open-no, open-more, open-ends, fits-at, noClosed}
+use Rattle.walk_skip.proofs.Rooms.{Open, open-starts, open-no, open-more, open-ends, noClosed}
 use Rattle.walk_skip.proofs.holidays_room.Statement.{statement}
 use Rattle.walk_skip.proofs.holidays_room.Tie as tie
+use Rattle.laws_base.specs.Every.{every-front}
 
 abbrev Inv-loop : tie.InvT-loop
 Inv-loop book pack n back a b closed room₀ i₀ room i = Open (holidaysIs book pack) (noneWithin back (nanos a) (nanos b)) n closed i room × (i ≤ n) × (length closed ≡ 8)
@@ -30,7 +31,7 @@ add-i : tie.Need-add-i Inv-loop μ-loop
 add-i c = omega arith
 
 holiday-room-requires : tie.Need-holiday-room-requires Inv-loop μ-loop
-holiday-room-requires c κs = (fits-at _ _ _ _ noClosed ((c .before .loop-test .taken)) (omega (arith, (c .before .before .loop .inv .2), (c .before .before .before .before .before .pre .0))) ((c .before .before .before .before .before .pre .1)), (c .before .before .before .before .before .pre .2), (c .before .before .before .before .before .pre .3))
+holiday-room-requires c κs = (every-front _ _ _ _ noClosed ((c .before .loop-test .taken)) (omega (arith, (c .before .before .loop .inv .2), (c .before .before .before .before .before .pre .0))) ((c .before .before .before .before .before .pre .1)), (c .before .before .before .before .before .pre .2), (c .before .before .before .before .before .pre .3))
 
 returns : tie.Need-returns Inv-loop μ-loop
 returns c = open-no _ _ _ _ ((c .before .before .before .before .loop .inv .0)) noClosed ((c .before .before .before .loop-test .taken)) (omega (arith, (c .before .before .before .before .loop .inv .2), (c .before .before .before .before .before .before .before .pre .0))) ((c .before .holiday-room .ensures)) ((c .if1 .taken))

@@ -7,9 +7,10 @@ use Rattle.instant.specs.Instant.{nanos}
 use Rattle.rule.specs.Rules.{ruleIs}
 use Rattle.walk_skip.specs.Repeating.{steadyWithin}
 use lib.ListN.{length, getD}
-use Rattle.walk_skip.proofs.Rooms.{Open, open-starts, open-no, open-more, open-ends, fits-at, zone-at, noRule, rule-room}
+use Rattle.walk_skip.proofs.Rooms.{Open, open-starts, open-no, open-more, open-ends, zone-at, noRule, rule-room}
 use Rattle.walk_skip.proofs.rules_room.Statement.{statement}
 use Rattle.walk_skip.proofs.rules_room.Tie as tie
+use Rattle.laws_base.specs.Every.{every-front}
 
 abbrev Inv-loop : tie.InvT-loop
 Inv-loop pack n back a b rules room₀ i₀ room i = Open (ruleIs pack) (steadyWithin back (nanos a) (nanos b)) n rules i room × (i ≤ n) × (length rules ≡ 16)
@@ -33,7 +34,7 @@ add-i : tie.Need-add-i Inv-loop μ-loop
 add-i c = omega arith
 
 room-requires : tie.Need-room-requires Inv-loop μ-loop
-room-requires c κs = (zone-at ((c .part .ensures)) (fits-at _ _ _ _ noRule ((c .before .before .before .loop-test .taken)) (omega (arith, (c .before .before .before .before .loop .inv .2), (c .before .before .before .before .before .before .pre .0))) ((c .before .before .before .before .before .before .pre .1)) .opened), omega (arith, (c .before .before .before .before .before .before .pre .2 .low)), (c .before .before .before .before .before .before .pre .4), omega (arith, (c .before .before .before .before .before .before .pre .3 .high)))
+room-requires c κs = (zone-at ((c .part .ensures)) (every-front _ _ _ _ noRule ((c .before .before .before .loop-test .taken)) (omega (arith, (c .before .before .before .before .loop .inv .2), (c .before .before .before .before .before .before .pre .0))) ((c .before .before .before .before .before .before .pre .1)) .opened), omega (arith, (c .before .before .before .before .before .before .pre .2 .low)), (c .before .before .before .before .before .before .pre .4), omega (arith, (c .before .before .before .before .before .before .pre .3 .high)))
 
 returns : tie.Need-returns Inv-loop μ-loop
 returns c = open-no _ _ _ _ ((c .before .before .before .before .before .before .loop .inv .0)) noRule ((c .before .before .before .before .before .loop-test .taken)) (omega (arith, (c .before .before .before .before .before .before .loop .inv .2), (c .before .before .before .before .before .before .before .before .pre .0))) (rule-room ((c .before .before .before .before .before .before .before .before .args .back)) ((c .before .before .before .before .before .before .before .before .args .pack .now)) (getD ((c .before .before .before .before .before .before .before .before .args .t2)) ((c .before .before .before .before .before .before .loop .i)) noRule) ((c .before .before .before .before .before .before .before .before .args .a)) ((c .before .before .before .before .before .before .before .before .args .b)) ((c .before .before .part .ensures)) ((c .before .before .before .before .before .before .before .before .pre .2 .ns)) ((c .before .before .before .before .before .before .before .before .pre .3 .ns)) ((c .before .room .ensures))) ((c .if1 .taken))

@@ -8,10 +8,11 @@ use lib.ListN.{length-map, take}
 use Rattle.instant.specs.Instant.{nanos}
 use Rattle.window_week.proofs.Whole.{ruleBlocks, rule-from, closedBlocks, closed-from, closed-are, rules-are, none-normal, window-is}
 use Rattle.window_piece.proofs.Fills.{Ruling, ruling-starts, ruling-ready, ruling-roomy, ruling-turn, ruling-done}
-use Rattle.window_dates.proofs.Fill.{all-front}
+use Rattle.window_dates.proofs.Fill.{}
 use Rattle.rule.specs.Rules.{ruleIs, scheduleIs, RuleFits, HolidaysFit}
 use Rattle.window_week.proofs.working_into.Statement.{statement}
 use Rattle.window_week.proofs.working_into.Tie as tie
+use Rattle.laws_base.specs.Every.{every-front}
 
 abbrev Inv-loop : tie.InvT-loop
 Inv-loop book pack lo hi on₀ off out s n₀ i₀ on n i = Ruling (nanos lo) (ruleBlocks pack (nanos lo) (nanos hi)) (rule-from pack (nanos lo) (nanos hi)) 14 (s .works) (s .work) on₀ 0 on n i
@@ -43,7 +44,7 @@ element-copy-out-r c = omega (arith, (c .before .before .before .before .before 
 
 rule-into-requires :
     tie.Need-rule-into-requires Inv-loop μ-loop Inv-loop2 μ-loop2 Inv-loop3 μ-loop3
-rule-into-requires c κs = (all-front (RuleFits (c .before .before .before .before .before .before .before .before .before .args .pack .now)) _ _ _ _ (c .before .before .loop-test .taken) (c .before .before .before .loop .inv .fits) (c .before .before .before .before .before .before .before .before .before .pre .0 .work-fits), (c .before .before .before .before .before .before .before .before .before .pre .1), ruling-ready _ _ _ _ _ _ _ _ _ _ _ (c .before .before .before .loop .inv) (c .before .before .loop-test .taken) (omega (arith, (c .before .before .before .before .before .before .before .before .before .pre .2 .0))))
+rule-into-requires c κs = (every-front (RuleFits (c .before .before .before .before .before .before .before .before .before .args .pack .now)) _ _ _ _ (c .before .before .loop-test .taken) (c .before .before .before .loop .inv .fits) (c .before .before .before .before .before .before .before .before .before .pre .0 .work-fits), (c .before .before .before .before .before .before .before .before .before .pre .1), ruling-ready _ _ _ _ _ _ _ _ _ _ _ (c .before .before .before .loop .inv) (c .before .before .loop-test .taken) (omega (arith, (c .before .before .before .before .before .before .before .before .before .pre .2 .0))))
 
 add-i : tie.Need-add-i Inv-loop μ-loop Inv-loop2 μ-loop2 Inv-loop3 μ-loop3
 add-i c = omega (arith, (c .before .before .before .before .before .before .before .before .before .before .before .before .pre .0 .works), (c .before .before .before .before .before .loop-test .taken))
@@ -66,7 +67,7 @@ element-copy-out-r-2 c = omega (arith, (c .before .before .before .before .befor
 
 rule-into-requires-2 :
     tie.Need-rule-into-requires-2 Inv-loop μ-loop Inv-loop2 μ-loop2 Inv-loop3 μ-loop3
-rule-into-requires-2 c κs = (all-front (RuleFits (c .before .before .before .before .before .before .before .before .before .before .before .args .pack .now)) _ _ _ _ (c .before .before .loop2-test .taken) (c .before .before .before .loop2 .inv .fits) (c .before .before .before .before .before .before .before .before .before .before .before .pre .0 .breaks-fit), (c .before .before .before .before .before .before .before .before .before .before .before .pre .1), ruling-ready _ _ _ _ _ _ _ _ _ _ _ (c .before .before .before .loop2 .inv) (c .before .before .loop2-test .taken) (omega (arith, (c .before .before .before .before .before .before .before .before .before .before .before .pre .2 .1))))
+rule-into-requires-2 c κs = (every-front (RuleFits (c .before .before .before .before .before .before .before .before .before .before .before .args .pack .now)) _ _ _ _ (c .before .before .loop2-test .taken) (c .before .before .before .loop2 .inv .fits) (c .before .before .before .before .before .before .before .before .before .before .before .pre .0 .breaks-fit), (c .before .before .before .before .before .before .before .before .before .before .before .pre .1), ruling-ready _ _ _ _ _ _ _ _ _ _ _ (c .before .before .before .loop2 .inv) (c .before .before .loop2-test .taken) (omega (arith, (c .before .before .before .before .before .before .before .before .before .before .before .pre .2 .1))))
 
 add-i-2 : tie.Need-add-i-2 Inv-loop μ-loop Inv-loop2 μ-loop2 Inv-loop3 μ-loop3
 add-i-2 c = omega (arith, (c .before .before .before .before .before .before .before .before .before .before .before .before .before .before .pre .0 .pauses), (c .before .before .before .before .before .loop2-test .taken))
@@ -89,7 +90,7 @@ element-copy-out-c c = omega (arith, (c .before .before .before .before .before 
 
 holidays-into-requires :
     tie.Need-holidays-into-requires Inv-loop μ-loop Inv-loop2 μ-loop2 Inv-loop3 μ-loop3
-holidays-into-requires c κs = (all-front (HolidaysFit (c .before .before .before .before .before .before .before .before .before .before .before .before .before .args .book .now) (c .before .before .before .before .before .before .before .before .before .before .before .before .before .args .pack .now)) _ _ _ _ (c .before .before .loop3-test .taken) (c .before .before .before .loop3 .inv .fits) (c .before .before .before .before .before .before .before .before .before .before .before .before .before .pre .0 .closed-fits), (c .before .before .before .before .before .before .before .before .before .before .before .before .before .pre .1), ruling-roomy _ _ _ _ _ _ _ _ _ _ _ (c .before .before .before .loop3 .inv) (c .before .before .loop3-test .taken) (omega (arith, (c .before .before .before .before .before .before .before .before .before .before .before .before .before .pre .2 .1), (c .before .before .before .before .before .loop2 .inv .count), (c .before .before .before .before .before .loop2 .inv .upto), (c .before .before .before .before .before .loop2 .inv .long))))
+holidays-into-requires c κs = (every-front (HolidaysFit (c .before .before .before .before .before .before .before .before .before .before .before .before .before .args .book .now) (c .before .before .before .before .before .before .before .before .before .before .before .before .before .args .pack .now)) _ _ _ _ (c .before .before .loop3-test .taken) (c .before .before .before .loop3 .inv .fits) (c .before .before .before .before .before .before .before .before .before .before .before .before .before .pre .0 .closed-fits), (c .before .before .before .before .before .before .before .before .before .before .before .before .before .pre .1), ruling-roomy _ _ _ _ _ _ _ _ _ _ _ (c .before .before .before .loop3 .inv) (c .before .before .loop3-test .taken) (omega (arith, (c .before .before .before .before .before .before .before .before .before .before .before .before .before .pre .2 .1), (c .before .before .before .before .before .loop2 .inv .count), (c .before .before .before .before .before .loop2 .inv .upto), (c .before .before .before .before .before .loop2 .inv .long))))
 
 add-i-3 : tie.Need-add-i-3 Inv-loop μ-loop Inv-loop2 μ-loop2 Inv-loop3 μ-loop3
 add-i-3 c = omega (arith, (c .before .before .before .before .before .before .before .before .before .before .before .before .before .before .before .before .pre .0 .closings), (c .before .before .before .before .before .loop3-test .taken))

@@ -5,13 +5,13 @@ use mathlib.Core.Path.{sym, _∙_}
 use Rattle.model.specs.Zone.{offsetAt}
 use Rattle.laws_zone.specs.Runs.{Past, past-done}
 use Rattle.laws_zone.specs.Zones.{offset-fits}
-use Rattle.zone.specs.Zones.{meant}
+use Rattle.zone.specs.Zones.{zoneIs}
 use Rattle.zone.proofs.Steps.{in-run-yes, after-found, after-next}
 use Rattle.zone.proofs.read_after.Statement.{statement}
 use Rattle.zone.proofs.read_after.Tie as tie
 
 abbrev Inv-loop : tie.InvT-loop
-Inv-loop f z x from d u₀ u = Past (offsetAt (meant f z)) x u d
+Inv-loop f z x from d u₀ u = Past (offsetAt (zoneIs f z)) x u d
 
 abbrev μ-loop : tie.MeasureT-loop
 μ-loop f z x from d u₀ u = x - u

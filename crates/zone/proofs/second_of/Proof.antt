@@ -4,13 +4,13 @@ use Prim.Native.Nat.{_+_, _-_}
 use Rattle.model.specs.Zone.{offsetAt}
 use Rattle.laws_zone.specs.Resolve.{one-answer}
 use Rattle.laws_zone.specs.Zones.{offset-fits, second-resolves}
-use Rattle.zone.specs.Zones.{meant}
+use Rattle.zone.specs.Zones.{zoneIs}
 use Rattle.zone.proofs.Steps.{At, at-start, at-off, at-found, at-next, at-jump}
 use Rattle.zone.proofs.second_of.Statement.{statement}
 use Rattle.zone.proofs.second_of.Tie as tie
 
 abbrev Inv-loop : tie.InvT-loop
-Inv-loop f z x off₀ until₀ off until = At (offsetAt (meant f z)) x off until
+Inv-loop f z x off₀ until₀ off until = At (offsetAt (zoneIs f z)) x off until
 
 abbrev μ-loop : tie.MeasureT-loop
 μ-loop f z x off₀ until₀ off until = x + 1 - until

@@ -1,6 +1,6 @@
 -- `zone_next_change::next_change` meets its contract: the loop keeps a run from u.
 use Rattle.zone_next_change.specs.NextLaws.{run-next, run-never, late-never}
-use Rattle.zone.specs.Zones.{meant}
+use Rattle.zone.specs.Zones.{zoneIs}
 use Rattle.laws_zone.specs.Runs.{Run, run-on}
 use Rattle.model.specs.Zone.{offsetAt}
 use mathlib.Core.Path.{sym, _∙_}
@@ -8,10 +8,10 @@ use Prim.Native.Nat.{_+_, _-_}
 use native.Mathlib.Omega.{arith}
 use Rattle.zone_next_change.proofs.next_change.Statement.{statement}
 use Rattle.zone_next_change.proofs.next_change.Tie as tie
-use Rattle.instant.specs.Instant.{lastSecond}
+use Rattle.model.specs.Instant.{lastSecond}
 
 abbrev Inv-loop : tie.InvT-loop
-Inv-loop f z u r until₀ until = Run (offsetAt (meant f z)) u until
+Inv-loop f z u r until₀ until = Run (offsetAt (zoneIs f z)) u until
 
 abbrev μ-loop : tie.MeasureT-loop
 μ-loop f z u r until₀ until = lastSecond + 1 - until

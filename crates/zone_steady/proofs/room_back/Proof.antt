@@ -1,7 +1,7 @@
 -- `zone_steady::room_back` meets its contract: the loop keeps a run back from hi.
 use Rattle.zone_steady.proofs.Steps.{back-changes, back-stays, back-on}
 use Rattle.zone_steady.specs.Steady.{Back}
-use Rattle.zone.specs.Zones.{meant}
+use Rattle.zone.specs.Zones.{zoneIs}
 use Rattle.laws_zone.specs.Zones.{fits-sound}
 use Rattle.model.specs.Zone.{offsetAt}
 use mathlib.Core.Path.{sym, _∙_}
@@ -10,7 +10,7 @@ use Rattle.zone_steady.proofs.room_back.Statement.{statement}
 use Rattle.zone_steady.proofs.room_back.Tie as tie
 
 abbrev Inv-loop : tie.InvT-loop
-Inv-loop f z lo hi r since₀ since = Back (offsetAt (meant f z)) hi since
+Inv-loop f z lo hi r since₀ since = Back (offsetAt (zoneIs f z)) hi since
 
 abbrev μ-loop : tie.MeasureT-loop
 μ-loop f z lo hi r since₀ since = since

@@ -1,6 +1,6 @@
 -- `zone_steady::room_on` meets its contract: the loop keeps a run from lo.
 use Rattle.zone_steady.proofs.Steps.{on-changes, on-stays}
-use Rattle.zone.specs.Zones.{meant}
+use Rattle.zone.specs.Zones.{zoneIs}
 use Rattle.laws_zone.specs.Zones.{fits-sound}
 use Rattle.laws_zone.specs.Runs.{Run, run-on}
 use Rattle.model.specs.Zone.{offsetAt}
@@ -11,7 +11,7 @@ use Rattle.zone_steady.proofs.room_on.Statement.{statement}
 use Rattle.zone_steady.proofs.room_on.Tie as tie
 
 abbrev Inv-loop : tie.InvT-loop
-Inv-loop f z lo hi r until₀ until = Run (offsetAt (meant f z)) lo until
+Inv-loop f z lo hi r until₀ until = Run (offsetAt (zoneIs f z)) lo until
 
 abbrev μ-loop : tie.MeasureT-loop
 μ-loop f z lo hi r until₀ until = hi + 1 - until

@@ -4,13 +4,13 @@ use Prim.Native.Nat.{_≤_, _-_}
 use mathlib.Core.Path.{_≡_}
 use Rattle.big_endian.proofs.Walk.{all-none, rise-no, rise-yes, all-end}
 use Rattle.zone_tzif_block.specs.Parts.{keyAt}
-use Rattle.big_endian.specs.Walk.{allFrom, rising}
+use Rattle.big_endian.specs.Walk.{allFrom, risesAt}
 use borrow.Author.Needs.{needs}
 use Rattle.zone_tzif_block.proofs.times_rise.Statement.{statement}
 use Rattle.zone_tzif_block.proofs.times_rise.Tie as tie
 
 abbrev Inv-loop : tie.InvT-loop
-Inv-loop f base n m i₀ i = (i ≤ m) × (allFrom (rising (keyAt f base)) i (m - i) ≡ allFrom (rising (keyAt f base)) 0 m)
+Inv-loop f base n m i₀ i = (i ≤ m) × (allFrom (risesAt (keyAt f base)) i (m - i) ≡ allFrom (risesAt (keyAt f base)) 0 m)
 
 abbrev μ-loop : tie.MeasureT-loop
 μ-loop f base n m i₀ i = m - i

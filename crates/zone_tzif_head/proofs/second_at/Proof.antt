@@ -3,7 +3,7 @@ use Prim.Native.Nat.{_+_}
 use mathlib.Core.Path.{ap}
 use Rattle.model.specs.Tzif.{sizeOf}
 use Rattle.zone_tzif_head.specs.declared.Head.{Head}
-use Rattle.zone_tzif_head.specs.Heads.{secondAt, meant}
+use Rattle.zone_tzif_head.specs.Heads.{secondAt, headerIs}
 use borrow.Author.Needs.{needs}
 use Rattle.zone_tzif_head.proofs.second_at.Statement.{statement}
 use Rattle.zone_tzif_head.proofs.second_at.Tie as tie
@@ -40,7 +40,7 @@ add-result-6 c = search needs
 
 returns : tie.Need-returns
 unfolding secondAt
-returns c = (ap (λ (h : Head). 44 + sizeOf 4 (meant h)) (c .before .before .before .before .before .before .head-at .ensures .0), search needs)
+returns c = (ap (λ (h : Head). 44 + sizeOf 4 (headerIs h)) (c .before .before .before .before .before .before .head-at .ensures .0), search needs)
 
 pub second-at-spec : {M : Type 1} → statement M
 second-at-spec =

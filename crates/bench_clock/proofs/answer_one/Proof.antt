@@ -1,8 +1,8 @@
--- `turn` answers in place.
+-- `answer_one` answers in place.
 use Rattle.bench_clock.proofs.Steps.{turn-is}
 use borrow.Author.Needs.{needs}
-use Rattle.bench_clock.proofs.turn.Statement.{statement}
-use Rattle.bench_clock.proofs.turn.Tie as tie
+use Rattle.bench_clock.proofs.answer_one.Statement.{statement}
+use Rattle.bench_clock.proofs.answer_one.Tie as tie
 
 add-j : tie.Need-add-j
 add-j c = search needs
@@ -49,8 +49,8 @@ same-length c = search needs
 returns : tie.Need-returns
 returns c = turn-is _ _ _ _ (c .before .before .before .answer .result) (record { sfits = c .before .before .before .before .before .before .before .answer-arg .given }) (record { sfits = c .before .before .before .before .before .before .answer-arg2 .given }) (record { sfits = c .before .before .before .before .before .answer-arg3 .given }) (record { sfits = c .before .before .before .before .answer-arg4 .given }) (c .before .before .before .answer .ensures) (c .before .put .ensures)
 
-pub turn-spec : {M : Type 1} → statement M
-turn-spec =
+pub answer-one-spec : {M : Type 1} → statement M
+answer-one-spec =
     tie.close
     (tie.spec
     add-j

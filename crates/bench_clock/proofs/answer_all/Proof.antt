@@ -1,4 +1,4 @@
--- `turns` answers one question after the other.
+-- `answer_all` answers one question after the other.
 use Prim.Native.Nat.{_+_, _*_, _/_, _≤_}
 use mathlib.Core.Path.{_≡_, refl, sym, _∙_}
 use lib.ListN.{length}
@@ -7,8 +7,8 @@ use borrow.Author.Needs.{needs}
 use Rattle.rule.specs.Rules.{scheduleIs}
 use Rattle.bench_clock.specs.Asked.{groupsFrom}
 use Rattle.bench_clock.proofs.Steps.{groups-turned, groups-none}
-use Rattle.bench_clock.proofs.turns.Statement.{statement}
-use Rattle.bench_clock.proofs.turns.Tie as tie
+use Rattle.bench_clock.proofs.answer_all.Statement.{statement}
+use Rattle.bench_clock.proofs.answer_all.Tie as tie
 
 abbrev Inv-loop : tie.InvT-loop
 Inv-loop book pack s kind xs₀ i₀ left₀ xs i left = (groupsFrom kind (scheduleIs book pack s) left i xs ≡ groupsFrom kind (scheduleIs book pack s) (length xs₀ / 4) 0 xs₀) × ((i + 4 * left ≤ length xs) × (length xs ≡ length xs₀))
@@ -19,8 +19,8 @@ abbrev μ-loop : tie.MeasureT-loop
 loop-holds : tie.Need-loop-holds Inv-loop μ-loop
 loop-holds c = (refl, (omega arith, refl))
 
-turn-requires : tie.Need-turn-requires Inv-loop μ-loop
-turn-requires c κs = (c .before .before .before .before .before .pre, let h = c .before .before .loop .inv .1 .0 in omega arith)
+answer-one-requires : tie.Need-answer-one-requires Inv-loop μ-loop
+answer-one-requires c κs = (c .before .before .before .before .before .pre, let h = c .before .before .loop .inv .1 .0 in omega arith)
 
 add-i : tie.Need-add-i Inv-loop μ-loop
 add-i c = let h = c .before .before .before .before .loop .inv .1 .0 in search needs
@@ -32,7 +32,7 @@ loop-less : tie.Need-loop-less Inv-loop μ-loop
 loop-less c = omega arith
 
 loop-again : tie.Need-loop-again Inv-loop μ-loop
-loop-again c = let h = c .before .before .before .before .loop .inv .1 .0 in let k = c .before .turn .kept .1 .1 .1 .1 .0 in (groups-turned _ _ _ _ _ (c .before .before .before .loop-test .taken) (c .before .turn .ensures) (c .before .before .before .before .loop .inv .0), (omega arith, k ∙ c .before .before .before .before .loop .inv .1 .1))
+loop-again c = let h = c .before .before .before .before .loop .inv .1 .0 in let k = c .before .answer-one .kept .1 .1 .1 .1 .0 in (groups-turned _ _ _ _ _ (c .before .before .before .loop-test .taken) (c .before .answer-one .ensures) (c .before .before .before .before .loop .inv .0), (omega arith, k ∙ c .before .before .before .before .loop .inv .1 .1))
 
 same-length : tie.Need-same-length Inv-loop μ-loop
 same-length c = c .before .loop .inv .1 .1
@@ -40,14 +40,14 @@ same-length c = c .before .loop .inv .1 .1
 returns : tie.Need-returns Inv-loop μ-loop
 returns c = sym (groups-none _ _ _ _ _ (omega arith)) ∙ c .before .loop .inv .0
 
-pub turns-spec : {M : Type 1} → statement M
-turns-spec =
+pub answer-all-spec : {M : Type 1} → statement M
+answer-all-spec =
     tie.close
     (tie.spec
     Inv-loop
     μ-loop
     loop-holds
-    turn-requires
+    answer-one-requires
     add-i
     sub-left
     loop-less
