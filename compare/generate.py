@@ -1,12 +1,13 @@
 #!/usr/bin/env python3
 """Makes cases for the comparison: books, packs and query lines.
 
-Usage: generate.py SEED COUNT FOLDER [--zoneinfo DIR] [--only NUMBER]
+Usage: generate.py SEED COUNT FOLDER [--zoneinfo DIR] [--only NUMBER] [--family NAME]
 
 Writes FOLDER/NNNNN-FAMILY for each of COUNT cases, each with book.bin,
 zones.bin (a few have none), queries.txt and listing.txt (lines for the
 listing, which is not part of document 01's program). A case depends on SEED,
-its number and the zone files found alone, so --only makes one again.
+its number and the zone files found alone, so --only makes one again. With
+--family all cases are of that family: one of FAMILIES, or `database`.
 
 Real zones are taken from DIR, /usr/share/zoneinfo (Debian's tzdata) if not
 told otherwise; without any, made-up ones stand in. second.py is used to aim
@@ -33,6 +34,7 @@ REAL = ["Europe/Berlin", "America/New_York", "Asia/Kolkata", "Pacific/Apia", "Af
 REAL += ["America/Santiago", "Australia/Lord_Howe", "Europe/Dublin", "Asia/Gaza", "UTC", "Etc/GMT+12"]
 REAL += ["Pacific/Kiritimati", "America/Nuuk", "Africa/Cairo", "Asia/Tehran", "Antarctica/Troll"]
 REAL += ["Pacific/Chatham", "Asia/Jerusalem", "America/Juneau", "Asia/Manila", "Africa/Monrovia"]
+DATABASE_LINES = 200
 I64 = [-(2**63), 2**63 - 1, 2**63, -(2**63) - 1, 2**64, 2**31, -(2**31), 10**30]
 
 
@@ -445,6 +447,30 @@ def real(rng, folder):
     names = rng.sample(REAL, rng.choice([1, 1, 2, 3]))
     zones = [(name.encode(), real_zone(rng, folder, name)) for name in names]
     return make(rng, zones, about_any(rng))
+
+
+def database_names(folder):
+    """The names of all zones below a folder, but for the copies that tzdata
+    keeps in `posix` and `right`."""
+    names = []
+    for place, folders, files_ in os.walk(folder):
+        if place == folder:
+            folders[:] = [name for name in folders if name not in ("posix", "right")]
+        for name in files_:
+            path = os.path.join(place, name)
+            with open(path, "rb") as file:
+                if file.read(4) == b"TZif":
+                    names.append(os.path.relpath(path, folder))
+    return sorted(names)
+
+
+def database(rng, folder):
+    """Any zones of the database, with many lines: the years 1900 to 2200 and
+    both ends of the range. Never damaged, and none of FAMILIES."""
+    names = rng.sample(database_names(folder), rng.choice([1, 1, 2, 3]))
+    zones = [(name.encode(), real_zone(rng, folder, name)) for name in names]
+    about = day_number(rng.randint(1900, 2200), 1, 1) * DAY + rng.randrange(365) * DAY
+    return make(rng, zones, rng.choice([about] * 8 + [FIRST_S, LAST_S]), DATABASE_LINES)
 
 
 def odd(rng, folder):
@@ -864,12 +890,22 @@ def damaged(rng, records, pack):
     return join(records, rng), join(pack, rng)
 
 
-def write_case(seed, place, folder, zoneinfo):
+def family_of(title):
+    """The family of a title, and None for none."""
+    return {title_of(family): family for family, _ in FAMILIES + [(database, 0)]}.get(title)
+
+
+def title_of(family):
+    return family.__name__.strip("_")
+
+
+def write_case(seed, place, folder, zoneinfo, family=None):
     rng = random.Random(f"{seed}/{place}")
-    family = rng.choices([f for f, _ in FAMILIES], [w for _, w in FAMILIES])[0]
+    chosen = rng.choices([f for f, _ in FAMILIES], [w for _, w in FAMILIES])[0]
+    family = family or chosen
     records, pack, lines, count = family(rng, zoneinfo)
-    title = family.__name__.strip("_")
-    if rng.random() < 0.2:
+    title = title_of(family)
+    if family is not database and rng.random() < 0.2:
         book, zones = damaged(rng, records, pack)
         title += "-damaged"
         count = 8
@@ -903,11 +939,12 @@ def main(arguments):
 
     zoneinfo = option("--zoneinfo", "/usr/share/zoneinfo")
     only = option("--only", None)
-    if len(arguments) != 3:
-        sys.exit("usage: generate.py SEED COUNT FOLDER [--zoneinfo DIR] [--only NUMBER]")
+    title = option("--family", None)
+    if len(arguments) != 3 or (title and not family_of(title)):
+        sys.exit("usage: generate.py SEED COUNT FOLDER [--zoneinfo DIR] [--only NUMBER] [--family NAME]")
     seed, count, folder = arguments[0], int(arguments[1]), arguments[2]
     for place in [int(only)] if only else range(count):
-        write_case(seed, place, folder, zoneinfo)
+        write_case(seed, place, folder, zoneinfo, family_of(title))
 
 
 if __name__ == "__main__":

@@ -6,7 +6,8 @@
 #
 # FOLDER (if not told, `jiff` below WORK or below a new folder in /tmp) gets
 #   VERSIONS                   the packages that were unpacked, one to a line
-#   usr/share/cargo/registry/  the crates, which cargo takes as a folder of sources
+#   usr/share/cargo/registry/  the crates, which cargo takes as a folder of
+#                              sources, with empty ones for what it never builds
 # A FOLDER that has VERSIONS is left as it is, so that it serves without a
 # network. Prints the folder and the versions.
 #
@@ -19,6 +20,7 @@ SUITE=sid
 PACKAGES="librust-jiff-dev librust-jiff-core-dev"
 UNREACHABLE=3
 
+here=$(cd "$(dirname "$0")" && pwd)
 folder=${1:-${WORK:-$(mktemp -d /tmp/compare.XXXXXX)}/jiff}
 mkdir -p "$folder"
 folder=$(cd "$folder" && pwd)
@@ -98,5 +100,6 @@ for package in $PACKAGES; do
     dpkg-deb -x "$apart/debs/$package"_*.deb "$folder"
     echo "$package $(dpkg-deb -f "$apart/debs/$package"_*.deb Version)"
 done >"$apart/VERSIONS"
+python3 "$here/stubs.py" "$folder/usr/share/cargo/registry"
 mv "$apart/VERSIONS" "$folder/VERSIONS"
 tell

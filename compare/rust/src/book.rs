@@ -3,8 +3,8 @@
 //! no places: these are written here.
 
 use jiff::civil::{Date, Time, Weekday};
-use jiff::tz::{find, lend, Lack};
 
+use crate::zones::{asked, lend, look_up, Lack};
 use crate::{Break, Error, Holidays, Rule, Schedule, ScheduleBuilder, Weekdays, WorkDay};
 
 /// A refusal's number and place.
@@ -108,9 +108,10 @@ fn read_shift(body: &[u8]) -> Option<(Weekdays, Time, Time)> {
     let days = week.into_iter().enumerate();
     let days = days.filter(|(place, _)| body[0] >> place & 1 == 1).map(|(_, day)| day);
     let time = |at: usize| {
-        let second = i32::try_from(number(body, at)?).ok()?;
+        let second = number(body, at)?;
+        let hour = i8::try_from(second / 3600).ok()?;
         let nano = i32::try_from(number(body, at + 4)?).ok()?;
-        Time::of_second(second, nano).ok()
+        Time::new(hour, (second / 60 % 60) as i8, (second % 60) as i8, nano).ok()
     };
     Some((days.collect(), time(1)?, time(9)?))
 }
@@ -146,21 +147,16 @@ fn within_limits(entries: &[Entry<'_>]) -> bool {
     entries.len() <= 64 && work <= 16 && breaks <= 16 && holidays <= 8 && dates <= 512
 }
 
-/// The original takes names as texts: one character for each byte.
-fn text(name: &[u8]) -> String {
-    name.iter().copied().map(char::from).collect()
-}
-
 fn usable(entry: &Entry<'_>) -> Result<(), Refusal> {
-    match find(entry.name) {
-        Ok(_) => Ok(()),
+    match look_up(entry.name) {
+        Ok(()) => Ok(()),
         Err(Lack::Unknown) => Err(Refusal(4, entry.place)),
         Err(Lack::Unusable) => Err(Refusal(5, entry.place)),
     }
 }
 
 fn rule(entry: &Entry<'_>) -> Option<Rule> {
-    let named = (!entry.name.is_empty()).then(|| text(entry.name));
+    let named = (!entry.name.is_empty()).then(|| asked(entry.name));
     Some(match &entry.body {
         Body::Default => return None,
         Body::Work(start, end, days) => {
@@ -187,7 +183,7 @@ fn refused_zone(entries: &[Entry<'_>], default: Option<&Entry<'_>>) -> Refusal {
     refusals.next().expect("a zone that can't be had")
 }
 
-/// Builds a book over a pack, which is lent to the stand-in's zones.
+/// Builds a book over a pack, which is lent to jiff for the names in it.
 pub fn build(book: &[u8], pack: &[u8]) -> Result<Schedule, Refusal> {
     let entries: Option<Vec<Entry<'_>>> =
         directory(book).and_then(|records| records.into_iter().map(read_entry).collect());
@@ -195,11 +191,11 @@ pub fn build(book: &[u8], pack: &[u8]) -> Result<Schedule, Refusal> {
     if !within_limits(&entries) {
         return Err(Refusal(2, 0));
     }
-    lend(read_pack(pack).ok_or(Refusal(3, 0))?);
+    let _lent = lend(read_pack(pack).ok_or(Refusal(3, 0))?);
     let default = entries.iter().rev().find(|entry| matches!(entry.body, Body::Default));
     let mut builder = Schedule::builder();
     if let Some(entry) = default {
-        builder = builder.time_zone(text(entry.name));
+        builder = builder.time_zone(asked(entry.name));
     }
     builder = entries.iter().filter_map(rule).fold(builder, ScheduleBuilder::rule);
     builder.build().map_err(|error| match error {

@@ -1,5 +1,6 @@
 //! The seven source files of workclock, unchanged, under the names that they
-//! use for each other. `jiff` is the stand-in beside them.
+//! use for each other. `jiff` is the stand-in beside them, or with the feature
+//! `real`, as `../../jiff` builds it, jiff itself.
 
 #[path = "../original/engine.rs"]
 mod engine;
@@ -39,6 +40,8 @@ mod schedule {
 }
 
 pub mod book;
+#[cfg_attr(feature = "real", path = "../../jiff/src/zones.rs")]
+mod zones;
 
 pub use error::Error;
 pub use holiday::Holidays;

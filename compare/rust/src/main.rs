@@ -9,6 +9,9 @@ use jiff::{SignedDuration, Timestamp};
 use workclock::book::{build, Refusal};
 use workclock::{Error, Schedule};
 
+/// Nanoseconds of a second.
+const NANO: i64 = 1_000_000_000;
+
 fn read_file(path: &str) -> Vec<u8> {
     let data = std::fs::read(path).unwrap_or_default();
     if data.len() > 65_536 {
@@ -33,14 +36,17 @@ fn number(field: &[u8]) -> Option<i64> {
     })
 }
 
+/// jiff takes nanoseconds below 0 too, document 01 does not.
 fn instant(second: i64, nano: i64) -> Result<Timestamp, Refusal> {
-    let nano = i32::try_from(nano).map_err(|_| Refusal(8, 0))?;
-    Timestamp::new(second, nano).map_err(|_| Refusal(8, 0))
+    if !(0..NANO).contains(&nano) {
+        return Err(Refusal(8, 0));
+    }
+    Timestamp::new(second, nano as i32).map_err(|_| Refusal(8, 0))
 }
 
 fn duration(second: i64, nano: i64) -> Result<SignedDuration, Refusal> {
     let opposite = (second > 0 && nano < 0) || (second < 0 && nano > 0);
-    if opposite || !(-999_999_999..=999_999_999).contains(&nano) {
+    if opposite || !(1 - NANO..NANO).contains(&nano) {
         return Err(Refusal(9, 0));
     }
     Ok(SignedDuration::new(second, nano as i32))
@@ -54,7 +60,9 @@ fn refusal(error: Error) -> Refusal {
 }
 
 fn shown(instant: Timestamp) -> String {
-    format!("{} {}", instant.floor_second(), instant.floor_nanosecond())
+    let nanos = instant.as_nanosecond();
+    let second = i128::from(NANO);
+    format!("{} {}", nanos.div_euclid(second), nanos.rem_euclid(second))
 }
 
 fn answer(schedule: &Schedule, word: &[u8], numbers: &[i64]) -> Result<String, Refusal> {

@@ -65,9 +65,12 @@ impl Time {
         Time { second: 0, nano: 0 }
     }
 
-    /// The stand-in's own: from the second of the day.
-    pub fn of_second(second: i32, nano: i32) -> Result<Time, Error> {
-        let good = (0..86_400).contains(&second) && (0..1_000_000_000).contains(&nano);
+    pub fn new(hour: i8, minute: i8, second: i8, nano: i32) -> Result<Time, Error> {
+        let good = (0..24).contains(&hour)
+            && (0..60).contains(&minute)
+            && (0..60).contains(&second)
+            && (0..1_000_000_000).contains(&nano);
+        let second = 3600 * i32::from(hour) + 60 * i32::from(minute) + i32::from(second);
         good.then_some(Time { second, nano }).ok_or(Error)
     }
 }

@@ -46,6 +46,10 @@ impl Timestamp {
         self.nano
     }
 
+    pub fn as_nanosecond(self) -> i128 {
+        i128::from(self.second) * i128::from(NANO) + i128::from(self.nano)
+    }
+
     pub fn checked_add(self, duration: SignedDuration) -> Result<Timestamp, Error> {
         let second = self.second.checked_add(duration.second).ok_or(Error)?;
         let nano = self.nano + duration.nano;
