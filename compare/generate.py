@@ -1,13 +1,15 @@
 #!/usr/bin/env python3
 """Makes cases for the comparison: books, packs and query lines.
 
-Usage: generate.py SEED COUNT FOLDER [--zoneinfo DIR] [--only NUMBER] [--family NAME]
+Usage: generate.py SEED COUNT FOLDER [--zoneinfo DIR] [--only NUMBER]
+                   [--family NAME] [--whole]
 
 Writes FOLDER/NNNNN-FAMILY for each of COUNT cases, each with book.bin,
 zones.bin (a few have none), queries.txt and listing.txt (lines for the
 listing, which is not part of document 01's program). A case depends on SEED,
 its number and the zone files found alone, so --only makes one again. With
---family all cases are of that family: one of FAMILIES, or `database`.
+--family all cases are of that family: one of FAMILIES, or `database`. With
+--whole made-up zone files have a first data block of one type, as jiff wants it.
 
 Real zones are taken from DIR, /usr/share/zoneinfo (Debian's tzdata) if not
 told otherwise; without any, made-up ones stand in. second.py is used to aim
@@ -46,11 +48,16 @@ def header(version, ut, std, leaps, times, types, letters):
     return b"TZif" + version + bytes(15) + counts
 
 
+WHOLE = "--whole" in sys.argv
+
+
 def tzif(types, changes=(), footer=b"", version=b"2", marks=0, old=0):
     """A TZif file: offsets of the types, (second, type) pairs, footer. `marks`
     adds indicators, `old` fills the first data block."""
     first = header(version, 0, 0, 0, 0, 0, 0)
-    if old:
+    if WHOLE:
+        first = header(version, 0, 0, 0, 0, 1, 4) + bytes(6) + b"AAA\0"
+    elif old:
         first = header(version, 1, 1, old, 2, 1, 4) + bytes(2 * 5 + 6 + 4 + 8 * old + 2)
     count = len(types)
     ut, std = (count if marks & 1 else 0), (count if marks & 2 else 0)
@@ -940,8 +947,9 @@ def main(arguments):
     zoneinfo = option("--zoneinfo", "/usr/share/zoneinfo")
     only = option("--only", None)
     title = option("--family", None)
+    arguments = [argument for argument in arguments if argument != "--whole"]
     if len(arguments) != 3 or (title and not family_of(title)):
-        sys.exit("usage: generate.py SEED COUNT FOLDER [--zoneinfo DIR] [--only NUMBER] [--family NAME]")
+        sys.exit("usage: generate.py SEED COUNT FOLDER [--zoneinfo DIR] [--only NUMBER] [--family NAME] [--whole]")
     seed, count, folder = arguments[0], int(arguments[1]), arguments[2]
     for place in [int(only)] if only else range(count):
         write_case(seed, place, folder, zoneinfo, family_of(title))
