@@ -64,7 +64,7 @@ python3 "$here/generate.py" "$seed" "$count" "$cases" --zoneinfo "${ZONEINFO:-/u
 answer() {
     out=$1
     shift
-    timeout "$patience" "$@" <queries.txt >"$out" 2>errors.txt || echo "ended with $?" >>"$out"
+    timeout "$patience" "$@" <queries.txt >"$out" 2>>errors.txt || echo "ended with $?" >>"$out"
 }
 
 for folder in "$cases"/*/; do

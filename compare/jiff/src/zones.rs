@@ -28,8 +28,9 @@ thread_local! {
 /// jiff keeps to the folder that it saw first, so there is one for each run.
 static FOLDER: OnceLock<PathBuf> = OnceLock::new();
 
-/// Without any file in it jiff would leave the folder for the system's own.
-const NO_ZONE: &str = "no-zone";
+/// The place of an empty file behind the records of any pack: without a file in
+/// the folder jiff would leave it for the system's own.
+const NO_ZONE: usize = 1024;
 
 /// The pack's folder, which goes with this value. jiff has read the zones of a
 /// schedule by the time that it is built.
@@ -58,6 +59,11 @@ fn is_plain(name: &str) -> bool {
         && !parts.next().is_some_and(|first| ["posix", "right"].contains(&first))
 }
 
+/// A file's name that no book can ask for, being longer than 64 characters.
+fn numbered(place: usize) -> String {
+    format!("{place:065}")
+}
+
 fn write(folder: &Path, name: &str, file: &[u8]) -> std::io::Result<()> {
     let path = folder.join(name);
     fs::create_dir_all(path.parent().expect("a file in the folder"))?;
@@ -66,25 +72,22 @@ fn write(folder: &Path, name: &str, file: &[u8]) -> std::io::Result<()> {
 
 /// Writes the names and files that `TimeZone::get` is to look in: of names that
 /// differ by case alone the first. A name that can't be a file's, also where
-/// another name needs a folder in its place, gives way to a number that no book
-/// can ask for, being longer than 64 characters.
+/// another name needs a folder in its place, gives way to a number.
 pub fn lend(pack: Vec<(Vec<u8>, Vec<u8>)>) -> Lent {
     let folder = FOLDER.get_or_init(new_folder);
     let _ = fs::remove_dir_all(folder);
-    write(folder, NO_ZONE, b"").expect("a folder for the zone files");
+    write(folder, &numbered(NO_ZONE), b"").expect("a folder for the zone files");
     let mut written: Vec<Written> = Vec::new();
     for (place, (name, file)) in pack.into_iter().enumerate() {
         if written.iter().any(|earlier| earlier.name.eq_ignore_ascii_case(&name)) {
             continue;
         }
-        let plain = text(&name);
-        let number = format!("{place:065}");
-        let kept = is_plain(&plain) && write(folder, &plain, &file).is_ok();
-        if !kept {
-            write(folder, &number, &file).expect("a zone file");
+        let mut path = text(&name);
+        if !is_plain(&path) || write(folder, &path, &file).is_err() {
+            path = numbered(place);
+            write(folder, &path, &file).expect("a zone file");
         }
-        let file = if kept { plain } else { number };
-        written.push(Written { name, file });
+        written.push(Written { name, file: path });
     }
     PACK.with(|pack| *pack.borrow_mut() = written);
     std::env::set_var("TZDIR", folder);
