@@ -105,17 +105,18 @@ module _ {off : ℕ → ℕ} {u e : ℕ} (r : Run off u e) (l : ℕ) where
     pub past-next : (l < u + off u) ⊎ (e + off u ≤ l) → Past off l e d
     past-next w = record { none = clear (s .none) w; e = s .e; gives = s .gives; jumped = s .jumped; least = s .least }
 
-module _ (off : ℕ → ℕ) (low : (u : ℕ) → 1 ≤ off u) (high : (u : ℕ) → off u ≤ greatestOffset) (l : ℕ) where
-  -- every second that reads l, and every jump over it, lies in the 187,199 s before it
-  pub low-start : greatestOffset ≤ l → Low off l (l - greatestOffset)
-  low-start h = record {
+module _ (off : ℕ → ℕ) (l : ℕ) where
+  -- before l less the greatest offset no second reads l and no change jumps over it ..
+  pub low-start : (g : ℕ) → ((u : ℕ) → off u ≤ g) → g ≤ l → Low off l (l - g)
+  low-start g high h = record {
     none = λ v k p. omega (arith, p, high v);
     plain = λ e k j. omega (arith, j .to, high e);
-    low = omega (arith, high (l - greatestOffset));
+    low = omega (arith, high (l - g));
   }
 
-  pub past-done : {u d : ℕ} → Past off l u d → l ≤ u → Resolves off l d
-  past-done s h = jump (s .e) (s .gives) (λ v p. s .none v (omega (arith, p, low v)) p) (s .jumped) (s .least)
+  -- .. and behind l less the least no second reads it
+  pub past-done : (m : ℕ) → ((u : ℕ) → m ≤ off u) → {u d : ℕ} → Past off l u d → l < u + m → Resolves off l d
+  past-done m low s h = jump (s .e) (s .gives) (λ v p. s .none v (omega (arith, p, low v)) p) (s .jumped) (s .least)
 
 -- ---- whether a span has one offset
 

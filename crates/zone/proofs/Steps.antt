@@ -3,20 +3,27 @@ use mathlib.Core.Path.{_≡_, sym, _∙_, ap}
 use mathlib.Core.Bool.{Bool, true, false}
 use mathlib.Core.Logic.{_⊎_, inl, inr}
 use mathlib.Core.List.{List}
-use Prim.Native.Nat.{ℕ, _+_, _-_, _≤_, _<_}
+use Prim.Native.Nat.{ℕ, _+_, _-_, _≤_, _<_, min, max}
 use native.Mathlib.Omega.{arith}
+use native.Mathlib.Decide.{decLt}
 use lib.Dec.{ltb, leb}
 use borrow.Author.Tests.{ltb-true, ltb-false, leb-true, leb-false}
 use Rattle.laws_base.specs.Test.{by-test, and-both}
+use Rattle.laws_zone.specs.Grammar.{FooterFits}
 use Rattle.laws_zone.specs.Resolve.{Resolves}
 use Rattle.laws_zone.specs.Runs.{Run, Low, Past, low-start, low-found, low-next, low-jump, past-found, past-next}
-use Rattle.model.specs.Footer.{Footer}
-use Rattle.model.specs.Zone.{offsetAt, ruledAt}
+use Rattle.model.specs.Footer.{Footer, empty, fixed, rules, changeIn}
+use Rattle.model.specs.Zone.{offsetAt, ruledAt, latest}
 use Rattle.zone_tzif.specs.declared.Layout.{Layout}
 use Rattle.zone_tzif.specs.Places.{offsetAfter, timeAt}
-use Rattle.zone_tzif.specs.Opened.{Opened, zoneAt, countAt}
-use Rattle.zone_tzif.proofs.Laws.{offset-early, offset-late, count-end, table-run}
-use Rattle.zone.specs.Zones.{inRun}
+use Rattle.zone_tzif.specs.Opened.{Opened, TableBounds, zoneAt, countAt}
+use Rattle.zone_tzif.specs.declared.OffsetBounds.{OffsetBounds}
+use Rattle.zone_tzif.proofs.Laws.{offset-early, offset-late, count-most, count-end, count-step, table-run}
+use Rattle.zone_footer.specs.declared.Footer as F
+use Rattle.zone_footer.specs.declared.Footer.the-variants.{Fixed, Rules}
+use Rattle.zone_footer.specs.declared.ChangeRule.{ChangeRule}
+use Rattle.zone_changes.specs.Meaning.{theFooter, footerRules}
+use Rattle.zone.specs.Zones.{inRun, nextCount, ZoneBounds}
 use Rattle.model.specs.Offset.{greatestOffset}
 
 pub in-run-yes : (u o e x : ℕ) → inRun u o e x ≡ true → (u + o ≤ x) × (x - o < e)
@@ -51,8 +58,8 @@ pub record At (off : ℕ → ℕ) (x o e : ℕ) : Type 0 where
   pub same : o ≡ off u
   pub run : Run off u e
 
-pub at-start : (off : ℕ → ℕ) → ((u : ℕ) → 1 ≤ off u) → ((u : ℕ) → off u ≤ greatestOffset) → {x o e : ℕ} → greatestOffset ≤ x → o ≡ off (x - greatestOffset) → Run off (x - greatestOffset) e → At off x o e
-at-start off lo hi {x} h s r = record { u = x - greatestOffset; low = low-start off lo hi x h; same = s; run = r }
+pub at-start : (off : ℕ → ℕ) (g : ℕ) → ((u : ℕ) → off u ≤ g) → {x o e : ℕ} → g ≤ x → o ≡ off (x - g) → Run off (x - g) e → At off x o e
+at-start off g high {x} h s r = record { u = x - g; low = low-start off x g high h; same = s; run = r }
 
 module _ {off : ℕ → ℕ} {x o e : ℕ} (a : At off x o e) where
   pub at-off : o ≤ x
@@ -79,6 +86,11 @@ module _ {f : List ℕ} {l : Layout} (o : Opened f l) (foot : Footer) (u : ℕ) 
     pub early-offset : {x : ℕ} → x ≡ offsetAfter f l k → x ≡ offsetAt (zoneAt f l foot) u
     early-offset q = q ∙ ap (offsetAfter f l) e ∙ sym (offset-early f l o u foot (omega arith))
 
+    pub early-count : {t : ℕ} → t ≡ timeAt f l k → nextCount l k ≡ countAt f l t
+    early-count {t} q =
+        let s : t ≡ timeAt f l (countAt f l u) = q ∙ ap (timeAt f l) e in
+        omega (arith, e, ap (countAt f l) s, count-step f l o u (omega arith))
+
     pub early-run : {t : ℕ} → t ≡ timeAt f l k → Run (offsetAt (zoneAt f l foot)) u t
     early-run q = rw (q ∙ ap (timeAt f l) e) (table-run f l o foot u (omega arith))
 
@@ -96,3 +108,60 @@ module _ {f : List ℕ} {l : Layout} (o : Opened f l) (foot : Footer) (u : ℕ) 
 
     pub late-run : {t : ℕ} → Run (ruledAt foot last) u t → Run (offsetAt (zoneAt f l foot)) u t
     late-run r = record { on = r .on; same = λ v a b. late v a ∙ r .same v a b ∙ sym (late u (omega arith)) }
+
+    pub late-count : {t : ℕ} → u < t → nextCount l k ≡ countAt f l t
+    late-count {t} a = omega (arith, count-end f l o u t (omega arith) (omega arith), count-most f l o t)
+
+-- ---- bounds of a zone's offsets
+
+-- a footer's own offsets lie from lo to hi
+abbrev FooterWithin : ℕ → ℕ → Footer → Type 0
+FooterWithin lo hi empty = Unit {0}
+FooterWithin lo hi (fixed o) = (lo ≤ o) × (o ≤ hi)
+FooterWithin lo hi (rules std dst start end) = (lo ≤ std) × (std ≤ hi) × (lo ≤ dst) × (dst ≤ hi)
+
+module _ {lo hi : ℕ} where
+  ruled-within : (foot : Footer) → FooterWithin lo hi foot → (o u : ℕ) → (lo ≤ o) × (o ≤ hi) → (lo ≤ ruledAt foot o u) × (ruledAt foot o u ≤ hi)
+  unfolding ruledAt
+  ruled-within empty w o u h = h
+  ruled-within (fixed g) w o u h = w
+  ruled-within (rules std dst start end) w o u h =
+      by-test (leb (latest (changeIn dst end) u) (latest (changeIn std start) u)) (λ e. rw e (w .2, w .3)) (λ e. rw e (w .0, w .1))
+
+  within : (f : List ℕ) (l : Layout) → Opened f l → ((k : ℕ) → k ≤ l .count → (lo ≤ offsetAfter f l k) × (offsetAfter f l k ≤ hi)) → (foot : Footer) → FooterWithin lo hi foot
+      → (u : ℕ) → (lo ≤ offsetAt (zoneAt f l foot) u) × (offsetAt (zoneAt f l foot) u ≤ hi)
+  within f l o t foot w u = go (decLt (countAt f l u) (l .count))
+    where
+      go : Dec (countAt f l u < l .count) → (lo ≤ offsetAt (zoneAt f l foot) u) × (offsetAt (zoneAt f l foot) u ≤ hi)
+      go (yes y) = rw (offset-early f l o u foot y) (t (countAt f l u) (omega arith))
+      go (no y) = rw (offset-late f l o u foot (omega arith)) (ruled-within foot w (offsetAfter f l (l .count)) u (t (l .count) (omega arith)))
+
+module _ {f : List ℕ} {l : Layout} (o : Opened f l) {b : OffsetBounds} (t : TableBounds f l b) where
+  module _ {c : OffsetBounds} (p : c .least ≤ b .least) (q : b .greatest ≤ c .greatest) (m : c .greatest ≤ greatestOffset) where
+    each : (k : ℕ) → k ≤ l .count → (c .least ≤ offsetAfter f l k) × (offsetAfter f l k ≤ c .greatest)
+    each k h = (omega (arith, t .each k h .0), omega (arith, t .each k h .1))
+
+    with-footer : (foot : Footer) → FooterWithin (c .least) (c .greatest) foot → ZoneBounds (offsetAt (zoneAt f l foot)) c
+    with-footer foot w = record {
+      least = λ u. within f l o each foot w u .0;
+      greatest = λ u. within f l o each foot w u .1;
+      most = m;
+    }
+
+  -- `bounds_of`, by the footer's variant
+  pub bounds-plain : (foot : F.Footer) → theFooter foot ≡ empty → ZoneBounds (offsetAt (zoneAt f l (theFooter foot))) b
+  bounds-plain foot e = rw e (with-footer (omega arith) (omega arith) (t .most) empty tt)
+
+  pub bounds-fixed : {foot : F.Footer} {s : ℕ} {c : OffsetBounds} → foot ≡ Fixed s → FooterFits (theFooter foot)
+      → (c .least ≡ min (b .least) s) × (c .greatest ≡ max (b .greatest) s) → ZoneBounds (offsetAt (zoneAt f l (theFooter foot))) c
+  bounds-fixed {foot} {s} {c} e fits w =
+      let k : FooterFits (fixed s) = rw e at fits in
+      rw e (with-footer (omega (arith, w .0)) (omega (arith, w .1)) (omega (arith, w .1, t .most, k .1)) (fixed s) (omega (arith, w .0), omega (arith, w .1)))
+
+  pub bounds-rules : {foot : F.Footer} {std dst : ℕ} {start end : ChangeRule} {c d : OffsetBounds} → foot ≡ Rules std dst start end → FooterFits (theFooter foot)
+      → (c .least ≡ min (b .least) std) × (c .greatest ≡ max (b .greatest) std)
+      → (d .least ≡ min (c .least) dst) × (d .greatest ≡ max (c .greatest) dst) → ZoneBounds (offsetAt (zoneAt f l (theFooter foot))) d
+  bounds-rules {foot} {std} {dst} {start} {end} {c} {d} e fits v w =
+      let k : FooterFits (footerRules std dst start end) = rw e at fits in
+      rw e (with-footer (omega (arith, v .0, w .0)) (omega (arith, v .1, w .1)) (omega (arith, v .1, w .1, t .most, k .0 .1, k .1 .1)) (footerRules std dst start end)
+      (omega (arith, v .0, w .0), omega (arith, v .1, w .1), omega (arith, w .0), omega (arith, w .1)))

@@ -3,13 +3,14 @@ use mathlib.Core.Path.{_≡_}
 use mathlib.Core.Bool.{Bool, _&&_}
 use mathlib.Core.Option.{Option, none, some}
 use mathlib.Core.List.{List}
-use Prim.Native.Nat.{ℕ, _+_, _-_, _<_}
+use Prim.Native.Nat.{ℕ, _+_, _-_, _≤_, _<_, min}
 use lib.Dec.{leb, ltb}
 use Rattle.model.specs.Tzif as model
 use Rattle.model.specs.Zone.{offsetAt}
 use Rattle.laws_zone.specs.Zones.{ZoneFits}
 use Rattle.zone_tzif.specs.Opened.{Opened, zoneAt}
 use Rattle.zone_tzif.specs.declared.Layout.{Layout}
+use Rattle.zone_tzif.specs.declared.OffsetBounds.{OffsetBounds}
 use Rattle.zone_footer.specs.declared.Footer.{Footer}
 use Rattle.zone_footer.specs.declared.Footer.the-variants as F
 use Rattle.zone_changes.specs.Meaning.{theFooter}
@@ -17,6 +18,8 @@ use Rattle.zone.specs.declared.Zone.{Zone}
 use Rattle.zone.specs.declared.ZoneRead.{ZoneRead}
 use Rattle.zone.specs.declared.ZoneRead.the-variants as R
 use Rattle.instant.specs.Instant.{yearsEnd}
+use Rattle.laws_zone.specs.Sound.{firstLocal}
+use Rattle.model.specs.Offset.{greatestOffset}
 
 -- the zone of the definitions
 abbrev pub zoneIs : List ℕ → Zone → model.Zone
@@ -61,3 +64,20 @@ zone-inside {f} {r} {z} k e = go (rw e at k)
 -- a run from u up to e with the offset o holds a second that reads x
 unfoldable pub inRun : ℕ → ℕ → ℕ → ℕ → Bool
 inRun u o e x = leb (u + o) x && ltb (x - o) e
+
+-- how many transitions are at or before the end of the run that k of them begin
+abbrev pub nextCount : Layout → ℕ → ℕ
+nextCount l k = min (k + 1) (l .count)
+
+-- no offset is below the one bound or above the other, and no bound above what a zone may have
+pub record ZoneBounds (off : ℕ → ℕ) (b : OffsetBounds) : Type 0 where
+  pub least : (u : ℕ) → b .least ≤ off u
+  pub greatest : (u : ℕ) → off u ≤ b .greatest
+  pub most : b .greatest ≤ greatestOffset
+
+-- an open zone is searched for a local second, with bounds of its offsets
+pub record Searched (f : List ℕ) (z : Zone) (x : ℕ) (b : OffsetBounds) : Type 0 where
+  pub ok : ZoneOk f z
+  pub from : firstLocal ≤ x
+  pub to : x < yearsEnd
+  pub bounds : ZoneBounds (zoneOffset f z) b

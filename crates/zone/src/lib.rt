@@ -10,10 +10,12 @@ ghost use Rattle.laws_zone.specs.Runs.{Past};
 ghost use Rattle.laws_zone.specs.Sound.{firstLocal};
 ghost use Rattle.instant.specs.Instant.{yearsEnd};
 ghost use Rattle.zone_changes.specs.Meaning.{IsOffset};
-ghost use Rattle.zone.specs.Zones.{zoneIs, ZoneOk, Asked, zoneOffset, zoneRead, ReadOk, ruled, inRun};
+ghost use Rattle.zone_tzif.specs.Opened.{countAt};
+ghost use Rattle.zone.specs.Zones.{zoneIs, ZoneOk, Asked, zoneOffset, zoneRead, ReadOk, ruled, inRun, nextCount, ZoneBounds, Searched};
 use zone_changes::OffsetUntil;
 use zone_footer::Footer;
 use zone_tzif::Layout;
+use zone_tzif::OffsetBounds;
 use zone_tzif::TzifRead;
 
 // The second behind the last year that the calendar has, and the first local second that `second_of` takes: one more than the greatest offset.
@@ -67,13 +69,24 @@ pub fn utc() -> Zone
     Zone { table, footer }
 }
 
-// The offset at u, and a second before which it stays.
-pub fn run_at(f: &[u8], z: Zone, u: u64) -> OffsetUntil
-    requires { ⌜ Asked (now f) z u ⌝ }
-    ensures { λ r. ⌜ IsOffset (zoneOffset (now (f .entry)) z) u r ⌝ }
+// ---- the offset at a second
+
+// How many transitions are at or before the end of the run that k of them begin.
+fn count_on(table: Layout, k: usize) -> usize
+    ensures { λ r. ⌜ r ≡ nextCount table k ⌝ }
+{
+    if table.count <= k {
+        return table.count;
+    }
+    k + 1
+}
+
+// The offset at u, and a second before which it stays, where k transitions are at or before u.
+fn run_after(f: &[u8], z: Zone, k: usize, u: u64) -> OffsetUntil
+    requires { ⌜ Asked (now f) z u × (k ≡ countAt (now f) (z .table) u) ⌝ }
+    ensures { λ r. ⌜ IsOffset (zoneOffset (now (f .entry)) z) u r × (nextCount (z .table) k ≡ countAt (now (f .entry)) (z .table) (r .until)) ⌝ }
 {
     let table = z.table;
-    let k = zone_tzif::count_at(f, table, u);
     let offset = zone_tzif::table_offset(f, table, k);
     if k < table.count {
         return OffsetUntil {
@@ -83,6 +96,36 @@ pub fn run_at(f: &[u8], z: Zone, u: u64) -> OffsetUntil
     }
     let footer = z.footer;
     zone_changes::footer_run_at(footer, offset, u)
+}
+
+// The offset at u, and a second before which it stays.
+pub fn run_at(f: &[u8], z: Zone, u: u64) -> OffsetUntil
+    requires { ⌜ Asked (now f) z u ⌝ }
+    ensures { λ r. ⌜ IsOffset (zoneOffset (now (f .entry)) z) u r ⌝ }
+{
+    let table = z.table;
+    run_after(f, z, zone_tzif::count_at(f, table, u), u)
+}
+
+// ---- the second of a local time
+
+// Bounds of the zone's offsets, those of the footer included.
+fn bounds_of(f: &[u8], z: Zone) -> OffsetBounds
+    requires { ⌜ ZoneOk (now f) z ⌝ }
+    ensures { λ r. ⌜ ZoneBounds (zoneOffset (now (f .entry)) z) r ⌝ }
+{
+    let table = z.table;
+    let footer = z.footer;
+    let bounds = zone_tzif::table_bounds(f, table);
+    match footer {
+        Footer::Empty => bounds,
+        Footer::Broken => bounds,
+        Footer::Fixed(o) => zone_tzif::widened(bounds, o as u64),
+        Footer::Rules(std, dst, _, _) => {
+            let with = zone_tzif::widened(bounds, std as u64);
+            zone_tzif::widened(with, dst as u64)
+        }
+    }
 }
 
 // A run from u up to e with the offset o holds a second that reads x.
@@ -96,39 +139,61 @@ fn in_run(u: u64, o: u64, e: u64, x: u64) -> bool
     false
 }
 
-// The first reading of x from the second `from` on, past the first jump over x, and d if there is none.
-fn read_after(f: &[u8], z: Zone, x: u64, from: u64, d: u64) -> u64
-    requires { ⌜ ZoneOk (now f) z × (x < yearsEnd) × Past (zoneOffset (now f) z) x from d ⌝ }
+// The first reading of x from the second `from` on, past the first jump over x, and d if there is none. Of the transitions n are at or before `from`.
+fn read_after(f: &[u8], z: Zone, x: u64, bounds: OffsetBounds, from: u64, n: usize, d: u64) -> u64
+    requires { ⌜ Searched (now f) z x bounds × Past (zoneOffset (now f) z) x from d × (n ≡ countAt (now f) (z .table) from) ⌝ }
     ensures { λ r. ⌜ Resolves (zoneOffset (now (f .entry)) z) x r ⌝ }
 {
+    let table = z.table;
+    let last = x - bounds.least;
     let mut u = from;
-    while u < x {
-        let r = run_at(f, z, u);
+    let mut k = n;
+    while u <= last {
+        let r = run_after(f, z, k, u);
         if in_run(u, r.offset as u64, r.until, x) {
             return x - r.offset as u64;
         }
         u = r.until;
+        k = count_on(table, k);
     }
     d
 }
 
-// The second of the local second x: the earliest that reads so, or by the earliest jump over it.
+// The second of the local second x, by the runs from x less the greatest offset on: each is the next in the table, so that none is searched for.
+fn second_by_runs(f: &[u8], z: Zone, x: u64, bounds: OffsetBounds) -> u64
+    requires { ⌜ Searched (now f) z x bounds ⌝ }
+    ensures { λ r. ⌜ Resolves (zoneOffset (now (f .entry)) z) x r ⌝ }
+{
+    let table = z.table;
+    let from = x - bounds.greatest;
+    let n = zone_tzif::count_at(f, table, from);
+    let r = run_after(f, z, n, from);
+    let mut off = r.offset as u64;
+    let mut until = r.until;
+    let mut k = count_on(table, n);
+    while until <= x - off {
+        let q = run_after(f, z, k, until);
+        let o = q.offset as u64;
+        if until + o <= x {
+            off = o;
+            until = q.until;
+            k = count_on(table, k);
+        } else {
+            return read_after(f, z, x, bounds, until, k, x - off);
+        }
+    }
+    x - off
+}
+
+// The second of the local second x: the earliest that reads so, or by the earliest jump over it. Most often no change is near.
 pub fn second_of(f: &[u8], z: Zone, x: u64) -> u64
     requires { ⌜ ZoneOk (now f) z × (firstLocal ≤ x) × (x < yearsEnd) ⌝ }
     ensures { λ r. ⌜ r ≡ model.secondOf (zoneIs (now (f .entry)) z) x ⌝ }
 {
     let r = run_at(f, z, x - zone_offset::GREATEST_64);
-    let mut off = r.offset as u64;
-    let mut until = r.until;
-    while until <= x - off {
-        let q = run_at(f, z, until);
-        let o = q.offset as u64;
-        if until + o <= x {
-            off = o;
-            until = q.until;
-        } else {
-            return read_after(f, z, x, until, x - off);
-        }
+    let off = r.offset as u64;
+    if x - off < r.until {
+        return x - off;
     }
-    x - off
+    second_by_runs(f, z, x, bounds_of(f, z))
 }

@@ -3,7 +3,7 @@ use mathlib.Core.Path.{_≡_, sym, ap, _∙_, subst}
 use mathlib.Core.Bool.{true, false, _&&_}
 use mathlib.Core.Option.{none, some}
 use mathlib.Core.List.{List}
-use Prim.Native.Nat.{ℕ, zero, suc, _+_, _*_, _-_, _≤_, _<_}
+use Prim.Native.Nat.{ℕ, zero, suc, _+_, _*_, _-_, _≤_, _<_, min, max}
 use native.Mathlib.Omega.{arith}
 use native.Mathlib.Decide.{decLe, decLt}
 use lib.Dec.{leb, ltb, eqb}
@@ -17,15 +17,16 @@ use Rattle.model.specs.Zone.{offsetFrom, offsetAt, ruledAt}
 use Rattle.laws_base.specs.Test.{by-test, and-both, never}
 use Rattle.laws_zone.specs.Runs.{Run}
 use Rattle.big_endian.specs.Be.{be32}
-use Rattle.big_endian.specs.Walk.{allFrom, upTo}
+use Rattle.big_endian.specs.Walk.{allFrom, upTo, risesAt}
 use Rattle.big_endian.proofs.Walk.{all-at, rises, Rises, count-in, count-out, count-le}
 use Rattle.zone_tzif_head.specs.declared.Head.{Head}
 use Rattle.zone_tzif.specs.declared.Layout.{Layout}
 use Rattle.zone_tzif.specs.declared.TzifRead.the-variants as R
 use Rattle.zone_tzif_head.specs.Heads.{headerIs, headOk, headAt, secondAt}
 use Rattle.zone_tzif_block.specs.Parts.{keyAt, byteBelow, typeOffset, typeFits, kindsAt, typesAt, marksAt, tailAt, tailOk, timesRise, tablesOk, blockOk}
-use Rattle.zone_tzif.specs.Places.{layoutAt, usable, layoutOf, readOf, timeAt, offsetAfter, changesFrom, lineAt, tableAt}
-use Rattle.zone_tzif.specs.Opened.{Opened, zoneAt, countAt}
+use Rattle.zone_tzif.specs.Places.{layoutAt, usable, layoutOf, readOf, timeAt, typeAt, typesBefore, typeCount, offsetAfter, changesFrom, lineAt, tableAt}
+use Rattle.zone_tzif.specs.Opened.{HasTypes, Opened, TableBounds, zoneAt, countAt}
+use Rattle.zone_tzif.specs.declared.OffsetBounds.{OffsetBounds}
 use Rattle.zone_tzif.proofs.Bridge.{table-is, block-in}
 
 -- ---- what `read` promises
@@ -33,19 +34,21 @@ use Rattle.zone_tzif.proofs.Bridge.{table-is, block-in}
 -- the parts of a block that passes
 record Passed (f : List ℕ) (b : ℕ) (h : Head) : Type 0 where
   types : 1 ≤ h .types
+  few-types : h .types ≤ mostTypes
   few : h .times ≤ mostTransitions
   room : tailAt b h + 1 < length f
   rise : timesRise f b (h .times) ≡ true
   kinds : allFrom (byteBelow f (kindsAt b (h .times)) (h .types)) 0 (h .times) ≡ true
   fit : allFrom (typeFits f (typesAt b (h .times)) (h .chars)) 0 (h .types) ≡ true
 
-counts : (h : Head) → countsOk (headerIs h) ≡ true → (1 ≤ h .types) × (h .times ≤ mostTransitions)
+counts : (h : Head) → countsOk (headerIs h) ≡ true → (1 ≤ h .types) × (h .types ≤ mostTypes) × (h .times ≤ mostTransitions)
 unfolding countsOk
 counts h e =
     let rest = leb 1 (h .chars) && (eqb (h .leaps) 0 && (zeroOr (h .types) (h .stds) && zeroOr (h .types) (h .uts))) in
     let p = and-both (isIn 1 mostTypes (h .types)) (leb (h .times) mostTransitions && rest) e in
     let q = and-both (leb (h .times) mostTransitions) rest (p .1) in
-    (leb-true _ _ (and-both (leb 1 (h .types)) (leb (h .types) mostTypes) (p .0) .0), leb-true _ _ (q .0))
+    let t = and-both (leb 1 (h .types)) (leb (h .types) mostTypes) (p .0) in
+    (leb-true _ _ (t .0), leb-true _ _ (t .1), leb-true _ _ (q .0))
 
 passed : (f : List ℕ) (b : ℕ) (h : Head) → blockOk f b h ≡ true → Passed f b h
 unfolding blockOk tablesOk
@@ -58,7 +61,7 @@ passed f b h e =
     let r = and-both (timesRise f b (h .times)) (kinds && (types && marks)) (q .1) in
     let s = and-both kinds (types && marks) (r .1) in
     let c = counts h (p .0) in
-    record { types = c .0; few = c .1; room = block-in f b h e; rise = r .0; kinds = s .0; fit = and-both types marks (s .1) .0 }
+    record { types = c .0; few-types = c .1; few = c .2; room = block-in f b h e; rise = r .0; kinds = s .0; fit = and-both types marks (s .1) .0 }
 
 module _ (f : List ℕ) (b : ℕ) (h : Head) (p : Passed f b h) where
   kind-below : (i : ℕ) → i < h .times → getD f (kindsAt b (h .times) + i) 0 < h .types
@@ -81,26 +84,39 @@ module _ (f : List ℕ) (b : ℕ) (h : Head) (p : Passed f b h) where
       rw z at (offset-fits 0 (p .types))
   passed-fits (suc i) l = offset-fits (getD f (kindsAt b (h .times) + i) 0) (kind-below i l)
 
-  passed-opened : Opened f (layoutAt f b h)
+  -- the header stands before the block
+  module _ (t : h .types ≡ be32 f (b - typesBefore)) (k : typesBefore ≤ b) where
+    passed-types : HasTypes f (layoutAt f b h)
+    unfolding layoutAt typeAt
+    passed-types = record {
+      behind-header = k;
+      few-types = omega (arith, t, p .few-types);
+      below = λ i l. omega (arith, t, kind-below i l);
+      types-fit = λ i l. offset-fits i (omega (arith, t)) .1;
+    }
+
+  passed-opened : h .types ≡ be32 f (b - typesBefore) → typesBefore ≤ b → Opened f (layoutAt f b h)
   unfolding layoutAt
-  passed-opened = record {
+  passed-opened t k = record {
     few = p .few;
     inside = omega (arith, p .room);
     types-inside = λ i l. omega (arith, kind-below i l, p .room);
     rise = p .rise;
     fit = passed-fits;
+    types = λ _. passed-types t k;
   }
 
 -- a usable file's layout
 usable-opened : (f : List ℕ) → usable f ≡ true → Opened f (layoutOf f)
-unfolding usable layoutOf
+unfolding usable layoutOf headAt
 usable-opened f e =
     let s = secondAt f in
     let block = blockOk f (s + 44) (headAt f s) in
     let same = eqb (getD f 4 0) (headAt f s .version) in
     let p = and-both (headOk f 0) (headOk f s && (same && block)) e in
     let q = and-both (headOk f s) (same && block) (p .1) in
-    passed-opened f (s + 44) (headAt f s) (passed f (s + 44) (headAt f s) (and-both same block (q .1) .1))
+    let a : s + 36 ≡ s + 44 - typesBefore = omega arith in
+    passed-opened f (s + 44) (headAt f s) (passed f (s + 44) (headAt f s) (and-both same block (q .1) .1)) (ap (be32 f) a) (omega arith)
 
 module _ (f : List ℕ) where
   -- what `read` answers of a usable file ..
@@ -250,6 +266,16 @@ module _ (f : List ℕ) (l : Layout) (o : Opened f l) where
       let e : countAt f l v ≡ l .count = count-is v (l .count) (omega arith) (λ j k. omega (arith, count-past u j (omega arith))) (λ k. absurd (omega arith)) in
       omega arith
 
+  -- the next transition's second counts one more
+  pub count-step : (u : ℕ) → countAt f l u < l .count → countAt f l (timeAt f l (countAt f l u)) ≡ countAt f l u + 1
+  unfolding timeAt
+  count-step u h =
+      let k = countAt f l u in
+      let behind : u < timeAt f l k = count-next u h in
+      count-is (timeAt f l k) (k + 1) (omega arith) (λ j a. times-rise j k (omega arith) h) (λ a.
+      let r : keyAt f (l .times) k < keyAt f (l .times) (k + 1) = ltb-true _ _ (all-at (risesAt (keyAt f (l .times))) (l .count - 1) k (o .rise) (omega arith)) in
+      omega arith)
+
   -- up to the next transition the offset is one
   pub table-run : (foot : Footer) (u : ℕ) → countAt f l u < l .count → Run (offsetAt (zoneAt f l foot)) u (timeAt f l (countAt f l u))
   table-run foot u h = record {
@@ -296,3 +322,57 @@ module _ (f : List ℕ) (l : Layout) (o : Opened f l) where
   offset-next {k} {kind} {v} {r} h i a b c =
       let z : k ≡ suc (k - 1) = omega arith in
       gives k r h (c ∙ ap typeOffset b ∙ ap (λ (m : ℕ). typeOffset (be32 f (typesAt (l .times) (l .count) + 6 * m))) a ∙ sym (ap (offsetAfter f l) z))
+
+-- ---- bounds of offsets
+
+-- where `table_bounds` is: bounds of the first offset and of those of i types, which stand from `at` on
+pub record Widening (f : List ℕ) (first at i : ℕ) (b : OffsetBounds) : Type 0 where
+  pub so-far : (j : ℕ) → j < i → (b .least ≤ typeOffset (be32 f (at + 6 * j))) × (typeOffset (be32 f (at + 6 * j)) ≤ b .greatest)
+  pub with-first : (b .least ≤ first) × (first ≤ b .greatest)
+  pub most : b .greatest ≤ greatestOffset
+
+pub widens-first : (f : List ℕ) {first : ℕ} (at : ℕ) → first ≤ greatestOffset → Widening f first at 0 (record { least = first; greatest = first })
+widens-first f at h = record { so-far = λ j k. absurd (omega arith); with-first = (omega arith, omega arith); most = h }
+
+pub widens : {f : List ℕ} {first at i o : ℕ} {b c : OffsetBounds} → Widening f first at i b → o ≡ typeOffset (be32 f (at + 6 * i)) → o ≤ greatestOffset
+    → (c .least ≡ min (b .least) o) × (c .greatest ≡ max (b .greatest) o) → Widening f first at (i + 1) c
+widens {f} {first} {at} {i} {o} {b} {c} w e h q = record {
+  so-far = λ j k. go j (decLt j i) k;
+  with-first = (omega (arith, q .0, w .with-first), omega (arith, q .1, w .with-first));
+  most = omega (arith, q .1, w .most);
+}
+  where
+    go : (j : ℕ) → Dec (j < i) → j < i + 1 → (c .least ≤ typeOffset (be32 f (at + 6 * j))) × (typeOffset (be32 f (at + 6 * j)) ≤ c .greatest)
+    go j (yes y) k = (omega (arith, q .0, w .so-far j y .0), omega (arith, q .1, w .so-far j y .1))
+    go j (no y) k =
+        let s : i ≡ j = omega arith in
+        let t : o ≡ typeOffset (be32 f (at + 6 * j)) = e ∙ ap (λ (m : ℕ). typeOffset (be32 f (at + 6 * m))) s in
+        (omega (arith, q .0, t), omega (arith, q .1, t))
+
+module _ (f : List ℕ) (l : Layout) where
+  pub first-most : {r : ℕ} → Opened f l → r ≡ l .initial → r ≤ greatestOffset
+  unfolding offsetAfter
+  first-most o e = omega (arith, e, o .fit 0 (omega arith) .1)
+
+  pub type-most : {i n r : ℕ} → Opened f l → 1 ≤ l .count → n ≡ typeCount f l → i < n → r ≡ typeOffset (be32 f (typesAt (l .times) (l .count) + 6 * i)) → r ≤ greatestOffset
+  unfolding typeAt
+  type-most {i} o c e h q = omega (arith, q, o .types c .types-fit i (omega (arith, e)))
+
+  -- a table without transitions has one offset
+  pub bounds-none : {b : OffsetBounds} → Opened f l → l .count ≡ 0 → b .least ≡ l .initial → b .greatest ≡ l .initial → TableBounds f l b
+  unfolding offsetAfter
+  bounds-none {b} o e p q = record { each = each; most = omega (arith, q, o .fit 0 (omega arith) .1) }
+    where
+      each : (k : ℕ) → k ≤ l .count → (b .least ≤ offsetAfter f l k) × (offsetAfter f l k ≤ b .greatest)
+      each zero h = (omega (arith, p), omega (arith, q))
+      each (suc k) h = absurd (omega arith)
+
+  -- those of all types are bounds of the table's offsets
+  pub bounds-all : {first i : ℕ} {b : OffsetBounds} → Opened f l → 1 ≤ l .count → first ≡ l .initial → typeCount f l ≤ i
+      → Widening f first (typesAt (l .times) (l .count)) i b → TableBounds f l b
+  unfolding offsetAfter
+  bounds-all {first} {i} {b} o c e n w = record { each = each; most = w .most }
+    where
+      each : (k : ℕ) → k ≤ l .count → (b .least ≤ offsetAfter f l k) × (offsetAfter f l k ≤ b .greatest)
+      each zero h = (omega (arith, e, w .with-first), omega (arith, e, w .with-first))
+      each (suc k) h = w .so-far (getD f (kindsAt (l .times) (l .count) + k) 0) (omega (arith, o .types c .below k h))

@@ -7,13 +7,21 @@ use Prim.Native.Nat.{ℕ, zero, suc, _+_, _*_, _≤_, _<_}
 use native.Mathlib.Omega.{arith}
 use lib.ListN.{length, getD}
 use Rattle.model.specs.Footer.{Footer, empty}
-use Rattle.model.specs.Tzif.{Zone, zoneWith, typeSize, mostTransitions}
+use Rattle.model.specs.Tzif.{Zone, zoneWith, typeSize, mostTransitions, mostTypes}
 use Rattle.model.specs.Offset.{offsetBias, greatestOffset}
 use Rattle.model.specs.Zone.{utc}
 use Rattle.big_endian.specs.Walk.{allFrom, countBelow, upTo}
 use Rattle.zone_tzif.specs.declared.Layout.{Layout}
 use Rattle.zone_tzif_block.specs.Parts.{kindsAt, typesAt, timesRise}
-use Rattle.zone_tzif.specs.Places.{timeAt, offsetAfter, changesFrom, tableAt}
+use Rattle.zone_tzif.specs.Places.{timeAt, typeAt, typesBefore, typeCount, offsetAfter, changesFrom, tableAt}
+use Rattle.zone_tzif.specs.declared.OffsetBounds.{OffsetBounds}
+
+-- what is known of a table's types: their number stands in the header before the block, and each has an offset that a zone may have
+pub record HasTypes (f : List ℕ) (l : Layout) : Type 0 where
+  pub behind-header : typesBefore ≤ l .times
+  pub few-types : typeCount f l ≤ mostTypes
+  pub below : (i : ℕ) → i < l .count → getD f (kindsAt (l .times) (l .count) + i) 0 < typeCount f l
+  pub types-fit : (i : ℕ) → i < typeCount f l → typeAt f l i ≤ greatestOffset
 
 -- the layout l is one of the file f
 pub record Opened (f : List ℕ) (l : Layout) : Type 0 where
@@ -24,6 +32,13 @@ pub record Opened (f : List ℕ) (l : Layout) : Type 0 where
   pub rise : timesRise f (l .times) (l .count) ≡ true
   -- each offset is one that a zone may have
   pub fit : (k : ℕ) → k ≤ l .count → (1 ≤ offsetAfter f l k) × (offsetAfter f l k ≤ greatestOffset)
+  -- a table that has transitions has types
+  pub types : 1 ≤ l .count → HasTypes f l
+
+-- no offset of the table is below the one bound or above the other, and no bound above what a zone may have
+pub record TableBounds (f : List ℕ) (l : Layout) (b : OffsetBounds) : Type 0 where
+  pub each : (k : ℕ) → k ≤ l .count → (b .least ≤ offsetAfter f l k) × (offsetAfter f l k ≤ b .greatest)
+  pub most : b .greatest ≤ greatestOffset
 
 -- the zone of a layout, given what the footer spells
 abbrev pub zoneAt : List ℕ → Layout → Footer → Zone
@@ -47,6 +62,7 @@ utc-opened f = record {
   types-inside = λ i h. absurd (omega arith);
   rise = refl;
   fit = fits;
+  types = λ h. absurd (omega arith);
 }
   where
     fits : (k : ℕ) → k ≤ 0 → (1 ≤ offsetAfter f utcLayout k) × (offsetAfter f utcLayout k ≤ greatestOffset)

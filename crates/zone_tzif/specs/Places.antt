@@ -48,6 +48,18 @@ readOf f = if usable f then R.Table (layoutOf f) else R.Unusable
 unfoldable pub timeAt : List ℕ → Layout → ℕ → ℕ
 timeAt f l i = keyAt f (l .times) i - (2 ^ 63 - epoch)
 
+-- the offset of type i
+unfoldable pub typeAt : List ℕ → Layout → ℕ → ℕ
+typeAt f l i = typeOffset (be32 f (typesAt (l .times) (l .count) + typeSize * i))
+
+-- how far before the block the header has the number of types
+abbrev pub typesBefore : ℕ
+typesBefore = 8
+
+-- how many types the header tells
+abbrev pub typeCount : List ℕ → Layout → ℕ
+typeCount f l = be32 f (l .times - typesBefore)
+
 -- the offset after k transitions
 unfoldable pub offsetAfter : List ℕ → Layout → ℕ → ℕ
 offsetAfter f l zero = l .initial

@@ -2,17 +2,20 @@
 // `read` decides once whether a file is usable and answers where its table and its footer stand; the lookups then read the file by place.
 // The footer's text is not read here: a caller parses it. What `read` and the lookups mean is in specs/, that it is the definitions' meaning in proofs/Bridge.antt.
 ghost use mathlib.Core.Path.{_≡_};
-ghost use Prim.Native.Nat.{_+_, _*_, _≤_, _<_};
+ghost use Prim.Native.Nat.{_+_, _*_, _≤_, _<_, min, max};
 ghost use lib.ListN.{length};
 ghost use Rattle.model.specs.Offset.{greatestOffset};
 ghost use Rattle.zone_tzif_head.specs.Heads.{SmallHead};
 ghost use Rattle.zone_tzif_block.specs.Parts.{blocksEnd, tailAt};
 ghost use Rattle.zone_tzif.specs.Places.{layoutAt, readOf, timeAt, offsetAfter};
-ghost use Rattle.zone_tzif.specs.Opened.{Opened, countAt, utcLayout};
+ghost use Rattle.zone_tzif.specs.Opened.{Opened, TableBounds, countAt, utcLayout};
 use zone_tzif_head::Head;
 
 // Where a file's version stands.
 const VERSION_AT: usize = 4;
+
+// How far before its block a header has the number of types.
+const TYPES_BEFORE: usize = 8;
 
 // The key of second 0, -10400-01-01T00:00:00Z: 2^63 less the second of 1970.
 const FIRST_KEY: u64 = 9223371646495255808;
@@ -25,6 +28,12 @@ pub struct Layout {
     pub initial: u32,
     pub line: usize,
     pub len: usize,
+}
+
+// The least and the greatest of some offsets.
+pub struct OffsetBounds {
+    pub least: u64,
+    pub greatest: u64,
 }
 
 // What `read` answers.
@@ -149,4 +158,41 @@ pub fn table_offset(f: &[u8], l: Layout, k: usize) -> u32
     let types = l.times + l.count * zone_tzif_block::TRANSITION_SIZE;
     let kind = big_endian::small_at(f, kinds + (k - 1));
     zone_tzif_block::offset_is(big_endian::be32_at(f, types + zone_tzif_head::TYPE_SIZE * kind))
+}
+
+// ---- bounds of the table's offsets
+
+// Bounds that hold for the offset o too.
+pub fn widened(b: OffsetBounds, o: u64) -> OffsetBounds
+    ensures { λ r. ⌜ (r .least ≡ min (b .least) o) × (r .greatest ≡ max (b .greatest) o) ⌝ }
+{
+    OffsetBounds {
+        least: number::minimum(b.least, o),
+        greatest: number::maximum(b.greatest, o),
+    }
+}
+
+// Bounds of the table's offsets: those of all types that the file has.
+pub fn table_bounds(f: &[u8], l: Layout) -> OffsetBounds
+    requires { ⌜ Opened (now f) l ⌝ }
+    ensures { λ r. ⌜ TableBounds (now (f .entry)) l r ⌝ }
+{
+    let first = number::u32_to_u64(l.initial);
+    let mut bounds = OffsetBounds {
+        least: first,
+        greatest: first,
+    };
+    if l.count == 0 {
+        return bounds;
+    }
+    let types = l.times + l.count * zone_tzif_block::TRANSITION_SIZE;
+    let n = big_endian::size_at(f, l.times - TYPES_BEFORE);
+    let mut i: usize = 0;
+    while i < n {
+        let at = types + zone_tzif_head::TYPE_SIZE * i;
+        let o = zone_tzif_block::offset_is(big_endian::be32_at(f, at));
+        bounds = widened(bounds, number::u32_to_u64(o));
+        i += 1;
+    }
+    bounds
 }
