@@ -126,7 +126,7 @@ plain p i h = go (p .sec) (p .ns) refl refl (i .small) (i .above) (i .below)
     low : down (p .sec) * second + down (p .ns) ≤ up (p .sec) * second + up (p .ns)
     low = let k = le-diff 0 0 (up (p .sec) * second + up (p .ns)) (down (p .sec) * second + down (p .ns)) (rw (pos-diff 0, nanos-diff p) at h) in omega arith
 
-    go : (s n : ℤ) → p .sec ≡ s → p .ns ≡ n → natAbs n < 1000000000 → (pos 0 <ℤ s → pos 0 ≤ℤ n) → (s <ℤ pos 0 → n ≤ℤ pos 0) → (n : ℕ) × Plain p n
+    go : (s n : ℤ) → p .sec ≡ s → p .ns ≡ n → natAbs n < second → (pos 0 <ℤ s → pos 0 ≤ℤ n) → (s <ℤ pos 0 → n ≤ℤ pos 0) → (n : ℕ) × Plain p n
     go (pos a) (pos b) e f k l m = (a * second + b, record { read = rw (e, f) (plain-read a b k); size = rw (e, f) })
     go (pos zero) (negsuc b) e f k l m = absurd (let x = rw (e, f) at low in omega arith)
     go (pos (suc a)) (negsuc b) e f k l m = absurd (l (ltZ-yes (lt→ltb 0 (suc a) (omega arith))) .le)
