@@ -1,25 +1,49 @@
 #!/bin/sh
-# Times every call: our code, and the original workclock over the stand-in for jiff, on the same books and questions.
+# Times every call: our code, the original workclock over jiff, and the original over the stand-in for jiff, on the same books and questions.
 #
-#   run.sh [MILLISECONDS]
+#   run.sh [MILLISECONDS [BOOK [CALL]]]
 #
-# MILLISECONDS (20) of processor time for each row of the table and each of the two, in each of eight rounds; the best batch counts, so that other
-# work on the machine disturbs little. Settings from the environment: ZONEINFO, where the zone files are (/usr/share/zoneinfo).
+# MILLISECONDS (20) of processor time for each row of the table and each that is timed, in each of eight rounds; the best batch counts, so that other
+# work on the machine disturbs little. BOOK and CALL choose rows. Settings from the environment: ZONEINFO, where the zone files are (/usr/share/zoneinfo);
+# JIFF, a folder that has jiff or where it is to be brought (target/jiff; compare/jiff.sh). Without jiff the stand-in alone is timed beside ours.
 # Builds target/staticlib/libbench_clock.a by `rt staticlib bench_clock`, unless it is newer than the code. Ends with 1 where answers differ.
 set -eu
 here=$(cd "$(dirname "$0")" && pwd)
 root=$(cd "$here/../.." && pwd)
 work=$(mktemp -d /tmp/bench_clock.XXXXXX)
 trap 'rm -r "$work"' EXIT
+# What compare/jiff.sh ends with where jiff can't be had.
+unreachable=3
 
 library=$root/target/staticlib/libbench_clock.a
 if [ ! -f "$library" ] || [ -n "$(find "$root/crates" -name '*.rt' -newer "$library" | head -n 1)" ]; then
     (cd "$root" && rt staticlib bench_clock >"$work/rt.out" 2>&1) || { tail -n 20 "$work/rt.out" >&2; exit 1; }
 fi
-cargo build --quiet --release --offline --manifest-path "$here/Cargo.toml" --target-dir "$root/target/bench_clock"
+
+build() {
+    cargo build --quiet --release --offline --target-dir "$root/target/bench_clock" "$@"
+}
+jiff=${JIFF:-$root/target/jiff}
+came=0
+"$root/compare/jiff.sh" "$jiff" >"$work/jiff" || came=$?
+if [ "$came" = 0 ]; then
+    mkdir -p "$root/target/bench_clock_jiff"
+    cp "$here/jiff.toml" "$root/target/bench_clock_jiff/Cargo.toml"
+    build --manifest-path "$root/target/bench_clock_jiff/Cargo.toml" --config 'source.crates-io.replace-with="unpacked"' \
+        --config "source.unpacked.directory=\"$(cd "$jiff" && pwd)/usr/share/cargo/registry\""
+    echo "jiff: $(sed 1d "$work/jiff" | paste -s -d ',' | sed 's/,/, /')"
+elif [ "$came" = "$unreachable" ]; then
+    build --manifest-path "$here/Cargo.toml"
+    echo "jiff: none; the original is timed over the stand-in alone"
+else
+    exit "$came"
+fi
+
 echo "load before: $(cut -d' ' -f1-3 /proc/loadavg)"
 bad=0
-"$root/target/bench_clock/release/clock" "${1:-20}" "${ZONEINFO:-/usr/share/zoneinfo}" || bad=$?
+time=${1:-20}
+[ $# = 0 ] || shift
+"$root/target/bench_clock/release/clock" "$time" "${ZONEINFO:-/usr/share/zoneinfo}" "$@" || bad=$?
 echo "Nanoseconds of processor time for one, best of several batches. Buffers were warm: a batch repeats one question on the same book and pack."
 echo "load after: $(cut -d' ' -f1-3 /proc/loadavg); $(nproc) processors, $(sed -n 's/^model name[^:]*: //p' /proc/cpuinfo | head -n 1)"
 exit $bad

@@ -1,21 +1,21 @@
-//! Times every call, ours and the original's, on the same books and questions.
+//! Times every call, ours and the original's, on the same books and questions:
+//! the original over the stand-in for jiff, and with the feature `real` over
+//! jiff itself too.
 //!
 //! Usage: clock MILLISECONDS [ZONEINFO [BOOK [CALL [WHO]]]]
 //!
 //! A batch asks one question again and again. The book is built once in a
-//! batch, by both, except where building is what is timed; a batch is so long
+//! batch, by each, except where building is what is timed; a batch is so long
 //! that this is at most a fiftieth of it. The best batch counts, in processor
-//! time: batches are repeated for MILLISECONDS of it, two at least, and the
-//! two take turns; and all rows are gone through eight times. BOOK and CALL
-//! choose rows; WHO (`ours` or `original`) runs only that one, in one batch.
-//! Ends with 1 where answers differ.
+//! time: batches are repeated for MILLISECONDS of it, two at least, and those
+//! that are timed take turns; and all rows are gone through eight times. BOOK
+//! and CALL choose rows; WHO (`ours`, `jiff` or `stand-in`) runs only that one,
+//! in one batch. Ends with 1 where answers differ, but for jiff's on made-up
+//! zones with changes a few minutes apart, which it reads in a way of its own.
 
 use std::hint::black_box;
 
-use bench::{books, calls, join, pack, Call, DAY, WEDNESDAY};
-use jiff::{SignedDuration, Timestamp};
-use workclock::book::build;
-use workclock::{Error, Schedule};
+use bench::{books, calls, close_books, close_zones, join, packed, zones, Call, Instant, DAY, SHORT, WEDNESDAY};
 
 /// Processor time that a batch takes at least, in nanoseconds.
 const BATCH: f64 = 1e6;
@@ -76,54 +76,30 @@ fn spent() -> f64 {
 enum Task {
     Ask(Call),
     Build,
+    /// The same, but what jiff has kept of the zones is thrown away before; ours and the stand-in keep nothing.
+    BuildAnew,
     /// From one instant to another, and how many numbers are lent to us beyond those that the stretches need.
-    List(Timestamp, Timestamp, usize),
+    List(Instant, Instant, usize),
 }
 
 struct Book {
+    title: &'static str,
     book: Vec<u8>,
     pack: Vec<u8>,
-}
-
-fn pair(at: Timestamp) -> [i64; 2] {
-    [at.floor_second(), at.floor_nanosecond().into()]
+    /// Its zone has changes a few minutes apart.
+    is_close: bool,
 }
 
 /// A call as our function takes it: its kind and four numbers.
 fn asked(call: Call) -> (u8, [i64; 4]) {
-    let four = |[a, b]: [i64; 2], [c, d]: [i64; 2]| [a, b, c, d];
+    let four = |[a, b]: Instant, [c, d]: Instant| [a, b, c, d];
     match call {
-        Call::Between(a, b) => (0, four(pair(a), pair(b))),
-        Call::Add(at, hours) => (1, four(pair(at), [hours * 3600, 0])),
-        Call::Sub(at, hours) => (2, four(pair(at), [hours * 3600, 0])),
-        Call::Next(at) => (3, four(pair(at), [0, 0])),
-        Call::Previous(at) => (4, four(pair(at), [0, 0])),
+        Call::Between(a, b) => (0, four(a, b)),
+        Call::Add(at, hours) => (1, four(at, [hours * 3600, 0])),
+        Call::Sub(at, hours) => (2, four(at, [hours * 3600, 0])),
+        Call::Next(at) => (3, four(at, [0, 0])),
+        Call::Previous(at) => (4, four(at, [0, 0])),
     }
-}
-
-fn refusal(error: &Error) -> i64 {
-    if matches!(error, Error::NoWorkingTime) { 6 } else { 7 }
-}
-
-/// The numbers of the original's answer, as ours writes them.
-fn answer(schedule: &Schedule, kind: u8, numbers: &mut [i64]) -> Result<(), Error> {
-    let first = Timestamp::constant(numbers[0], numbers[1] as i32);
-    let by = SignedDuration::new(numbers[2], numbers[3] as i32);
-    let moved = match kind {
-        0 => {
-            let time = schedule.between(first, Timestamp::constant(numbers[2], numbers[3] as i32));
-            [time.as_secs(), time.subsec_nanos().into()]
-        }
-        1 => pair(schedule.add(first, by)?),
-        2 => pair(schedule.sub(first, by)?),
-        _ => {
-            let period = if kind == 3 { schedule.next_period(first)? } else { schedule.previous_period(first)? };
-            numbers[2..].copy_from_slice(&pair(period.end));
-            pair(period.start)
-        }
-    };
-    numbers[..2].copy_from_slice(&moved);
-    Ok(())
 }
 
 /// A batch of COUNT: its time, and the numbers of the last answer.
@@ -141,7 +117,7 @@ fn ours(on: &Book, task: Task, count: usize, room: usize) -> Batch {
             }
             (spent() - since, work.split_off(4 * (count - 1)))
         }
-        Task::Build => {
+        Task::Build | Task::BuildAnew => {
             let mut work = vec![book.len() as u64; count];
             let since = spent();
             unsafe {
@@ -151,7 +127,7 @@ fn ours(on: &Book, task: Task, count: usize, room: usize) -> Batch {
             (spent() - since, vec![i64::from(work.iter().all(|&limit| limit > 10))])
         }
         Task::List(a, b, spare) => {
-            let ([a, b], [c, d]) = (pair(a), pair(b));
+            let ([a, b], [c, d]) = (a, b);
             let mut work = vec![-1; room + spare];
             let since = spent();
             unsafe {
@@ -167,46 +143,68 @@ fn ours(on: &Book, task: Task, count: usize, room: usize) -> Batch {
     }
 }
 
-fn built(on: &Book) -> Schedule {
-    build(&on.book, &on.pack).unwrap_or_else(|refusal| panic!("{refusal:?}"))
+/// The original over the stand-in: book and pack are read for each build.
+mod over_stand_in {
+    use jiff::{SignedDuration, Timestamp};
+    use workclock::book::Refusal;
+    use workclock::{Error, Schedule};
+
+    use super::{asked, black_box, spent, Batch, Book, Task};
+
+    fn build(on: &Book) -> Result<Schedule, Refusal> {
+        workclock::book::build(&on.book, &on.pack)
+    }
+
+    fn forget() {}
+
+    fn pair(at: Timestamp) -> [i64; 2] {
+        [at.floor_second(), at.floor_nanosecond().into()]
+    }
+
+    include!("original.rs");
 }
 
-fn original(on: &Book, task: Task, count: usize, _: usize) -> Batch {
-    match task {
-        Task::Ask(call) => {
-            let (kind, numbers) = asked(call);
-            let mut work = numbers.repeat(count);
-            let since = spent();
-            let schedule = built(on);
-            for place in work.chunks_mut(4) {
-                if let Err(error) = answer(&schedule, kind, place) {
-                    place[0] = refusal(&error);
-                }
-            }
-            (spent() - since, work.split_off(4 * (count - 1)))
-        }
-        Task::Build => {
-            let since = spent();
-            for _ in 0..count {
-                drop(black_box(build(black_box(&on.book), black_box(&on.pack))));
-            }
-            (spent() - since, vec![1])
-        }
-        Task::List(a, b, _) => {
-            let since = spent();
-            let schedule = built(on);
-            let mut found = Vec::new();
-            for _ in 0..count {
-                found = black_box(schedule.listing(black_box(a), black_box(b)));
-            }
-            let time = spent() - since;
-            let numbers = found.iter().flat_map(|&(start, end)| [pair(start), pair(end)].concat());
-            (time, numbers.collect())
-        }
+/// The original over jiff, which has the zones of all packs in its database: a build finds them there, read before.
+#[cfg(feature = "real")]
+mod over_jiff {
+    use jiff_real::{SignedDuration, Timestamp};
+    pub use workclock_real::book::lend;
+    use workclock_real::book::Refusal;
+    use workclock_real::{Error, Schedule};
+
+    use super::{asked, black_box, spent, Batch, Book, Task};
+
+    const NANO: i64 = 1_000_000_000;
+
+    fn build(on: &Book) -> Result<Schedule, Refusal> {
+        workclock_real::book::build_lent(&on.book)
     }
+
+    fn forget() {
+        jiff_real::tz::db().reset();
+    }
+
+    /// jiff rounds seconds towards zero.
+    fn pair(at: Timestamp) -> [i64; 2] {
+        let (second, nano) = (at.as_second(), at.subsec_nanosecond().into());
+        if nano < 0 { [second - 1, nano + NANO] } else { [second, nano] }
+    }
+
+    include!("original.rs");
 }
 
 type Run = fn(&Book, Task, usize, usize) -> Batch;
+
+/// The name of the original over jiff itself.
+const JIFF: &str = "jiff";
+
+/// Those that are timed; the last one's answers are what the others are compared with.
+const RUNS: &[(&str, Run)] = &[
+    ("ours", ours),
+    #[cfg(feature = "real")]
+    (JIFF, over_jiff::run),
+    ("stand-in", over_stand_in::run),
+];
 
 /// How many make a batch that is long enough.
 fn count_of(run: Run, on: &Book, task: Task, room: usize) -> usize {
@@ -219,67 +217,108 @@ fn count_of(run: Run, on: &Book, task: Task, room: usize) -> usize {
     count
 }
 
-/// A row of the table: what is timed, what the answer is, and the best of the batches so far, ours and the original's.
-struct Row<'a> {
-    book: &'static str,
-    call: &'static str,
-    on: &'a Book,
-    task: Task,
-    answer: Vec<i64>,
-    counts: [usize; 2],
-    best: [f64; 2],
+/// The best of one's batches so far, and whether all its answers were the ones wanted.
+struct Best {
+    run: Run,
+    count: usize,
+    time: f64,
     same: bool,
 }
 
-const RUNS: [Run; 2] = [ours, original];
+/// A row of the table: what is timed, what the answer is, and what each has done.
+struct Row<'a> {
+    on: &'a Book,
+    call: &'static str,
+    task: Task,
+    answer: Vec<i64>,
+    each: Vec<Best>,
+}
 
 impl<'a> Row<'a> {
-    fn new(book: &'static str, call: &'static str, on: &'a Book, task: Task) -> Row<'a> {
-        let (_, answer) = original(on, task, 1, 0);
-        let counts = RUNS.map(|run| count_of(run, on, task, answer.len()));
-        Row {
-            book,
-            call,
-            on,
-            task,
-            answer,
-            counts,
-            best: [f64::INFINITY; 2],
+    fn new(on: &'a Book, call: &'static str, task: Task) -> Row<'a> {
+        let (_, answer) = over_stand_in::run(on, task, 1, 0);
+        let best = |&(_, run): &(&str, Run)| Best {
+            run,
+            count: count_of(run, on, task, answer.len()),
+            time: f64::INFINITY,
             same: true,
-        }
+        };
+        let each = RUNS.iter().map(best).collect();
+        Row { on, call, task, answer, each }
     }
 
-    /// Batches for so many nanoseconds of processor time, two at least.
+    /// Batches for so many nanoseconds of processor time each, two at least.
     fn time(&mut self, budget: f64) {
+        let parts = self.each.len() as f64;
         let mut total = 0.0;
         let mut batches = 0;
         while total < budget || batches < 2 {
-            for (place, run) in RUNS.into_iter().enumerate() {
-                let count = self.counts[place];
-                let (time, numbers) = run(self.on, self.task, count, self.answer.len());
-                self.same &= numbers == self.answer;
-                self.best[place] = self.best[place].min(time / count as f64);
-                total += time / 2.0;
+            for best in &mut self.each {
+                let (time, numbers) = (best.run)(self.on, self.task, best.count, self.answer.len());
+                best.same &= numbers == self.answer;
+                best.time = best.time.min(time / best.count as f64);
+                total += time / parts;
             }
             batches += 1;
         }
     }
 
+    /// No answer differs that should not.
+    fn is_fine(&self) -> bool {
+        let mut all = self.each.iter().zip(RUNS);
+        all.all(|(best, (name, _))| best.same || self.on.is_close && *name == JIFF)
+    }
+
     fn show(&self) {
-        let [a, b] = self.best;
-        let told = if self.same { format!("{:.2}", a / b) } else { "answers differ".to_string() };
-        println!("| {} | {} | {a:.0} | {b:.0} | {told} |", self.book, self.call);
+        let ours = &self.each[0];
+        print!("| {} | {} | {:.0} |", self.on.title, self.call, ours.time);
+        for best in &self.each[1..] {
+            let differ = if ours.same && best.same { "" } else { " (answers differ)" };
+            print!(" {:.0} | {}{differ} |", best.time, ratio_text(ours.time / best.time));
+        }
+        println!();
     }
 }
 
+/// Two digits behind the point, more where these would be zeros.
+fn ratio_text(ratio: f64) -> String {
+    if ratio < 0.005 { format!("{ratio:.5}") } else { format!("{ratio:.2}") }
+}
+
 fn tasks() -> Vec<(&'static str, Task)> {
-    let until = Timestamp::constant(WEDNESDAY + 365 * DAY, 0);
-    let mut all = vec![("build", Task::Build)];
+    let (from, until) = ([WEDNESDAY, 0], [WEDNESDAY + 365 * DAY, 0]);
+    let mut all = vec![("build", Task::Build), ("build-anew", Task::BuildAnew)];
     all.extend(calls().into_iter().map(|(name, call)| (name, Task::Ask(call))));
     // With room for all stretches that 40 records can have, we need not count them before we write; with just enough we must.
-    all.push(("list-1-year", Task::List(Timestamp::constant(WEDNESDAY, 0), until, SPARE)));
-    all.push(("list-1-year-just-enough", Task::List(Timestamp::constant(WEDNESDAY, 0), until, 0)));
+    all.push(("list-1-year", Task::List(from, until, SPARE)));
+    all.push(("list-1-year-just-enough", Task::List(from, until, 0)));
     all
+}
+
+/// Books over the real zones, and over the made-up ones.
+fn all_books(real: &[u8], close: &[u8]) -> Vec<Book> {
+    let made = |title, records: Vec<Vec<u8>>, pack: &[u8], is_close| Book {
+        title,
+        book: join(&records),
+        pack: pack.to_vec(),
+        is_close,
+    };
+    let mut all: Vec<Book> = books().into_iter().map(|(title, records)| made(title, records, real, false)).collect();
+    all.extend(close_books().into_iter().map(|(title, records)| made(title, records, close, true)));
+    all
+}
+
+/// The made-up zones change for five days only, so that longer calls show nothing of it.
+fn is_row(on: &Book, call: &str) -> bool {
+    !on.is_close || call.starts_with("build") || SHORT.contains(&call)
+}
+
+fn show_head() {
+    print!("| Book | Call | Ours, ns |");
+    for (name, _) in &RUNS[1..] {
+        print!(" Over {name}, ns | Ours / over {name} |");
+    }
+    println!("\n|{}", "---|".repeat(1 + 2 * RUNS.len()));
 }
 
 fn main() -> std::io::Result<()> {
@@ -288,31 +327,36 @@ fn main() -> std::io::Result<()> {
         eprintln!("usage: clock MILLISECONDS [ZONEINFO [BOOK [CALL [WHO]]]]");
         std::process::exit(2);
     };
-    let pack = pack(told.get(1).map_or("/usr/share/zoneinfo", String::as_str))?;
+    let (real, close) = (zones(told.get(1).map_or("/usr/share/zoneinfo", String::as_str))?, close_zones());
+    #[cfg(feature = "real")]
+    let _lent = {
+        let owned = |(name, file): &(&str, Vec<u8>)| (name.as_bytes().to_vec(), file.clone());
+        over_jiff::lend(real.iter().chain(&close).map(owned).collect())
+    };
     let wanted = |place: usize, name: &str| told.get(place).is_none_or(|word| word == name);
-    let books: Vec<(&str, Book)> = books()
-        .into_iter()
-        .filter(|(title, _)| wanted(2, title))
-        .map(|(title, records)| (title, Book { book: join(&records), pack: pack.clone() }))
-        .collect();
-    let chosen = books.iter().flat_map(|(title, on)| tasks().into_iter().map(move |(name, task)| (*title, name, on, task)));
-    let chosen = chosen.filter(|(_, name, _, _)| wanted(3, name));
+    let books = all_books(&packed(&real), &packed(&close));
+    let chosen = books.iter().filter(|on| wanted(2, on.title));
+    let chosen = chosen.flat_map(|on| tasks().into_iter().map(move |(name, task)| (on, name, task)));
+    let chosen = chosen.filter(|(on, name, _)| is_row(on, name) && wanted(3, name));
     if let Some(who) = told.get(4) {
-        for (title, name, on, task) in chosen {
-            let run = RUNS[usize::from(who != "ours")];
-            println!("{title} {name} {:.0}", run(on, task, FEW, 4096).0 / FEW as f64);
+        let Some((_, run)) = RUNS.iter().find(|(name, _)| name == who) else {
+            eprintln!("clock: no {who} here");
+            std::process::exit(2);
+        };
+        for (on, name, task) in chosen {
+            println!("{} {name} {:.0}", on.title, run(on, task, FEW, 4096).0 / FEW as f64);
         }
         return Ok(());
     }
-    let mut rows: Vec<Row> = chosen.map(|(title, name, on, task)| Row::new(title, name, on, task)).collect();
+    let mut rows: Vec<Row> = chosen.map(|(on, name, task)| Row::new(on, name, task)).collect();
     for round in 0..ROUNDS {
-        for row in rows.iter_mut().filter(|row| round == 0 || row.best[0] < LONG) {
+        for row in rows.iter_mut().filter(|row| round == 0 || row.each[0].time < LONG) {
             row.time(budget * 1e6);
         }
     }
-    println!("| Book | Call | Ours, ns | Rust, ns | Ours / Rust |\n|---|---|---|---|---|");
+    show_head();
     rows.iter().for_each(Row::show);
-    if rows.iter().any(|row| !row.same) {
+    if !rows.iter().all(Row::is_fine) {
         std::process::exit(1);
     }
     Ok(())

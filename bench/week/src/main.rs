@@ -8,7 +8,7 @@
 //! processor time, and the two take turns. With BOOK and WHO (`ours` or
 //! `original`) only that one is run. Ends with 1 where answers differ.
 
-use bench::{all_limits, holidays, join, named, pack, shift, thirty, BERLIN, HOUR, MON_TO_FRI};
+use bench::{all_limits, holidays, join, named, pack, shift, thirty, Random, BERLIN, HOUR, MON_TO_FRI};
 use jiff::Timestamp;
 use workclock::book::build;
 
@@ -75,13 +75,8 @@ fn original(book: &[u8], pack: &[u8], weeks: &[i64]) -> (f64, Vec<i64>) {
 
 /// Seconds at random, the same in every run.
 fn weeks(count: usize) -> Vec<i64> {
-    let mut state: u64 = 1;
-    (0..count)
-        .map(|_| {
-            state = state.wrapping_mul(6_364_136_223_846_793_005).wrapping_add(1_442_695_040_888_963_407);
-            START + ((state >> 24) % SPAN) as i64
-        })
-        .collect()
+    let mut random = Random::new(1);
+    (0..count).map(|_| START + random.below(SPAN) as i64).collect()
 }
 
 fn main() -> std::io::Result<()> {

@@ -1,10 +1,5 @@
 //! Rule books, zone packs and calls to measure on.
 
-use std::hint::black_box;
-
-use jiff::{SignedDuration, Timestamp};
-use workclock::Schedule;
-
 pub const BERLIN: &str = "Europe/Berlin";
 pub const NEW_YORK: &str = "America/New_York";
 pub const MON_TO_FRI: u8 = 0b001_1111;
@@ -93,16 +88,21 @@ pub fn all_limits() -> Vec<Vec<u8>> {
     records
 }
 
-/// A pack of the two zones, from the files below ZONEINFO.
+/// A pack of names and zone files.
+pub fn packed(zones: &[(&str, Vec<u8>)]) -> Vec<u8> {
+    let record = |(name, file): &(&str, Vec<u8>)| [&[name.len() as u8], name.as_bytes(), file].concat();
+    join(&zones.iter().map(record).collect::<Vec<_>>())
+}
+
+/// The two zones, from the files below ZONEINFO.
+pub fn zones(zoneinfo: &str) -> std::io::Result<Vec<(&'static str, Vec<u8>)>> {
+    let read = |name| Ok((name, std::fs::read(std::path::Path::new(zoneinfo).join(name))?));
+    [BERLIN, NEW_YORK].into_iter().map(read).collect()
+}
+
+/// A pack of the two zones.
 pub fn pack(zoneinfo: &str) -> std::io::Result<Vec<u8>> {
-    let mut records = Vec::new();
-    for name in [BERLIN, NEW_YORK] {
-        let mut record = vec![name.len() as u8];
-        record.extend(name.bytes());
-        record.extend(std::fs::read(std::path::Path::new(zoneinfo).join(name))?);
-        records.push(record);
-    }
-    Ok(join(&records))
+    Ok(packed(&zones(zoneinfo)?))
 }
 
 /// Four books and their names.
@@ -129,19 +129,99 @@ pub fn books() -> Vec<(&'static str, Vec<Vec<u8>>)> {
     ]
 }
 
-/// What a call asks, as a query line has it.
+/// Numbers at random, the same in every run.
+pub struct Random(u64);
+
+impl Random {
+    pub fn new(seed: u64) -> Random {
+        Random(seed)
+    }
+
+    /// A number below MOST.
+    pub fn below(&mut self, most: u64) -> u64 {
+        self.0 = self.0.wrapping_mul(6_364_136_223_846_793_005).wrapping_add(1_442_695_040_888_963_407);
+        (self.0 >> 24) % most
+    }
+}
+
+/// Made-up zones whose offset changes as often as a file may tell it, 1 to 400 s
+/// apart, in less than five days from the day before the Wednesday on.
+pub const CLOSE_TWO: &str = "Close/Two";
+pub const CLOSE_ANY: &str = "Close/Any";
+pub const MOST_CHANGES: usize = 2048;
+pub const MOST_APART: u64 = 400;
+const CLOSE_START: i64 = WEDNESDAY - DAY;
+/// As many offsets as a file may have, and the largest one either way.
+const MOST_TYPES: usize = 256;
+const FARTHEST: i32 = 93_599;
+
+/// The header of a data block that has no leap records and no indicators.
+fn header(times: usize, types: usize, letters: usize) -> Vec<u8> {
+    let counts = [0, 0, 0, times, types, letters];
+    let counts = counts.map(|count| (count as u32).to_be_bytes()).concat();
+    [b"TZif2".as_slice(), &[0; 15], &counts].concat()
+}
+
+/// A zone file with an empty footer: when the offset changes, and to which of OFFSETS; the first of them holds before.
+fn zone_file(changes: &[(i64, u8)], offsets: &[i32]) -> Vec<u8> {
+    const NAME: &[u8] = b"AAA\0";
+    let kind = |offset: &i32| [offset.to_be_bytes().as_slice(), &[0, 0]].concat();
+    let mut file = [header(0, 1, NAME.len()), kind(&0), NAME.to_vec()].concat();
+    file.extend(header(changes.len(), offsets.len(), NAME.len()));
+    file.extend(changes.iter().flat_map(|(second, _)| second.to_be_bytes()));
+    file.extend(changes.iter().map(|(_, number)| number));
+    file.extend(offsets.iter().flat_map(kind));
+    file.extend(NAME);
+    file.extend(b"\n\n");
+    file
+}
+
+/// Changes to types that NUMBER tells for each place.
+fn close_changes(random: &mut Random, number: impl Fn(&mut Random, usize) -> u8) -> Vec<(i64, u8)> {
+    let mut second = CLOSE_START;
+    let change = |place| {
+        second += 1 + random.below(MOST_APART) as i64;
+        (second, number(random, place))
+    };
+    (0..MOST_CHANGES).map(change).collect()
+}
+
+/// The made-up zones: two offsets that take turns, and offsets at random.
+pub fn close_zones() -> Vec<(&'static str, Vec<u8>)> {
+    let two = close_changes(&mut Random::new(1), |_, place| (place as u8 + 1) % 2);
+    let mut random = Random::new(2);
+    let span = 2 * FARTHEST as u64 + 1;
+    let offsets: Vec<i32> = (0..MOST_TYPES).map(|_| random.below(span) as i32 - FARTHEST).collect();
+    let any = close_changes(&mut random, |random, _| random.below(MOST_TYPES as u64) as u8);
+    vec![(CLOSE_TWO, zone_file(&two, &[3600, 7200])), (CLOSE_ANY, zone_file(&any, &offsets))]
+}
+
+/// Office hours in the made-up zones.
+pub fn close_books() -> Vec<(&'static str, Vec<Vec<u8>>)> {
+    let office = |zone| vec![named(0, zone), shift(1, "", MON_TO_FRI, 9 * HOUR, 17 * HOUR)];
+    vec![("office-close-two", office(CLOSE_TWO)), ("office-close-any", office(CLOSE_ANY))]
+}
+
+/// An instant: its second, rounded down, and its nanoseconds.
+pub type Instant = [i64; 2];
+
+/// Both ends of the range.
+pub const FIRST: Instant = [-377_705_023_201, 0];
+pub const LAST: Instant = [253_402_207_200, 999_999_999];
+
+/// What a call asks, as a query line has it; durations in hours.
 #[derive(Clone, Copy)]
 pub enum Call {
-    Between(Timestamp, Timestamp),
-    Add(Timestamp, i64),
-    Sub(Timestamp, i64),
-    Next(Timestamp),
-    Previous(Timestamp),
+    Between(Instant, Instant),
+    Add(Instant, i64),
+    Sub(Instant, i64),
+    Next(Instant),
+    Previous(Instant),
 }
 
 impl Call {
     pub fn line(self) -> String {
-        let told = |at: Timestamp| format!("{} {}", at.floor_second(), at.floor_nanosecond());
+        let told = |[second, nano]: Instant| format!("{second} {nano}");
         match self {
             Call::Between(a, b) => format!("between {} {}\n", told(a), told(b)),
             Call::Add(at, hours) => format!("add {} {} 0\n", told(at), hours * 3600),
@@ -150,31 +230,22 @@ impl Call {
             Call::Previous(at) => format!("previous {}\n", told(at)),
         }
     }
-
-    /// Makes the call, for its time alone.
-    pub fn run(self, schedule: &Schedule) {
-        let hours = SignedDuration::from_hours;
-        match self {
-            Call::Between(a, b) => drop(black_box(schedule.between(a, b))),
-            Call::Add(at, time) => drop(black_box(schedule.add(at, hours(time)))),
-            Call::Sub(at, time) => drop(black_box(schedule.sub(at, hours(time)))),
-            Call::Next(at) => drop(black_box(schedule.next_period(at))),
-            Call::Previous(at) => drop(black_box(schedule.previous_period(at))),
-        }
-    }
 }
+
+/// The calls that look at one or two weeks.
+pub const SHORT: [&str; 5] = ["between-1-week", "add-8-h", "sub-8-h", "next", "previous"];
 
 /// The calls and their names.
 pub fn calls() -> Vec<(&'static str, Call)> {
-    let start = Timestamp::constant(WEDNESDAY, 0);
-    let until = |days: i64| Timestamp::constant(WEDNESDAY + days * DAY, 0);
-    let saturday = Timestamp::constant(SATURDAY, 0);
+    let start = [WEDNESDAY, 0];
+    let until = |days: i64| [WEDNESDAY + days * DAY, 0];
+    let saturday = [SATURDAY, 0];
     vec![
         ("between-1-week", Call::Between(start, until(7))),
         ("between-1-year", Call::Between(start, until(365))),
         ("between-10-years", Call::Between(start, until(3_652))),
         ("between-100-years", Call::Between(start, until(36_525))),
-        ("between-whole-range", Call::Between(Timestamp::MIN, Timestamp::MAX)),
+        ("between-whole-range", Call::Between(FIRST, LAST)),
         ("add-8-h", Call::Add(start, 8)),
         ("add-4000-h", Call::Add(start, 4_000)),
         ("sub-8-h", Call::Sub(start, 8)),

@@ -11,8 +11,10 @@ use std::hint::black_box;
 use std::path::Path;
 use std::time::{Duration, Instant};
 
-use bench::{books, calls, join, pack};
+use bench::{books, calls, join, pack, Call};
+use jiff::{SignedDuration, Timestamp};
 use workclock::book::build;
+use workclock::Schedule;
 
 /// How long a batch takes at least: short, so that some batch runs undisturbed.
 const BATCH: Duration = Duration::from_millis(1);
@@ -43,6 +45,19 @@ fn measure(mut call: impl FnMut()) -> u128 {
     }
 }
 
+/// Makes a call, for its time alone.
+fn make(call: Call, schedule: &Schedule) {
+    let at = |[second, nano]: [i64; 2]| Timestamp::constant(second, nano as i32);
+    let hours = SignedDuration::from_hours;
+    match call {
+        Call::Between(a, b) => drop(black_box(schedule.between(at(a), at(b)))),
+        Call::Add(a, time) => drop(black_box(schedule.add(at(a), hours(time)))),
+        Call::Sub(a, time) => drop(black_box(schedule.sub(at(a), hours(time)))),
+        Call::Next(a) => drop(black_box(schedule.next_period(at(a)))),
+        Call::Previous(a) => drop(black_box(schedule.previous_period(at(a)))),
+    }
+}
+
 fn main() -> std::io::Result<()> {
     let arguments: Vec<String> = std::env::args().skip(1).collect();
     let Some(folder) = arguments.first() else {
@@ -66,7 +81,7 @@ fn main() -> std::io::Result<()> {
         show("layout-and-build", measure(|| drop(black_box(build(&book, &pack)))));
         for (name, call) in calls() {
             std::fs::write(place.join(format!("{name}.txt")), call.line())?;
-            show(name, measure(|| call.run(&schedule)));
+            show(name, measure(|| make(call, &schedule)));
         }
     }
     Ok(())

@@ -4,7 +4,8 @@
 
 use jiff::civil::{Date, Time, Weekday};
 
-use crate::zones::{asked, lend, look_up, Lack};
+pub use crate::zones::lend;
+use crate::zones::{asked, look_up, Lack};
 use crate::{Break, Error, Holidays, Rule, Schedule, ScheduleBuilder, Weekdays, WorkDay};
 
 /// A refusal's number and place.
@@ -183,15 +184,17 @@ fn refused_zone(entries: &[Entry<'_>], default: Option<&Entry<'_>>) -> Refusal {
     refusals.next().expect("a zone that can't be had")
 }
 
-/// Builds a book over a pack, which is lent to jiff for the names in it.
-pub fn build(book: &[u8], pack: &[u8]) -> Result<Schedule, Refusal> {
+fn entries_of(book: &[u8]) -> Result<Vec<Entry<'_>>, Refusal> {
     let entries: Option<Vec<Entry<'_>>> =
         directory(book).and_then(|records| records.into_iter().map(read_entry).collect());
     let entries = entries.ok_or(Refusal(1, 0))?;
     if !within_limits(&entries) {
         return Err(Refusal(2, 0));
     }
-    let _lent = lend(read_pack(pack).ok_or(Refusal(3, 0))?);
+    Ok(entries)
+}
+
+fn schedule_of(entries: &[Entry<'_>]) -> Result<Schedule, Refusal> {
     let default = entries.iter().rev().find(|entry| matches!(entry.body, Body::Default));
     let mut builder = Schedule::builder();
     if let Some(entry) = default {
@@ -200,7 +203,19 @@ pub fn build(book: &[u8], pack: &[u8]) -> Result<Schedule, Refusal> {
     builder = entries.iter().filter_map(rule).fold(builder, ScheduleBuilder::rule);
     builder.build().map_err(|error| match error {
         Error::NoWorkingTime => Refusal(6, 0),
-        Error::UnknownZone { .. } => refused_zone(&entries, default),
+        Error::UnknownZone { .. } => refused_zone(entries, default),
         Error::OutOfRange => unreachable!("build never gives {error}"),
     })
+}
+
+/// Builds a book over a pack, which is lent to jiff for the names in it.
+pub fn build(book: &[u8], pack: &[u8]) -> Result<Schedule, Refusal> {
+    let entries = entries_of(book)?;
+    let _lent = lend(read_pack(pack).ok_or(Refusal(3, 0))?);
+    schedule_of(&entries)
+}
+
+/// Builds a book over the zones that were lent before.
+pub fn build_lent(book: &[u8]) -> Result<Schedule, Refusal> {
+    schedule_of(&entries_of(book)?)
 }
