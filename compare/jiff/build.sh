@@ -1,19 +1,21 @@
 #!/bin/sh
 # Builds the original over jiff itself, and the driver for zone files.
 #
-#   build.sh WORK
+#   build.sh WORK [PROFILE]
 #
-# Everything that is made goes to the folder WORK. jiff is taken from the folder
-# that JIFF tells (else WORK/jiff), and brought there first where it is not
-# (../jiff.sh). Prints the folder of the two programs, `answer` and `zone`. Ends
-# with 3 where jiff can't be had.
+# PROFILE is cargo's: `checked` (if not told), where overflows and assertions
+# stop a program, or `release`. Everything that is made goes to the folder WORK.
+# jiff is taken from the folder that JIFF tells (else WORK/jiff), and brought
+# there first where it is not (../jiff.sh). Prints the folder of the programs
+# `answer`, `zone` and `beyond`. Ends with 3 where jiff can't be had.
 set -eu
 
-if [ $# -ne 1 ]; then
-    echo "usage: build.sh WORK" >&2
+if [ $# -lt 1 ] || [ $# -gt 2 ]; then
+    echo "usage: build.sh WORK [PROFILE]" >&2
     exit 2
 fi
 here=$(cd "$(dirname "$0")" && pwd)
+profile=${2:-checked}
 mkdir -p "$1"
 work=$(cd "$1" && pwd)
 jiff=${JIFF:-$work/jiff}
@@ -26,7 +28,7 @@ cp "$here/Cargo.toml" "$work/real/jiff/Cargo.toml"
 ln -sfn "$here/src" "$work/real/jiff/src"
 ln -sfn "$here/../rust" "$work/real/rust"
 export CARGO_TARGET_DIR="$work/target-real"
-cargo build --quiet --offline --profile checked --manifest-path "$work/real/jiff/Cargo.toml" \
+cargo build --quiet --offline --profile "$profile" --manifest-path "$work/real/jiff/Cargo.toml" \
     --config 'source.crates-io.replace-with="unpacked"' \
     --config "source.unpacked.directory=\"$jiff/usr/share/cargo/registry\""
-echo "$CARGO_TARGET_DIR/checked"
+echo "$CARGO_TARGET_DIR/$profile"
