@@ -1,0 +1,128 @@
+"""The class that a difference between jiff and document 01 belongs to.
+
+A class says what in the zone file makes the two differ, not which is right:
+docs/DIFFERENCES.md has an input for each, with the sentence that decides. A
+difference that has none of these causes near it belongs to no class.
+"""
+
+import functools
+import os
+import sys
+
+sys.dont_write_bytecode = True  # no cache beside the sources
+sys.path.insert(0, os.path.join(os.path.dirname(os.path.abspath(__file__)), "..", "tools"))
+
+import second
+import zone_survey
+from second import DAY, FARTHEST
+from zone_ask import FIRST_S, LAST_S, REFUSED, local_of
+
+NO_CLASS = "no class"
+STRAYS = "a footer's change lies outside its year"
+TIE = "a footer's two changes at one instant"
+CLOSE = "two changes so close that local times of both overlap"
+BEYOND = "a transition beyond the range"
+EARLY = "a footer without transitions, before its first change of the year -9999"
+REACH = 2 * FARTHEST + 2  # how far from a local time its changes may lie
+
+
+@functools.lru_cache(maxsize=1)
+def zone_of(file):
+    return second.read_zone(file)
+
+
+@functools.lru_cache(maxsize=1)
+def judged(file):
+    return zone_survey.judge(file)
+
+
+def class_of(file, line, their, our, reason):
+    """The class of a line that jiff and document 01 answer differently."""
+    word = line.split()[0]
+    if our == REFUSED:
+        return f"{word}: taken by jiff, refused by document 01: {judged(file)}"
+    zone = zone_of(file)
+    if their == REFUSED:
+        return f"{word}: refused by jiff: {refused_for(zone, reason)}"
+    if word == "local":
+        return f"local: {of_local(zone, local_of(line))}"
+    at = int(line.split()[1])
+    if word == "change":
+        return f"change: {of_change(zone, at, int(their) if their != 'none' else None)}"
+    return f"offset: {of_instant(zone, at)}"
+
+
+def refused_for(zone, reason):
+    """jiff checks the footer against the last transition, and against those
+    that it works out itself up to 2037."""
+    if "inconsistency" not in reason:
+        return f"{NO_CLASS}: {reason}"
+    if not zone.times:
+        return "footer without transitions that disagrees with the changes worked out from it"
+    return "footer that disagrees with the last transition"
+
+
+def of_instant(zone, at):
+    if is_ruled(zone) and not zone.times and at < first_change(zone):
+        return EARLY
+    if at == LAST_S and any(time > LAST_S for time in zone.times):
+        return BEYOND
+    if is_ruled(zone) and (not zone.times or at >= zone.times[-1]):
+        return of_years(zone.footer, second.year_of(at // DAY))
+    return NO_CLASS
+
+
+def of_change(zone, at, told):
+    if told is not None and told <= at:
+        return "one that is past: no footer, and no transition is left"
+    if told == LAST_S and any(time > LAST_S for time in zone.times):
+        return BEYOND
+    if told is not None and zone.offset(told - 1) == zone.offset(told):
+        known = told in zone.times or told in (zone.footer.instants(told - 1, told) if zone.footer else ())
+        return "one that leaves the offset as it was" if known else of_instant(zone, told)
+    return of_instant(zone, at)
+
+
+def first_change(zone):
+    """The first change of a zone without transitions in the range."""
+    found = zone.changes(FIRST_S, FIRST_S + 800 * DAY)
+    return found[0] if found else LAST_S + 1
+
+
+def of_local(zone, local):
+    if is_ruled(zone) and not zone.times and local < first_change(zone) + FARTHEST:
+        return EARLY
+    found = [time for time in zone.times if abs(time - local) <= REACH]
+    found = sorted(set(found + zone.changes(local - REACH, local + REACH)))
+    if any(overlap(zone, *pair) for pair in zip(found, found[1:])):
+        return CLOSE
+    if any(time > LAST_S or time < FIRST_S for time in zone.times):
+        return BEYOND
+    return of_years(zone.footer, second.year_of(local // DAY)) if is_ruled(zone) else NO_CLASS
+
+
+def overlap(zone, one, two):
+    """Whether a local time is read or jumped over by both of two changes."""
+    return two + min(zone.offset(two - 1), zone.offset(two)) < one + max(zone.offset(one - 1), zone.offset(one))
+
+
+def is_ruled(zone):
+    return zone.footer is not None and zone.footer.daylight is not None
+
+
+def of_years(footer, year):
+    """What is odd about a footer's changes near a year, told in UTC (offsets,
+    and the changes that jiff works out up to 2037) and in local time."""
+    years = range(year - 2, year + 2)
+    instants = [at for near in years for at, _ in footer.of_year(near)]
+    if len(set(instants)) < len(instants):
+        return TIE
+    if any(second.year_of(at // DAY) != near for near in years for at in told(footer, near)):
+        return STRAYS
+    return NO_CLASS
+
+
+def told(footer, year):
+    """A year's changes, as instants and as local times by either offset."""
+    found = [at for at, _ in footer.of_year(year)]
+    return found + [at + offset for at in found for offset in footer.offsets()]

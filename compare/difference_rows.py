@@ -1,0 +1,220 @@
+"""The rows of docs/DIFFERENCES.md: an input each, what jiff or the original over
+it answers, what is answered here, and the sentence that decides."""
+
+import collections
+import struct
+import sys
+
+sys.dont_write_bytecode = True  # no cache beside the sources
+
+import generate
+from made_zones import offsets_file, zone_file
+from zone_ask import FIRST_S, LAST_S
+
+Row = collections.namedtuple("Row", "part what given line theirs ours decides")
+
+TAKEN = "Taken by jiff, refused here"
+REFUSED = "Refused by jiff, taken here"
+OTHER = "Answered otherwise"
+ALIKE = "Alike, though it may be doubted"
+NAMES = "Zone names"
+INSTANTS = "Instants beyond the range"
+PARTS = [TAKEN, REFUSED, OTHER, ALIKE, NAMES, INSTANTS]
+
+NO = "no 5"
+YEAR = 1_767_225_600  # 2026-01-01T00:00:00Z
+ENDLESS = "does not end"
+STOPS = "stops: an assertion fails"
+
+
+def quote(text):
+    return f'01: "{text}"'
+
+
+HOURS = quote("Hours in offsets and rule times go from 0 to 24.")
+POSIX = quote("A footer is empty or a POSIX TZ string.")
+VERSION = quote("'2' or '3', in both headers")
+SKIPPED = quote("its first data block skipped by its own counts")
+USABLE = "01's list of what a usable file has does not ask for it"
+LATEST = quote("the latest of all years' changes counts")
+TIE = quote("on a tie daylight time starts")
+THROUGHOUT = quote("With no transitions the footer rules throughout, or type 0.")
+BEFORE = quote("type 0 before the first transition")
+EARLIEST = quote("a local time takes the earliest instant that reads so")
+JUMPED = quote("take the earliest change that jumps over it and use the offset before it")
+PAST = quote("looked for past both ends of the range too")
+CHANGES = quote("no work or break zone changes offset in it")
+PACK = quote("zone not in pack")
+FIRST_MATCH = quote("The finder hands back the TZif part of the lent pack itself.")
+RANGE = quote("instant or its nanoseconds out of range")
+
+ROWS = []
+
+
+def zone(part, what, file, line, theirs, ours, decides):
+    ROWS.append(Row(part, what, file, line, theirs, ours, decides))
+
+
+def footed(part, text, line, theirs, ours, decides, version=b"2"):
+    what = f"footer `{text}`, version {version.decode()}"
+    file = zone_file(footer=text.encode(), versions=2 * version)
+    zone(part, what, file, line, theirs, ours, decides)
+
+
+def taken_footers():
+    at = f"offset {YEAR}"
+    for version in (b"2", b"3"):
+        footed(TAKEN, "AAA0BBB,0/25,1", at, "0", NO, HOURS, version)
+        footed(TAKEN, "AAA0BBB,0/167:59:59,1", at, "3600", NO, HOURS, version)
+        footed(TAKEN, "AAA0BBB,0/-1,1", at, "3600", NO, POSIX, version)
+        footed(TAKEN, "AAA0BBB,0/+1,1", at, "0", NO, POSIX, version)
+        footed(TAKEN, "AAA0BBB,0/000,1", at, "3600", NO, POSIX, version)
+    footed(TAKEN, "IST-2IDT,M3.4.4/26,M10.5.0", at, "7200", NO, HOURS, b"3")
+    footed(TAKEN, "EET-2EEST,M3.4.4/50,M10.4.4/50", at, "7200", NO, HOURS, b"3")
+    footed(TAKEN, "<-02>2<-01>,M3.5.0/-1,M10.5.0/0", at, "-7200", NO, POSIX, b"3")
+
+
+def taken_files():
+    at, two = "offset 0", ((0, 0, 0), (3600, 0, 0))
+    first = ((0, 0, 0, 0, 1, 4), struct.pack(">iBB", 3600, 0, 0) + b"AAA\0")
+    for versions, title in ((b"11", "'1'"), (b"44", "'4'"), (b"23", "'2', then '3'")):
+        zone(TAKEN, f"version {title} in the headers", zone_file(versions=versions), at, "0", NO, VERSION)
+    zone(TAKEN, "version NUL in the first header, whose block has the offset 3600; jiff reads that block alone",
+         zone_file(versions=b"\0002", first=first), at, "3600", NO, VERSION)
+    leap = struct.pack(">qi", 78_796_800, 1)
+    zone(TAKEN, "a leap record: 78796800, 1", zone_file(leaps=leap), at, "0", NO, quote("no leap records"))
+    zone(TAKEN, "a byte behind the footer", zone_file(behind=b"\0"), at, "0", NO,
+         quote("then newline, footer, newline and nothing behind"))
+    ascending = quote("at most 2,048 transitions strictly ascending")
+    zone(TAKEN, "two transitions at 0, to 0 and to 3600", zone_file(two, [(0, 0), (0, 1)]), at, "3600", NO, ascending)
+    zone(TAKEN, "transitions at 1 to 3600 and at 0 to 0", zone_file(two, [(1, 1), (0, 0)]), "offset 1", "0", NO, ascending)
+    many = [(second, second % 2) for second in range(2049)]
+    zone(TAKEN, "2,049 transitions", zone_file(two, many), at, "0", NO, ascending)
+    zone(TAKEN, "257 types", zone_file(((0, 0, 0),) * 257), at, "0", NO, quote("1 to 256 types"))
+    zone(TAKEN, "a daylight flag of 2", zone_file(((0, 2, 0),)), at, "0", NO, quote("flags 0 or 1"))
+
+
+def refused_files():
+    at = "offset 0"
+    blocks = [("no type and no name", ((0, 0, 0, 0, 0, 0), b"")), ("a type and no name", ((0, 0, 0, 0, 1, 0), bytes(6)))]
+    blocks.append(("one type and two standard indicators", ((0, 2, 0, 0, 1, 4), bytes(6) + b"AAA\0\0\0")))
+    for title, block in blocks:
+        zone(REFUSED, f"first data block with {title}", zone_file(first=block), at, NO, "0", SKIPPED)
+    zone(REFUSED, "a name without NUL: `AAA`", zone_file(letters=b"AAA"), at, NO, "0", USABLE)
+    zone(REFUSED, "a name that is not UTF-8: FF 00", zone_file(letters=b"\xff\0"), at, NO, "0", USABLE)
+    zone(REFUSED, "a name of 256 letters, then NUL", zone_file(letters=256 * b"A" + b"\0"), at, NO, "0", USABLE)
+    zone(REFUSED, "a UT indicator of 1, no standard indicators", zone_file(uts=b"\1"), at, NO, "0", USABLE)
+    zone(REFUSED, "a UT indicator of 1, its standard indicator 0", zone_file(stds=b"\0", uts=b"\1"), at, NO, "0", USABLE)
+    zone(REFUSED, "offsets 0, then 3600 from 0 on; footer `AAA0`", offsets_file([0, 3600], [0], b"AAA0"), at, NO, "0", USABLE)
+    zone(REFUSED, "a transition at 0 to a daylight type of offset 0; footer `AAA0`",
+         zone_file(((0, 1, 0),), [(0, 0)], b"AAA0"), at, NO, "0", USABLE)
+    zone(REFUSED, "a transition at 0 to a type named AAA; footer `BBB0`", zone_file(changes=[(0, 0)], footer=b"BBB0"),
+         at, NO, "0", USABLE)
+    zone(REFUSED, "footer of 256 letters A and `0`", zone_file(footer=256 * b"A" + b"0"), at, NO, "0", POSIX)
+    footed(REFUSED, "XXX-2<+01>-1,0/0,J365/23", at, NO, "3600", TIE)
+
+
+def footer_answers():
+    footed(OTHER, "AAA0BBB,0/0,0/1", f"offset {YEAR}", "0", "3600", TIE)
+    footed(OTHER, "XXX3EDT4,0/0,J365/23", f"offset {YEAR}", "-10800", "-14400", TIE)
+    footed(OTHER, "AAA-1BBB,0/0,1/0", f"offset {YEAR - 3600}", "3600", "7200", LATEST)
+    footed(OTHER, "AAA-1BBB,0/0,1/0", f"change {YEAR - 7200}", str(YEAR), str(YEAR - 3600), LATEST)
+    footed(OTHER, "AAA0BBB,1/0,365/0", f"offset {YEAR - 1}", "3600", "0", LATEST)
+    footed(OTHER, "AAA0BBB,1,365", "local 2026 1 1 0", f"{YEAR} 0", f"{YEAR - 3600} 0", LATEST)
+    footed(OTHER, "AAA24:59:59BBB,365/24:59:59,365/24:59:58", f"offset {YEAR}", "-89999", "-86399", LATEST)
+    file = zone_file(((3600, 0, 0),), footer=b"AAA0BBB,364/0,365/0")
+    what = "type of offset 3600, footer `AAA0BBB,364/0,365/0`"
+    zone(OTHER, what, file, f"offset {FIRST_S}", "3600", "0", THROUGHOUT)
+    zone(OTHER, what, file, "local -9999 6 1 0", "-377692074000 0", "-377692070400 0", THROUGHOUT)
+
+
+def table_answers():
+    monday = 1_767_571_200
+    zone(OTHER, "offsets 0, then 2 from 0 on, then 0 from 1 on", offsets_file([0, 2, 0], [0, 1]), "local 1970 1 1 1",
+         "-1 0", "1 0", EARLIEST)
+    zone(OTHER, "offsets 2, then 1 from 0 on, then 0 from 1 on", offsets_file([2, 1, 0], [0, 1]), "local 1970 1 1 1",
+         "0 0", "-1 0", EARLIEST)
+    zone(OTHER, "offsets 7200, then 3600 from 2026-01-05T10:00Z on, then 0 from 10:45Z on",
+         offsets_file([7200, 3600, 0], [monday + 36_000, monday + 38_700]), "local 2026 1 5 41400",
+         "1767609000 0", "1767605400 0", EARLIEST)
+    zone(OTHER, "offsets 0, then 7200 from 2026-01-05T10:00:00Z on, -3600 from 10:00:01Z on, 10800 from 10:30Z on",
+         offsets_file([0, 7200, -3600, 10_800], [monday + 36_000, monday + 36_001, monday + 37_800]),
+         "local 2026 1 5 39600", "1767614400 0", "1767610800 0", JUMPED)
+
+
+def range_answers():
+    file = offsets_file([0, 3600], [LAST_S + 1])
+    what = "offsets 0, then 3600 from the second behind the last instant on"
+    zone(OTHER, what, file, f"offset {LAST_S}", "3600", "0", BEFORE)
+    zone(OTHER, what, file, "local 9999 12 30 82800", f"{LAST_S} 0", f"{LAST_S} 999999999", PAST)
+    zone(OTHER, "the same with the transition at 2^63-1", offsets_file([0, 3600], [2**63 - 1]), f"offset {LAST_S}",
+         "3600", "0", BEFORE)
+    zone(OTHER, "offsets 0, then 3600 from the second before the first instant on", offsets_file([0, 3600], [FIRST_S - 1]),
+         "local -9999 1 2 10798", "-377705019602 0", f"{FIRST_S} 0", PAST)
+    zone(OTHER, "offsets 7200, then 0 from the second before the first instant on", offsets_file([7200, 0], [FIRST_S - 1]),
+         "local -9999 1 2 14398", f"{FIRST_S} 0", "-377705016002 0", PAST)
+
+
+def change_answers():
+    zone(OTHER, "no transitions, empty footer", offsets_file([0]), "change 0", str(FIRST_S), "none", CHANGES)
+    zone(OTHER, "offsets 0, then 3600 from 0 on, empty footer", offsets_file([0, 3600], [0]), "change 5", "0", "none", CHANGES)
+    zone(OTHER, "offsets 0, then 0 from 0 on, empty footer", offsets_file([0, 0], [0]), "change -1", "0", "none", CHANGES)
+    footed(OTHER, "AAA0BBB0,1,2", "change 0", "93600", "none", CHANGES)
+    zone(OTHER, "offsets 0, then 3600 from the second behind the last instant on", offsets_file([0, 3600], [LAST_S + 1]),
+         "change 0", str(LAST_S), "none", CHANGES)
+
+
+def alike():
+    at = f"offset {YEAR}"
+    for version in (b"2", b"3"):
+        for text in ("EST005", "EST5:3", "<A_A>0", "<AA>0", "AAA25", "AAA24:60", "AAA--1", "AAA0BBB", ":AAA0"):
+            footed(ALIKE, text, at, NO, NO, POSIX if text not in ("AAA25",) else HOURS, version)
+        for text in ("AAA0BBB,0/168,1", "AAA0BBB,0001,1", "AAA0BBB,0,366", "AAA0BBB,J0,1", "AAA0BBB,M1.01.0,1"):
+            footed(ALIKE, text, at, NO, NO, HOURS if "168" in text else POSIX, version)
+        for text, offset in (("<+01>-1", "3600"), ("<A-1>1", "-3600"), ("AAA+1", "-3600"), ("AAA24:59:59", "-89999")):
+            footed(ALIKE, text, at, offset, offset, POSIX, version)
+        footed(ALIKE, "AAA-24:59:59BBB,0,1", at, "93599", "93599", HOURS, version)
+    bounds = quote("offsets from -93,599 to 93,599 s")
+    for offset in (93_599, -93_599):
+        zone(ALIKE, f"offset {offset}", offsets_file([offset]), at, str(offset), str(offset), bounds)
+    for offset in (93_600, -93_600):
+        zone(ALIKE, f"offset {offset}", offsets_file([offset]), at, NO, NO, bounds)
+    zone(ALIKE, "a UT indicator of 0, no standard indicators", zone_file(uts=b"\0"), at, "0", "0", USABLE)
+    zone(ALIKE, "footer `BBB1` without transitions, a type named AAA", zone_file(footer=b"BBB1"), at, "-3600", "-3600", THROUGHOUT)
+
+
+def books():
+    """Rows about names: the office's work record with a zone's name."""
+    line = "next 1768039200 0"  # Saturday 2026-01-10T10:00Z
+    utc, west = "ok 1768208400 0 1768237200 0", "ok 1768204800 0 1768233600 0"
+    ahead = generate.pack_record(b"UTC", offsets_file([3600]))
+    rows = [("UTC", [], "no 4 12"), ("utc", [], "no 4 12"), ("Etc/Unknown", [], "no 4 12"), ("UTC", [ahead], west)]
+    for name, pack, ours in rows:
+        told = "a file of offset 3600 under that name" if pack else "nothing"
+        book = generate.join([generate.shift(1, name.encode(), 0x1F, (32_400, 0), (61_200, 0))])
+        what = f'office hours in "{name}", the pack has {told}'
+        ROWS.append(Row(NAMES, what, (book, generate.join(pack)), line, utc, ours, FIRST_MATCH if pack else PACK))
+    for name in ("Etc/UTC", "Not/There"):
+        book = generate.join([generate.shift(1, name.encode(), 0x1F, (32_400, 0), (61_200, 0))])
+        what = f'office hours in "{name}", the pack has nothing'
+        ROWS.append(Row(NAMES, what, (book, generate.join([])), line, "no 4 12", "no 4 12", PACK))
+
+
+def instants():
+    """Rows about instants beyond the range: profile, the word of `beyond` and
+    the second; the line that asks for the same here."""
+    late, early = LAST_S + 1, FIRST_S - 1
+    rows = [("checked", "make", late, STOPS, f"next {late} 0"), ("release", "make", late, f"ok {late}", f"next {late} 0")]
+    rows += [("release", "next", late, "no", f"next {late} 0"), ("release", "add", late, "no", f"add {late} 0 1 0")]
+    rows += [("release", "previous", late, "ok 253402160400 253402189200", f"previous {late} 0")]
+    rows += [("release", "between", late, ENDLESS, f"between {LAST_S} 999999999 {late} 0")]
+    rows += [("release", "next", early, "ok -377704998000 -377704969200", f"next {early} 0")]
+    for profile, word, second, theirs, line in rows:
+        what = f"`Timestamp::from_nanosecond` of {second} s, {profile} build, `{word}`"
+        ROWS.append(Row(INSTANTS, what, (profile, word, second), line, theirs, "no 8 0", RANGE))
+
+
+for fill in (taken_footers, taken_files, refused_files, footer_answers, table_answers, range_answers, change_answers):
+    fill()
+for fill in (alike, books, instants):
+    fill()
