@@ -1,5 +1,8 @@
 """The rows of docs/DIFFERENCES.md: an input each, what jiff or the original over
-it answers, what is answered here, and the sentence that decides."""
+it answers, what is answered here, and the sentence that decides.
+
+`given` is a list of zone files, which are all answered alike; in the last two
+parts it is a book and a pack, or a profile, a word and a second of `beyond`."""
 
 import collections
 import struct
@@ -25,6 +28,7 @@ NO = "no 5"
 YEAR = 1_767_225_600  # 2026-01-01T00:00:00Z
 ENDLESS = "does not end"
 STOPS = "stops: an assertion fails"
+TITLES = {"checked": "built with assertions", "release": "built without"}
 
 
 def quote(text):
@@ -38,10 +42,10 @@ SKIPPED = quote("its first data block skipped by its own counts")
 USABLE = "01's list of what a usable file has does not ask for it"
 LATEST = quote("the latest of all years' changes counts")
 TIE = quote("on a tie daylight time starts")
-THROUGHOUT = quote("With no transitions the footer rules throughout, or type 0.")
-BEFORE = quote("type 0 before the first transition")
-EARLIEST = quote("a local time takes the earliest instant that reads so")
-JUMPED = quote("take the earliest change that jumps over it and use the offset before it")
+THROUGHOUT = quote("With no transitions the footer rules throughout, or type 0.") + "; RFC 8536, 3.2"
+BEFORE = quote("type 0 before the first transition") + "; RFC 8536, 3.2"
+EARLIEST = quote("a local time takes the earliest instant that reads so") + "; RFC 5545, 3.3.5"
+JUMPED = quote("take the earliest change that jumps over it and use the offset before it") + "; RFC 5545, 3.3.5"
 PAST = quote("looked for past both ends of the range too")
 CHANGES = quote("no work or break zone changes offset in it")
 PACK = quote("zone not in pack")
@@ -52,26 +56,25 @@ ROWS = []
 
 
 def zone(part, what, file, line, theirs, ours, decides):
-    ROWS.append(Row(part, what, file, line, theirs, ours, decides))
+    ROWS.append(Row(part, what, [file], line, theirs, ours, decides))
 
 
-def footed(part, text, line, theirs, ours, decides, version=b"2"):
-    what = f"footer `{text}`, version {version.decode()}"
-    file = zone_file(footer=text.encode(), versions=2 * version)
-    zone(part, what, file, line, theirs, ours, decides)
+def footed(part, text, line, theirs, ours, decides):
+    """A footer alone, in files of version 2 and of version 3."""
+    files = [zone_file(footer=text.encode(), versions=versions) for versions in (b"22", b"33")]
+    ROWS.append(Row(part, f"footer `{text}`", files, line, theirs, ours, decides))
 
 
 def taken_footers():
     at = f"offset {YEAR}"
-    for version in (b"2", b"3"):
-        footed(TAKEN, "AAA0BBB,0/25,1", at, "0", NO, HOURS, version)
-        footed(TAKEN, "AAA0BBB,0/167:59:59,1", at, "3600", NO, HOURS, version)
-        footed(TAKEN, "AAA0BBB,0/-1,1", at, "3600", NO, POSIX, version)
-        footed(TAKEN, "AAA0BBB,0/+1,1", at, "0", NO, POSIX, version)
-        footed(TAKEN, "AAA0BBB,0/000,1", at, "3600", NO, POSIX, version)
-    footed(TAKEN, "IST-2IDT,M3.4.4/26,M10.5.0", at, "7200", NO, HOURS, b"3")
-    footed(TAKEN, "EET-2EEST,M3.4.4/50,M10.4.4/50", at, "7200", NO, HOURS, b"3")
-    footed(TAKEN, "<-02>2<-01>,M3.5.0/-1,M10.5.0/0", at, "-7200", NO, POSIX, b"3")
+    footed(TAKEN, "AAA0BBB,0/25,1", at, "0", NO, HOURS)
+    footed(TAKEN, "AAA0BBB,0/167:59:59,1", at, "3600", NO, HOURS)
+    footed(TAKEN, "AAA0BBB,0/-1,1", at, "3600", NO, POSIX)
+    footed(TAKEN, "AAA0BBB,0/+1,1", at, "0", NO, POSIX)
+    footed(TAKEN, "AAA0BBB,0/000,1", at, "3600", NO, POSIX)
+    footed(TAKEN, "IST-2IDT,M3.4.4/26,M10.5.0", at, "7200", NO, HOURS)
+    footed(TAKEN, "EET-2EEST,M3.4.4/50,M10.4.4/50", at, "7200", NO, HOURS)
+    footed(TAKEN, "<-02>2<-01>,M3.5.0/-1,M10.5.0/0", at, "-7200", NO, POSIX)
 
 
 def taken_files():
@@ -166,14 +169,16 @@ def change_answers():
 
 def alike():
     at = f"offset {YEAR}"
-    for version in (b"2", b"3"):
-        for text in ("EST005", "EST5:3", "<A_A>0", "<AA>0", "AAA25", "AAA24:60", "AAA--1", "AAA0BBB", ":AAA0"):
-            footed(ALIKE, text, at, NO, NO, POSIX if text not in ("AAA25",) else HOURS, version)
-        for text in ("AAA0BBB,0/168,1", "AAA0BBB,0001,1", "AAA0BBB,0,366", "AAA0BBB,J0,1", "AAA0BBB,M1.01.0,1"):
-            footed(ALIKE, text, at, NO, NO, HOURS if "168" in text else POSIX, version)
-        for text, offset in (("<+01>-1", "3600"), ("<A-1>1", "-3600"), ("AAA+1", "-3600"), ("AAA24:59:59", "-89999")):
-            footed(ALIKE, text, at, offset, offset, POSIX, version)
-        footed(ALIKE, "AAA-24:59:59BBB,0,1", at, "93599", "93599", HOURS, version)
+    for text in ("EST005", "EST5:3", "<A_A>0", "<AA>0", "AA0", ":AAA0", "AAA24:60", "AAA--1", "AAA0BBB"):
+        footed(ALIKE, text, at, NO, NO, POSIX)
+    for text in ("AAA0BBB,0001,1", "AAA0BBB,0,366", "AAA0BBB,J0,1", "AAA0BBB,M1.01.0,1", "AAA0BBB,0/1:2,1"):
+        footed(ALIKE, text, at, NO, NO, POSIX)
+    for text in ("AAA25", "AAA0BBB,0/168,1"):
+        footed(ALIKE, text, at, NO, NO, HOURS)
+    for text, offset in (("<+01>-1", "3600"), ("<A-1>1", "-3600"), ("AAA+1", "-3600")):
+        footed(ALIKE, text, at, offset, offset, POSIX)
+    for text, offset in (("AAA24:59:59", "-89999"), ("AAA-24:59:59BBB,0,1", "93599"), ("AAA0BBB,0/24:59:59,1", "0")):
+        footed(ALIKE, text, at, offset, offset, HOURS)
     bounds = quote("offsets from -93,599 to 93,599 s")
     for offset in (93_599, -93_599):
         zone(ALIKE, f"offset {offset}", offsets_file([offset]), at, str(offset), str(offset), bounds)
@@ -210,7 +215,8 @@ def instants():
     rows += [("release", "between", late, ENDLESS, f"between {LAST_S} 999999999 {late} 0")]
     rows += [("release", "next", early, "ok -377704998000 -377704969200", f"next {early} 0")]
     for profile, word, second, theirs, line in rows:
-        what = f"`Timestamp::from_nanosecond` of {second} s, {profile} build, `{word}`"
+        call = f"`Timestamp::from_nanosecond` of {second} s"
+        what = f"{call}, {TITLES[profile]}" + ("" if word == "make" else f", then `{word}`")
         ROWS.append(Row(INSTANTS, what, (profile, word, second), line, theirs, "no 8 0", RANGE))
 
 

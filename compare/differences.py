@@ -53,6 +53,11 @@ def beyond(folder, profile, word, second):
     return STOPS if ran.returncode == STOPPED else ran.stdout.strip()
 
 
+def joined(answers):
+    """The answer that all files of a row give, or all of them."""
+    return " or ".join(dict.fromkeys(answers))
+
+
 class Programs:
     def __init__(self, folder, calls, clock):
         self.folder = folder
@@ -66,13 +71,13 @@ class Programs:
             return beyond(self.folder, *row.given)
         if row.part == NAMES:
             return run([os.path.join(self.folder, "checked", "answer")], row.line, *row.given)
-        return self.jiff.ask(row.given, [row.line])[0]
+        return joined(self.jiff.ask(file, [row.line])[0] for file in row.given)
 
     def ours(self, row):
         """The answers of second.py and of this product's program, if told."""
         if row.part not in (INSTANTS, NAMES):
             found = [self.second, self.calls] if self.calls else [self.second]
-            return [one.ask(row.given, [row.line])[0] for one in found]
+            return [joined(one.ask(file, [row.line])[0] for file in row.given) for one in found]
         given = row.given if row.part == NAMES else (OFFICE, bytes(4))
         found = [[sys.executable, os.path.join(HERE, "second.py")]] + ([self.clock] if self.clock else [])
         return [run(command, row.line, *given) for command in found]

@@ -3,11 +3,14 @@
 
 Usage: zones_jiff.py ZONE database [--zoneinfo DIR] [--calls PROGRAM]
        zones_jiff.py ZONE made SEED COUNT [--calls PROGRAM]
+       zones_jiff.py ZONE taken COUNT [--zoneinfo DIR] [--calls PROGRAM]
 
 ZONE is the program `zone` that jiff/build.sh builds. `database` asks about
 every different zone file below DIR (/usr/share/zoneinfo if not told
 otherwise), `made` about COUNT files made from SEED that are meant to be taken
-by both. Ours is second.py's reading of document 01; PROGRAM is test_zone_calls
+by both, `taken` of COUNT files below DIR with a byte changed, dropped or added
+and of COUNT footers put together from good and bad parts (as
+tools/zone_survey.py makes them) only whether they are taken. Ours is second.py's reading of document 01; PROGRAM is test_zone_calls
 as `rt check test_zone_calls` builds it, and must answer each line as second.py
 does. Lines lie about every change (a second before, at and after it, and the
 local times about both of its readings), four times a year from 1900 to 2200,
@@ -27,7 +30,7 @@ sys.dont_write_bytecode = True  # no cache beside the sources
 
 import made_zones
 import second
-from classes import class_of
+from classes import class_of, zone_survey
 from second import DAY
 from zone_ask import FIRST_S, LAST_S, REFUSED, Calls, Jiff, Second, local_line
 
@@ -36,6 +39,8 @@ FROM, TO = second.new_year(YEARS[0]) * DAY, second.new_year(YEARS[-1] + 1) * DAY
 SEASONS = [(1, 1, 0), (3, 28, 9000), (7, 1, 43_200), (10, 26, 9000)]
 FEWER = 20  # made files are asked about one year in so many
 ENDS = [0, 1, 3600, 43_200, DAY, 93_599, 93_600, 2 * DAY, 200 * DAY, 400 * DAY]
+LEAP_FOLDER = "right/"
+TAKEN_YEAR = 2026
 EXAMPLES = 1  # lines shown of each class
 
 
@@ -131,6 +136,7 @@ class Comparison:
         self.second = Second()
         self.calls = Calls(calls) if calls else None
         self.counts = Counts()
+        self.leaps = collections.Counter()
 
     def compare(self, name, file, lines):
         """Puts each line of a file in its class."""
@@ -173,8 +179,44 @@ def database(comparison, folder):
             zone = second.read_zone(file)
         except ValueError:
             refused += 1
-        comparison.compare(name, file, questions(zone, [(FROM, TO)], YEARS))
+        lines = questions(zone, [(FROM, TO)], YEARS)
+        comparison.compare(name, file, lines)
+        leap_seconds(comparison, folder, name, file, lines)
     print(f"{len(files)} different zone files below {folder}, {refused} refused by document 01")
+    print(f"jiff's answers for files with leap records: {dict(comparison.leaps)}")
+
+
+def leap_seconds(comparison, folder, name, file, lines):
+    """How jiff answers for a file with leap records and for the same zone
+    without, below the folder itself."""
+    path = os.path.join(folder, name[len(LEAP_FOLDER) :])
+    if not name.startswith(LEAP_FOLDER) or not os.path.isfile(path):
+        return
+    with open(path, "rb") as plain:
+        rows = zip(comparison.jiff.ask(file, lines), comparison.jiff.ask(plain.read(), lines))
+    same = [one == two for one, two in rows]
+    comparison.leaps["as without leap records"] += sum(same)
+    comparison.leaps["otherwise"] += len(same) - sum(same)
+
+
+def taken(comparison, folder, count):
+    """Which files and footers jiff takes and document 01 refuses, and the other
+    way round."""
+    files = [(name, file) for name, file in zone_files(folder) if not name.startswith(LEAP_FOLDER)]
+    cases = [*zone_survey.damaged(files, count), *zone_survey.footed(count)]
+    for name, file in cases:
+        line = [f"offset {second.new_year(TAKEN_YEAR) * DAY}"]
+        their, our = comparison.jiff.ask(file, line)[0], comparison.second.ask(file, line)[0]
+        if comparison.calls and comparison.calls.ask(file, line)[0] != our:
+            comparison.counts.wrong.append((name, our))
+        kind = name.partition("/")[0]
+        if (their == REFUSED) == (our == REFUSED):
+            comparison.counts.put(name, f"{kind}: {'refused' if our == REFUSED else 'taken'} by both")
+        elif our == REFUSED:
+            comparison.counts.put(name, f"{kind}: taken by jiff, refused here: {zone_survey.judge(file)}")
+        else:
+            comparison.counts.put(name, f"{kind}: refused by jiff, taken here: {comparison.jiff.reason}")
+    print(f"{len(cases)} files")
 
 
 def made(comparison, seed, count):
@@ -197,11 +239,14 @@ def main(arguments):
 
     zoneinfo = option("--zoneinfo", "/usr/share/zoneinfo")
     calls = option("--calls", None)
-    if arguments[1:] != ["database"] and not (len(arguments) == 4 and arguments[1] == "made"):
+    modes = {"database": 2, "taken": 3, "made": 4}
+    if len(arguments) < 2 or modes.get(arguments[1]) != len(arguments):
         sys.exit(__doc__)
     comparison = Comparison(arguments[0], calls)
     if arguments[1] == "database":
         database(comparison, zoneinfo)
+    elif arguments[1] == "taken":
+        taken(comparison, zoneinfo, int(arguments[2]))
     else:
         made(comparison, arguments[2], int(arguments[3]))
     sys.exit(comparison.counts.show())
