@@ -20,6 +20,8 @@ from zone_ask import FIRST_S, LAST_S, REFUSED, local_of
 NO_CLASS = "no class"
 STRAYS = "a footer's change lies outside its year"
 TIE = "a footer's two changes at one instant"
+ORDER = "a footer's two changes come in another order in the years beside"
+WALL = "a footer's two changes come in another order by local time than by UTC"
 CLOSE = "two changes so close that local times of both overlap"
 BEYOND = "a transition beyond the range"
 EARLY = "a footer without transitions, before its first change of the year -9999"
@@ -83,6 +85,7 @@ def of_change(zone, at, told):
     return of_instant(zone, at)
 
 
+@functools.lru_cache(maxsize=1)
 def first_change(zone):
     """The first change of a zone without transitions in the range."""
     found = zone.changes(FIRST_S, FIRST_S + 800 * DAY)
@@ -110,6 +113,7 @@ def is_ruled(zone):
     return zone.footer is not None and zone.footer.daylight is not None
 
 
+@functools.lru_cache(maxsize=10_000)
 def of_years(footer, year):
     """What is odd about a footer's changes near a year, told in UTC (offsets,
     and the changes that jiff works out up to 2037) and in local time."""
@@ -119,7 +123,17 @@ def of_years(footer, year):
         return TIE
     if any(second.year_of(at // DAY) != near for near in years for at in told(footer, near)):
         return STRAYS
-    return NO_CLASS
+    orders = {order(footer, near) for near in years}
+    if len({by_utc for by_utc, _ in orders}) > 1:
+        return ORDER
+    return WALL if any(by_utc != by_clock for by_utc, by_clock in orders) else NO_CLASS
+
+
+def order(footer, year):
+    """Whether daylight time starts before it ends in a year: by UTC, and by the
+    local times that the rules tell, where jiff takes equal ones in this order."""
+    start, end = (at for at, _ in footer.of_year(year))
+    return start < end, start + footer.standard <= end + footer.daylight
 
 
 def told(footer, year):

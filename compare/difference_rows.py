@@ -26,6 +26,8 @@ PARTS = [TAKEN, REFUSED, OTHER, ALIKE, NAMES, INSTANTS]
 
 NO = "no 5"
 YEAR = 1_767_225_600  # 2026-01-01T00:00:00Z
+LEAP_YEAR = 1_704_067_200  # 2024-01-01T00:00:00Z
+JULY = 1_782_864_000  # 2026-07-01T00:00:00Z
 ENDLESS = "does not end"
 STOPS = "stops: an assertion fails"
 TITLES = {"checked": "built with assertions", "release": "built without"}
@@ -124,6 +126,8 @@ def footer_answers():
     footed(OTHER, "AAA-1BBB,0/0,1/0", f"change {YEAR - 7200}", str(YEAR), str(YEAR - 3600), LATEST)
     footed(OTHER, "AAA0BBB,1/0,365/0", f"offset {YEAR - 1}", "3600", "0", LATEST)
     footed(OTHER, "AAA0BBB,1,365", "local 2026 1 1 0", f"{YEAR} 0", f"{YEAR - 3600} 0", LATEST)
+    footed(OTHER, "AAA0BBB,J60,60", f"offset {LEAP_YEAR}", "3600", "0", LATEST)
+    footed(OTHER, "AAA0BBB,1,1", "local 2026 7 1 0", f"{JULY} 0", f"{JULY - 3600} 0", EARLIEST)
     footed(OTHER, "AAA24:59:59BBB,365/24:59:59,365/24:59:58", f"offset {YEAR}", "-89999", "-86399", LATEST)
     file = zone_file(((3600, 0, 0),), footer=b"AAA0BBB,364/0,365/0")
     what = "type of offset 3600, footer `AAA0BBB,364/0,365/0`"

@@ -18,6 +18,7 @@ import struct
 import subprocess
 import sys
 import tempfile
+from bisect import bisect_right
 
 sys.dont_write_bytecode = True  # no cache beside the sources
 
@@ -85,6 +86,8 @@ class Jiff:
 class Second:
     """second.py's reading of document 01."""
 
+    quiet = None  # a zone whose footer has no changes, once it was seen
+
     def ask(self, file, lines):
         try:
             zone = second.read_zone(file)
@@ -102,18 +105,23 @@ class Second:
             return str(zone.offset(int(numbers[0])))
         return self.change(zone, int(numbers[0]))
 
-    @staticmethod
-    def change(zone, low):
-        ruled = zone.footer is not None and zone.footer.daylight is not None
-        step, end = LAST_S - FIRST_S, LAST_S
-        if ruled:
-            step, end = STEP, min(LAST_S, max([low, *zone.times[-1:]]) + CYCLE)
-        while low < end:
-            high = min(low + step, end)
+    def change(self, zone, low):
+        """The next change: in the table, then by the footer. A footer without
+        one for CYCLE has none at all, which is kept for the next question."""
+        for time in zone.times[bisect_right(zone.times, low) :]:
+            if time <= LAST_S and zone.offset(time - 1) != zone.offset(time):
+                return str(time)
+        low = far = max([low, *zone.times[-1:]])
+        if zone.footer is not None and zone.footer.daylight is not None and zone is not self.quiet:
+            far += CYCLE
+        while low < min(far, LAST_S):
+            high = min(low + STEP, LAST_S)
             found = zone.changes(low, high)
             if found:
                 return str(found[0])
             low = high
+        if low >= far:
+            self.quiet = zone
         return "none"
 
 

@@ -30,7 +30,7 @@ sys.dont_write_bytecode = True  # no cache beside the sources
 
 import made_zones
 import second
-from classes import class_of, zone_survey
+from classes import NO_CLASS, class_of, zone_survey
 from second import DAY
 from zone_ask import FIRST_S, LAST_S, REFUSED, Calls, Jiff, Second, local_line
 
@@ -127,7 +127,7 @@ class Counts:
                 print(f"            {example}")
         for line in self.wrong[:20]:
             print("program and second.py differ:", line)
-        return 1 if self.wrong or any(title.startswith("no class") for title in self.lines) else 0
+        return 1 if self.wrong or any(NO_CLASS in title for title in self.lines) else 0
 
 
 class Comparison:
