@@ -25,6 +25,7 @@ WALL = "a footer's two changes come in another order by local time than by UTC"
 CLOSE = "two changes so close that local times of both overlap"
 BEYOND = "a transition beyond the range"
 EARLY = "a footer without transitions, before its first change of the year -9999"
+LASTING = "a footer that disagrees with the last transition, up to its first change"
 REACH = 2 * FARTHEST + 2  # how far from a local time its changes may lie
 
 
@@ -65,8 +66,11 @@ def refused_for(zone, reason):
 
 
 def of_instant(zone, at):
-    if is_ruled(zone) and not zone.times and at < first_change(zone):
-        return EARLY
+    if is_ruled(zone) and at < footer_change(zone):
+        if not zone.times:
+            return EARLY
+        if at >= zone.times[-1] and zone.types[zone.numbers[-1]] != zone.footer.offset(zone.times[-1]):
+            return LASTING
     if at == LAST_S and any(time > LAST_S for time in zone.times):
         return BEYOND
     if is_ruled(zone) and (not zone.times or at >= zone.times[-1]):
@@ -86,15 +90,18 @@ def of_change(zone, at, told):
 
 
 @functools.lru_cache(maxsize=1)
-def first_change(zone):
-    """The first change of a zone without transitions in the range."""
-    found = zone.changes(FIRST_S, FIRST_S + 800 * DAY)
-    return found[0] if found else LAST_S + 1
+def footer_change(zone):
+    """The footer's first change behind the table, or behind the first instant."""
+    low = zone.times[-1] if zone.times else FIRST_S
+    found = zone.footer.instants(low, low + 800 * DAY) if low <= LAST_S else ()
+    return min(found, default=LAST_S + 1)
 
 
 def of_local(zone, local):
-    if is_ruled(zone) and not zone.times and local < first_change(zone) + FARTHEST:
-        return EARLY
+    if is_ruled(zone) and local < footer_change(zone) + FARTHEST:
+        title = of_instant(zone, max([*zone.times[-1:], FIRST_S]))
+        if title in (EARLY, LASTING) and local >= max([*zone.times[-1:], FIRST_S]) - FARTHEST:
+            return title
     found = [time for time in zone.times if abs(time - local) <= REACH]
     found = sorted(set(found + zone.changes(local - REACH, local + REACH)))
     if any(overlap(zone, *pair) for pair in zip(found, found[1:])):

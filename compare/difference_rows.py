@@ -45,6 +45,7 @@ USABLE = "01's list of what a usable file has does not ask for it"
 LATEST = quote("the latest of all years' changes counts")
 TIE = quote("on a tie daylight time starts")
 THROUGHOUT = quote("With no transitions the footer rules throughout, or type 0.") + "; RFC 8536, 3.2"
+FOOTER = quote("from the last one on the footer, or the last type where it is empty") + "; RFC 8536, 3.2"
 BEFORE = quote("type 0 before the first transition") + "; RFC 8536, 3.2"
 EARLIEST = quote("a local time takes the earliest instant that reads so") + "; RFC 5545, 3.3.5"
 JUMPED = quote("take the earliest change that jumps over it and use the offset before it") + "; RFC 5545, 3.3.5"
@@ -133,6 +134,13 @@ def footer_answers():
     what = "type of offset 3600, footer `AAA0BBB,364/0,365/0`"
     zone(OTHER, what, file, f"offset {FIRST_S}", "3600", "0", THROUGHOUT)
     zone(OTHER, what, file, "local -9999 6 1 0", "-377692074000 0", "-377692070400 0", THROUGHOUT)
+
+
+def last_answers():
+    file = offsets_file([0, 7200], [0], b"AAA0BBB,1,2")
+    what = "offsets 0, then 7200 from 0 on; footer `AAA0BBB,1,2`"
+    zone(OTHER, what, file, "offset 0", "7200", "0", FOOTER)
+    zone(OTHER, what, file, "local 1970 1 1 43200", "36000 0", "43200 0", FOOTER)
 
 
 def table_answers():
@@ -224,7 +232,7 @@ def instants():
         ROWS.append(Row(INSTANTS, what, (profile, word, second), line, theirs, "no 8 0", RANGE))
 
 
-for fill in (taken_footers, taken_files, refused_files, footer_answers, table_answers, range_answers, change_answers):
+for fill in (taken_footers, taken_files, refused_files, footer_answers, last_answers, table_answers, range_answers, change_answers):
     fill()
 for fill in (alike, books, instants):
     fill()

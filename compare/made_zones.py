@@ -20,6 +20,7 @@ from zone_ask import FIRST_S, LAST_S
 WHOLE = ((0, 0, 0, 0, 1, 4), bytes(6) + b"AAA\0")  # a first block of one type
 NAMES = re.compile(rb"([A-Za-z]+|<[^>]+>)[-+:0-9]+(?:([A-Za-z]+|<[^>]+>))?")
 YEARS = [2026, 2026, 2024, 2025, 2037, 2038, 2000, 1970, 1900, 2100, 0, 1, -1, -4, -9998, 5000, 9998]
+DISAGREES = 0.2  # how often a footer disagrees with the last type
 FAR = [-(2**63), FIRST_S - 100_000, FIRST_S - 1, LAST_S + 1, LAST_S + 100_000, 2**63 - 1]
 
 
@@ -126,7 +127,7 @@ def summer(rng):
 
 
 def both(rng):
-    """A table and a footer that agrees with its last type."""
+    """A table and a footer that mostly agrees with its last type."""
     text = generate.footer_text(rng)
     if rng.random() < 0.5:
         text = summer(rng)[0].rpartition(b"\n")[0].rpartition(b"\n")[2]
@@ -137,6 +138,8 @@ def both(rng):
     offset = rules.offset(seconds[-1])
     daylight = rules.daylight is not None and is_daylight(rules, seconds[-1])
     types = [(generate.offset(rng), 0, 0) for _ in seconds]
+    if rng.random() < DISAGREES:
+        offset = generate.offset(rng)
     types.append((offset, int(daylight), len(names[0]) + 1 if daylight else 0))
     changes = [(at, place + 1) for place, at in enumerate(seconds)]
     file = zone_file(tuple(types), changes, text, letters=names[0] + b"\0" + names[1] + b"\0")
