@@ -116,6 +116,9 @@ def refused_files():
          zone_file(((0, 1, 0),), [(0, 0)], b"AAA0"), at, NO, "0", USABLE)
     zone(REFUSED, "a transition at 0 to a type named AAA; footer `BBB0`", zone_file(changes=[(0, 0)], footer=b"BBB0"),
          at, NO, "0", USABLE)
+    late = 2_145_916_800  # 2038-01-01T00:00:00Z
+    zone(REFUSED, f"offsets 0, then 7200 from {late} on (2038); footer `AAA0BBB,1,2`",
+         offsets_file([0, 7200], [late], b"AAA0BBB,1,2"), at, NO, "0", USABLE)
     zone(REFUSED, "footer of 256 letters A and `0`", zone_file(footer=256 * b"A" + b"0"), at, NO, "0", POSIX)
     footed(REFUSED, "XXX-2<+01>-1,0/0,J365/23", at, NO, "3600", TIE)
 
