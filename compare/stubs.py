@@ -1,11 +1,13 @@
 #!/usr/bin/env python3
-"""Makes empty crates for what a folder of crates asks for and lacks.
+"""Makes a folder of crates one that cargo builds from by path.
 
 Usage: stubs.py FOLDER
 
 Cargo wants to find optional dependencies too where a feature names them
-(`log?/std`), though it does not build them. Each gets a crate without code, of
-the least version and with the features that are asked for.
+(`log?/std`), though it does not build them. Each that is lacking gets a crate
+without code, of the least version and with the features that are asked for.
+Then each manifest says where in the folder its dependencies are, and jiff has
+a name without its version. No other file is changed.
 """
 
 import json
@@ -43,8 +45,20 @@ def write_stub(folder, name, version, features):
         file.write(f'[package]\nname = "{name}"\nversion = "{told}"\nedition = "2021"\n\n[features]\n')
         file.writelines(f"{feature} = []\n" for feature in sorted(features))
     open(os.path.join(crate, "src", "lib.rs"), "w").close()
-    with open(os.path.join(crate, ".cargo-checksum.json"), "w") as file:
-        file.write('{"files":{}}\n')
+
+
+def write_paths(path, places):
+    """Puts the place of each dependency into its section of a manifest."""
+    with open(path) as file:
+        sections = re.split(r"(?m)^(?=\[)", file.read())
+    with open(path, "w") as file:
+        for section in sections:
+            named = re.match(r"\[(?:target\..*\.)?(?:build-|dev-)?dependencies\.([\w-]+)\]\n", section)
+            package = re.search(r'(?m)^package = "(.*)"$', section)
+            name = package.group(1) if package else named and named.group(1)
+            if named and name in places:
+                section = f'{named.group()}path = "../{places[name]}"\n{section[named.end():]}'
+            file.write(section)
 
 
 def main(folder):
@@ -61,6 +75,11 @@ def main(folder):
             lacking[name] = max(version, least(dependency["req"])), features
     for name, (version, features) in lacking.items():
         write_stub(folder, name, version, features)
+    places = {package["name"]: os.path.basename(os.path.dirname(package["manifest_path"])) for package in packages}
+    places.update({name: name for name in lacking})
+    for crate in places.values():
+        write_paths(os.path.join(folder, crate, "Cargo.toml"), places)
+    os.symlink(places["jiff"], os.path.join(folder, "jiff"))
 
 
 if __name__ == "__main__":

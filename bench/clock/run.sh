@@ -27,10 +27,14 @@ jiff=${JIFF:-$root/target/jiff}
 came=0
 "$root/compare/jiff.sh" "$jiff" >"$work/jiff" || came=$?
 if [ "$came" = 0 ]; then
-    mkdir -p "$root/target/bench_clock_jiff"
+    # As compare/jiff/build.sh does: the original's sources and the unpacked crates, by path.
+    mkdir -p "$root/target/bench_clock_jiff" "$root/target/real/jiff"
     cp "$here/jiff.toml" "$root/target/bench_clock_jiff/Cargo.toml"
-    build --manifest-path "$root/target/bench_clock_jiff/Cargo.toml" --config 'source.crates-io.replace-with="unpacked"' \
-        --config "source.unpacked.directory=\"$(cd "$jiff" && pwd)/usr/share/cargo/registry\""
+    cp "$root/compare/jiff/Cargo.toml" "$root/target/real/jiff/Cargo.toml"
+    ln -sfn "$root/compare/jiff/src" "$root/target/real/jiff/src"
+    ln -sfn "$root/compare/rust" "$root/target/real/rust"
+    ln -sfn "$(cd "$jiff" && pwd)/usr/share/cargo/registry" "$root/target/registry"
+    build --manifest-path "$root/target/bench_clock_jiff/Cargo.toml"
     echo "jiff: $(sed 1d "$work/jiff" | paste -s -d ',' | sed 's/,/, /')"
 elif [ "$came" = "$unreachable" ]; then
     build --manifest-path "$here/Cargo.toml"

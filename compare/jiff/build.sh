@@ -27,8 +27,7 @@ mkdir -p "$work/real/jiff"
 cp "$here/Cargo.toml" "$work/real/jiff/Cargo.toml"
 ln -sfn "$here/src" "$work/real/jiff/src"
 ln -sfn "$here/../rust" "$work/real/rust"
+ln -sfn "$jiff/usr/share/cargo/registry" "$work/registry"
 export CARGO_TARGET_DIR="$work/target-real"
-cargo build --quiet --offline --profile "$profile" --manifest-path "$work/real/jiff/Cargo.toml" \
-    --config 'source.crates-io.replace-with="unpacked"' \
-    --config "source.unpacked.directory=\"$jiff/usr/share/cargo/registry\""
+cargo build --quiet --offline --profile "$profile" --manifest-path "$work/real/jiff/Cargo.toml"
 echo "$CARGO_TARGET_DIR/$profile"
