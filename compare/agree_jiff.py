@@ -1,86 +1,111 @@
 #!/usr/bin/env python3
 """Compares the answers that run_jiff.sh has collected, line by line.
 
-Usage: agree_jiff.py FOLDER DIFFERENCES
+Usage: agree_jiff.py FOLDER DIFFERENCES ZONE
 
 In each case's folder: real.txt (the original over jiff itself), standin.txt
-(over the stand-in) and program.txt if a program was run. Writes every line that
-differs to DIFFERENCES, prints the numbers and some lines of each kind, and
-removes the folders of cases that agree.
+(over the stand-in), program.txt if a program was run, and real-list.txt and
+standin-list.txt for the listing. Writes every line that differs, with its
+cause, to DIFFERENCES; prints how many lines differ by each cause, and the lines
+that none explains. ZONE is the driver for zone files: explain_jiff.py says how a
+cause is found. Removes the folders of cases that agree. Ends with 1 if a line is
+not explained.
 """
 
 import os
 import shutil
 import sys
-from collections import Counter
+from collections import Counter, defaultdict
 
 sys.dont_write_bytecode = True  # no cache beside the sources
 
 from agree import read
+from explain_jiff import Case, without_count
 
-OTHERS = [("standin.txt", "stand-in"), ("program.txt", "program")]
-SHOWN = 1  # lines printed of each kind
-
-
-def without_count(query, answer):
-    """The answer without the window count, which ends `between`, `add` and `sub`."""
-    fields = answer.split(" ")
-    counted = fields[0] == "ok" and query.split(" ")[0] in ("between", "add", "sub")
-    return fields[:-1] if counted else fields
-
-
-def kind_of(real, other):
-    """What two answers are: `ok` or a refusal's number, each."""
-    short = [" ".join(answer.split(" ")[: 2 if answer[:2] == "no" else 1]) for answer in (real, other)]
-    return f"jiff `{short[0]}`, other `{short[1]}`"
+# (lines, answers of the original over jiff, answers of the other, who that is)
+PAIRS = [
+    ("queries.txt", "real.txt", "standin.txt", "stand-in"),
+    ("queries.txt", "real.txt", "program.txt", "program"),
+    ("listing.txt", "real-list.txt", "standin-list.txt", "stand-in, listing"),
+]
+SHOWN = 20  # unexplained lines printed
+NOT_EXPLAINED = "NOT EXPLAINED"
 
 
-def compare(case, file, who, totals, out):
-    queries, real, other = (read(case, name) for name in ("queries.txt", "real.txt", file))
+class Totals:
+    def __init__(self):
+        self.lines, self.differ, self.answers = Counter(), Counter(), Counter()
+        self.causes = defaultdict(Counter)  # by who and cause: lines of each case
+
+    def unexplained(self):
+        return sum(sum(lines.values()) for (_, cause), lines in self.causes.items() if cause == NOT_EXPLAINED)
+
+    def show(self):
+        told = ", ".join(f"{count} {kind}" for kind, count in sorted(self.answers.items()))
+        print(f"answers of the original over jiff: {told}")
+        shown = None
+        for who in sorted(self.lines):
+            lines, differ = self.lines[who], self.differ[who]
+            print(f"{who}: {lines} lines compared with the original over jiff, {lines - differ} equal, {differ} differ")
+            causes = [(sum(count.values()), len(count), cause) for (of, cause), count in self.causes.items() if of == who]
+            causes.sort(reverse=True)
+            if causes and causes == shown:
+                print("         by the same causes")
+                continue
+            for count, cases, cause in causes:
+                print(f"{count:8} lines in {cases} cases: {cause}")
+            shown = causes
+
+
+def differing(case, names):
+    """The places where two answers differ: (place, line, answer, other)."""
+    queries, real, other = (read(case, name) for name in names)
     length = max(len(real), len(other))
     real, other, queries = (lines + ["(none)"] * (length - len(lines)) for lines in (real, other, queries))
-    differing = 0
-    for place in range(length):
-        totals[who, "lines"] += 1
-        if without_count(queries[place], real[place]) == without_count(queries[place], other[place]):
-            continue
-        differing += 1
-        family = os.path.basename(case).split("-", 1)[1]
-        kind = f"{who}, {family}: {kind_of(real[place], other[place])}"
-        totals[kind] += 1
-        line = f"{os.path.basename(case)} line {place + 1}, {who}: {queries[place]!r}: jiff {real[place]!r}, other {other[place]!r}"
-        print(line, file=out)
-        if totals[kind] <= SHOWN:
-            print(line)
-    totals[who, "differ"] += differing
-    return differing
+    for place, (query, one, two) in enumerate(zip(queries, real, other)):
+        if without_count(query, one) != without_count(query, two):
+            yield place, query, one, two
+    return length
 
 
-def main(folder, differences):
-    totals = Counter()
-    kept = cases = 0
+def compare(case, zone, totals, out):
+    """Compares a case. Says whether it agrees."""
+    title = os.path.basename(case)
+    pairs = [pair for pair in PAIRS if os.path.exists(os.path.join(case, pair[2]))]
+    asked = None
+    for *names, who in pairs:
+        totals.lines[who] += max(len(read(case, name)) for name in names[1:])
+        for place, query, real, other in differing(case, names):
+            asked = asked or Case(case, zone)
+            cause = asked.why(query, real, other, "list" in who) or NOT_EXPLAINED
+            totals.differ[who] += 1
+            totals.causes[who, cause][title] += 1
+            line = f"{title} line {place + 1}, {who}: {query!r}: jiff {real!r}, other {other!r}: {cause}"
+            print(line, file=out)
+            if cause == NOT_EXPLAINED and totals.unexplained() <= SHOWN:
+                print(line)
+    for answer in read(case, "real.txt"):
+        totals.answers[" ".join(answer.split(" ")[: 2 if answer[:2] == "no" else 1])] += 1
+    if asked:
+        asked.close()
+    return asked is None
+
+
+def main(folder, differences, zone):
+    totals = Totals()
+    cases = [os.path.join(folder, name) for name in sorted(os.listdir(folder))]
+    cases = [case for case in cases if os.path.exists(os.path.join(case, "real.txt"))]
     with open(differences, "w", encoding="utf-8") as out:
-        for name in sorted(os.listdir(folder)):
-            case = os.path.join(folder, name)
-            if not os.path.exists(os.path.join(case, "real.txt")):
-                continue
-            cases += 1
-            here = [pair for pair in OTHERS if os.path.exists(os.path.join(case, pair[0]))]
-            if sum(compare(case, file, who, totals, out) for file, who in here):
-                kept += 1
-            else:
-                shutil.rmtree(case)
-    for kind in sorted(kind for kind in totals if isinstance(kind, str)):
-        print(f"{totals[kind]:8} {kind}")
-    for _, who in OTHERS:
-        if totals[who, "lines"]:
-            lines, differ = totals[who, "lines"], totals[who, "differ"]
-            print(f"{who}: {lines} lines compared with the original over jiff, {lines - differ} equal, {differ} differ")
-    print(f"{cases} cases, {kept} with lines that differ" + (f", kept in {folder}" if kept else ""))
-    sys.exit(1 if kept else 0)
+        agreeing = [case for case in cases if compare(case, zone, totals, out)]
+    totals.show()
+    for case in agreeing:
+        shutil.rmtree(case)
+    kept = len(cases) - len(agreeing)
+    print(f"{len(cases)} cases, {kept} with lines that differ" + (f", kept in {folder}" if kept else ""))
+    sys.exit(1 if totals.unexplained() else 0)
 
 
 if __name__ == "__main__":
-    if len(sys.argv) != 3:
-        sys.exit("usage: agree_jiff.py FOLDER DIFFERENCES")
+    if len(sys.argv) != 4:
+        sys.exit("usage: agree_jiff.py FOLDER DIFFERENCES ZONE")
     main(*sys.argv[1:])

@@ -54,6 +54,7 @@ CHANGES = quote("no work or break zone changes offset in it")
 PACK = quote("zone not in pack")
 FIRST_MATCH = quote("The finder hands back the TZif part of the lent pack itself.")
 RANGE = quote("instant or its nanoseconds out of range")
+ROUNDED = quote("whole seconds from 1970-01-01T00:00:00Z, rounded down")
 
 ROWS = []
 
@@ -160,6 +161,11 @@ def table_answers():
          "local 2026 1 5 39600", "1767614400 0", "1767610800 0", JUMPED)
 
 
+def nanosecond_answers():
+    half = "offset -1 500000000"
+    zone(OTHER, "offsets 0, then 3600 from 0 on", offsets_file([0, 3600], [0]), half, "3600", "0", ROUNDED)
+
+
 def range_answers():
     file = offsets_file([0, 3600], [LAST_S + 1])
     what = "offsets 0, then 3600 from the second behind the last instant on"
@@ -235,7 +241,9 @@ def instants():
         ROWS.append(Row(INSTANTS, what, (profile, word, second), line, theirs, "no 8 0", RANGE))
 
 
-for fill in (taken_footers, taken_files, refused_files, footer_answers, last_answers, table_answers, range_answers, change_answers):
+for fill in (taken_footers, taken_files, refused_files, footer_answers, last_answers):
+    fill()
+for fill in (table_answers, nanosecond_answers, range_answers, change_answers):
     fill()
 for fill in (alike, books, instants):
     fill()

@@ -9,15 +9,18 @@ zones.bin (a few have none), queries.txt and listing.txt (lines for the
 listing, which is not part of document 01's program). A case depends on SEED,
 its number and the zone files found alone, so --only makes one again. With
 --family all cases are of that family: one of FAMILIES, or `database`. With
---whole made-up zone files have a first data block of one type, as jiff wants it.
+--whole made-up zone files have a first data block of one type, and a last
+transition that agrees with the footer, as jiff wants it.
 
 Real zones are taken from DIR, /usr/share/zoneinfo (Debian's tzdata) if not
 told otherwise; without any, made-up ones stand in. second.py is used to aim
 (where a zone changes, how much work there is), not to tell answers.
 """
 
+import functools
 import os
 import random
+import re
 import struct
 import sys
 
@@ -37,6 +40,7 @@ REAL += ["America/Santiago", "Australia/Lord_Howe", "Europe/Dublin", "Asia/Gaza"
 REAL += ["Pacific/Kiritimati", "America/Nuuk", "Africa/Cairo", "Asia/Tehran", "Antarctica/Troll"]
 REAL += ["Pacific/Chatham", "Asia/Jerusalem", "America/Juneau", "Asia/Manila", "Africa/Monrovia"]
 DATABASE_LINES = 200
+DATABASE_LONG = 2  # pairs of lines over decades
 I64 = [-(2**63), 2**63 - 1, 2**63, -(2**63) - 1, 2**64, 2**31, -(2**31), 10**30]
 
 
@@ -49,24 +53,42 @@ def header(version, ut, std, leaps, times, types, letters):
 
 
 WHOLE = "--whole" in sys.argv
+LETTERS = b"AAA\0BBB\0"
+
+
+def agreeing(types, changes, footer):
+    """The last transition with a type that the footer gives there, as jiff wants
+    it: changes, and the type's record and letters (none where nothing is to do)."""
+    try:
+        rules = second.read_footer(footer)
+    except ValueError:
+        return changes, b"", b""
+    at = changes[-1][0] if changes else 0
+    if not changes or abs(at) > LAST_S or len(types) > 255:
+        return changes, b"", b""
+    names = re.findall(rb"[A-Za-z]{3,}|(?<=<)[^>]+(?=>)", footer)
+    daylight = rules.daylight is not None and rules.offset(at) == rules.daylight
+    record = struct.pack(">iBB", rules.offset(at), daylight, len(LETTERS))
+    return changes[:-1] + [(at, len(types))], record, names[1 if daylight else 0] + b"\0"
 
 
 def tzif(types, changes=(), footer=b"", version=b"2", marks=0, old=0):
     """A TZif file: offsets of the types, (second, type) pairs, footer. `marks`
     adds indicators, `old` fills the first data block."""
-    first = header(version, 0, 0, 0, 0, 0, 0)
+    first, record, name = header(version, 0, 0, 0, 0, 0, 0), b"", b""
     if WHOLE:
         first = header(version, 0, 0, 0, 0, 1, 4) + bytes(6) + b"AAA\0"
+        changes, record, name = agreeing(types, changes, footer)
     elif old:
         first = header(version, 1, 1, old, 2, 1, 4) + bytes(2 * 5 + 6 + 4 + 8 * old + 2)
-    count = len(types)
+    count = len(types) + (1 if record else 0)
     ut, std = (count if marks & 1 else 0), (count if marks & 2 else 0)
-    data = header(version, ut, std, 0, len(changes), count, 8)
+    data = header(version, ut, std, 0, len(changes), count, len(LETTERS + name))
     data += b"".join(struct.pack(">q", second) for second, _ in changes)
     data += bytes(kind for _, kind in changes)
     for place, offset in enumerate(types):
         data += struct.pack(">iBB", offset, place & 1, 4 * (place & 1))
-    data += b"AAA\0BBB\0" + bytes(i & 1 for i in range(std)) + bytes(ut)
+    data += record + LETTERS + name + bytes(i & 1 for i in range(std)) + bytes(ut)
     return first + data + b"\n" + footer + b"\n"
 
 
@@ -251,6 +273,28 @@ def book_records(rng, names, abouts, most=4):
 # ------------------------------------------------------------------- query lines
 
 
+class Lenient(second.Pack):
+    """A pack with UTC for each zone that is refused."""
+
+    def zone(self, name, place):
+        try:
+            return super().zone(name, place)
+        except second.Refusal:
+            return second.UTC
+
+
+def schedule_of(book, zones, lenient):
+    """The second implementation's schedule, or None where it refuses the book."""
+    usual = second.Pack
+    second.Pack = Lenient if lenient else usual
+    try:
+        return second.Schedule(book, zones)
+    except second.Refusal:
+        return None
+    finally:
+        second.Pack = usual
+
+
 class Lines:
     """Query lines about instants of note. Spans are kept short: a walk over
     the whole range may take the second implementation minutes."""
@@ -260,13 +304,14 @@ class Lines:
         self.abouts = abouts or [MON]
         self.most = most
         self.work = most * NANO  # the most that is added or taken off
+        self.lenient = False  # fits books too whose zones are refused
+        self.long = 0  # pairs of lines over decades
         self.lines = []
 
     def fit(self, book, zones):
         """Keeps durations to about three years of the book's working time."""
-        try:
-            schedule = second.Schedule(book, zones)
-        except second.Refusal:
+        schedule = schedule_of(book, zones, self.lenient)
+        if schedule is None:
             return
         start = self.clamp(self.abouts[0] * NANO)
         time, _ = schedule.between(start, self.clamp(start + 52 * WEEK * NANO))
@@ -401,7 +446,17 @@ class Lines:
             line = rng.randbytes(rng.randint(1, 30)).replace(b"\n", b"")
         self.lines.append(b" ".join(fields) if 4 <= form <= 9 else line)
 
+    def far(self):
+        """Two lines over decades."""
+        rng = self.rng
+        start = any_day(rng) * NANO + rng.choice([0, rng.randrange(DAY * NANO)])
+        self.between(start, start + rng.choice([1, -1]) * rng.randint(0, 60 * 365 * DAY) * NANO)
+        time = rng.choice([1, -1]) * rng.randint(0, 10 * self.work)
+        self.put(rng.choice(["add", "sub"]), *self.split(start), *self.signed(time))
+
     def mixed(self, count):
+        for _ in range(self.long):
+            self.far()
         for _ in range(count):
             form = self.rng.random()
             if form < 0.9:
@@ -456,6 +511,7 @@ def real(rng, folder):
     return make(rng, zones, about_any(rng))
 
 
+@functools.cache
 def database_names(folder):
     """The names of all zones below a folder, but for the copies that tzdata
     keeps in `posix` and `right`."""
@@ -471,13 +527,156 @@ def database_names(folder):
     return sorted(names)
 
 
+def spelled(rng, name):
+    """A name, now and then in other cases: a pack is searched without regard to it."""
+    return rng.choice([name.upper(), name.lower(), name.swapcase()]) if rng.random() < 0.1 else name
+
+
+def parts_of(rng, total, most):
+    """`total` cut into at most `most` parts."""
+    cuts = sorted(rng.randint(0, total) for _ in range(rng.randint(1, most) - 1))
+    return [high - low for low, high in zip([0] + cuts, cuts + [total])]
+
+
+def full_records(rng, names, abouts):
+    """A book with any number of rules up to the limits."""
+    def name():
+        return spelled(rng, rng.choice(names + [b""]))
+
+    def times():
+        start, end = time_of_day(rng), time_of_day(rng)
+        return start, start if rng.random() < 0.1 else end
+
+    work, breaks = rng.choice([(16, 16), (rng.randint(1, 16), rng.randint(0, 16))])
+    records = [shift(1, name(), days_of(rng), *times()) for _ in range(work)]
+    for _ in range(breaks):
+        start, _ = time_of_day(rng)
+        records.append(shift(2, name(), days_of(rng), (start, 0), ((start + rng.randint(1, 3 * 3600)) % DAY, 0)))
+    for size in parts_of(rng, rng.choice([0, 30, 512, rng.randint(0, 512)]), 8):
+        spread = rng.choice([20, 300, 3_000])
+        at = rng.choice(abouts)
+        records.append(holidays(name(), [date_near(rng, at + rng.randint(-spread, spread) * DAY) for _ in range(size)]))
+    records += [default(spelled(rng, rng.choice(names))) for _ in range(rng.choice([0, 1, 1, 3]))]
+    rng.shuffle(records)
+    return records
+
+
+def always_records(rng, names, abouts):
+    """Round the clock in one zone but for some holidays and breaks."""
+    time = time_of_day(rng)
+    name = rng.choice(names + [b""])
+    records = [shift(1, name, rng.choice([0x7F, 0x7F, 0x3F]), time, time)]
+    records.append(holidays(rng.choice(names), [date_near(rng, rng.choice(abouts)) for _ in range(rng.randint(0, 4))]))
+    if rng.random() < 0.3:
+        records.append(shift(2, rng.choice(names), 1 << rng.randrange(7), time_of_day(rng), time_of_day(rng)))
+    return records + [default(rng.choice(names))] * rng.randint(0, 1)
+
+
+def end_records(rng, names, abouts):
+    """A plain book with holidays on the first and the last dates."""
+    dates = [(-9999, 1, 1), (-9999, 1, 2), (-9999, 1, 3), (9999, 12, 31), (9999, 12, 30), (9999, 12, 29)]
+    return book_records(rng, names, abouts) + [holidays(rng.choice(names + [b""]), rng.sample(dates, rng.randint(1, 6)))]
+
+
+def any_day(rng):
+    return day_number(rng.randint(1900, 2200), 1, 1) * DAY + rng.randrange(365) * DAY
+
+
 def database(rng, folder):
-    """Any zones of the database, with many lines: the years 1900 to 2200 and
-    both ends of the range. Never damaged, and none of FAMILIES."""
-    names = rng.sample(database_names(folder), rng.choice([1, 1, 2, 3]))
+    """Any zones of the database and books of all shapes, with many lines: the
+    years 1900 to 2200 and both ends of the range. Never damaged, and none of
+    FAMILIES."""
+    if rng.random() < 0.15:
+        return database_gap(rng, folder)
+    names = rng.sample(database_names(folder), rng.choice([1, 1, 2, 3, 6]))
     zones = [(name.encode(), real_zone(rng, folder, name)) for name in names]
-    about = day_number(rng.randint(1900, 2200), 1, 1) * DAY + rng.randrange(365) * DAY
-    return make(rng, zones, rng.choice([about] * 8 + [FIRST_S, LAST_S]), DATABASE_LINES)
+    shape = rng.choice([book_records] * 5 + [full_records, full_records, always_records, end_records])
+    abouts = [any_day(rng) for _ in range(4)]
+    if shape is end_records or rng.random() < 0.15:
+        abouts = [FIRST_S, LAST_S, FIRST_S + rng.randint(0, 500) * DAY, LAST_S - rng.randint(0, 500) * DAY]
+    for about in list(abouts):
+        for _, file in zones:
+            abouts += changes_of(file, about)
+    records = shape(rng, [name for name, _ in zones], abouts)
+    lines = Lines(rng, abouts)
+    lines.long, lines.lenient = DATABASE_LONG, True
+    return records, [pack_record(*zone) for zone in zones], lines, DATABASE_LINES - 2 * DATABASE_LONG
+
+
+@functools.cache
+def calm_spans(folder):
+    """Of each zone of the database the spans without a change of 367 days or
+    more, 1900 to 2200: (name, start, end, offset), and its offset at the build."""
+    spans, builds_ = [], {}
+    for name in database_names(folder):
+        zone = second.read_zone(real_zone(None, folder, name)) if is_usable(folder, name) else None
+        if zone is None or not zone.steady(BUILD - 20 * DAY, BUILD + 30 * DAY):
+            continue
+        builds_[name] = zone.offset(BUILD)
+        edges = zone.changes(day_number(1900, 1, 1) * DAY, day_number(2200, 1, 1) * DAY)
+        for start, end in zip(edges, edges[1:]):
+            if end - start >= 367 * DAY:
+                spans.append((name, start, end, zone.offset(start)))
+    return spans, builds_
+
+
+def is_usable(folder, name):
+    with open(os.path.join(folder, name), "rb") as file:
+        data = file.read()
+    try:
+        second.read_zone(data)
+    except ValueError:
+        return False
+    return len(data) < 8_000
+
+
+def gap_pair(rng, folder):
+    """Two zones that differ at the build and agree for over a year: the span."""
+    spans, builds_ = calm_spans(folder)
+    while True:
+        name, start, end, offset_ = rng.choice(spans)
+        fits = []
+        for other, low, high, same in spans:
+            low, high = max(low, start), min(high, end)
+            if same == offset_ and builds_[other] != builds_[name] and high - low >= 380 * DAY:
+                fits.append((other, low, high))
+        if fits:
+            other, low, high = rng.choice(fits)
+            return name, other, low, high
+
+
+def database_gap(rng, folder):
+    """Work in one zone, a break at the same times in another: no work while
+    their offsets agree, for more or less than the search limit."""
+    name, other, low, high = gap_pair(rng, folder)
+    days = rng.choice([0x1F, 0x7F, 0x01])
+    opens, closes = rng.randrange(0, 40_000), rng.randrange(40_001, 43_000)
+    records = [shift(kind, zone.encode(), days, (opens, 0), (closes, 0)) for kind, zone in ((1, name), (2, other))]
+    weeks = (high - low - 366 * DAY) // WEEK
+    count = max(0, min(512, weeks + rng.choice([-1, 0, 0, 1, 2, -weeks])))
+    dates = [(1_500 + place // 28, 1, 1 + place % 28) for place in range(count)]
+    records.append(holidays(b"", dates))
+    rng.shuffle(records)
+    pack = [pack_record(zone.encode(), real_zone(rng, folder, zone)) for zone in (name, other)]
+    limit = (366 + 7 * count) * DAY * NANO
+    lines = Lines(rng, [low, high])
+    work_end, work_start = gap_ends(join(records), join(pack), (low + high) // 2 * NANO)
+    for wiggle in (-1, 0, 1, NANO, -NANO, 0):
+        for at in (work_end + limit, work_start - limit, work_end, work_start):
+            at = lines.clamp(at + wiggle)
+            lines.put(rng.choice(["next", "previous"]), *lines.split(at))
+            lines.put(rng.choice(["add", "sub"]), *lines.split(at), rng.choice([1, -1]) * rng.randint(1, 90_000), 0)
+    return records, pack, lines, DATABASE_LINES - len(lines.lines)
+
+
+def gap_ends(book, zones, inside):
+    """Where the work before an instant ends, and where that after it starts."""
+    try:
+        schedule = second.Schedule(book, zones)
+        schedule.limit = LAST - FIRST
+        return schedule.period(-1, inside)[1], schedule.period(1, inside)[0]
+    except second.Refusal:
+        return inside, inside
 
 
 def odd(rng, folder):
