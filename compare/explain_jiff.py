@@ -278,7 +278,7 @@ def footer_cause(zone, last, at, told):
     """The same where the footer rules."""
     footer = zone.footer
     kept = zone.types[zone.numbers[-1] if zone.numbers else 0]
-    if told == kept and not footer.instants(last, at):
+    if told == kept and not footer.instants(max(last, FIRST // NANO), at):
         return "the time before a footer's first change: jiff keeps the last type"
     return year_cause(footer, second.year_of(at // DAY))
 
