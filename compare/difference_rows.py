@@ -121,12 +121,12 @@ def refused_files():
     zone(REFUSED, f"offsets 0, then 7200 from {late} on (2038); footer `AAA0BBB,1,2`",
          offsets_file([0, 7200], [late], b"AAA0BBB,1,2"), at, NO, "0", USABLE)
     zone(REFUSED, "footer of 256 letters A and `0`", zone_file(footer=256 * b"A" + b"0"), at, NO, "0", POSIX)
-    footed(REFUSED, "XXX-2<+01>-1,0/0,J365/23", at, NO, "3600", TIE)
+    footed(REFUSED, "AAA-2<+01>-1,0/0,J365/23", at, NO, "3600", TIE)
 
 
 def footer_answers():
     footed(OTHER, "AAA0BBB,0/0,0/1", f"offset {YEAR}", "0", "3600", TIE)
-    footed(OTHER, "XXX3EDT4,0/0,J365/23", f"offset {YEAR}", "-10800", "-14400", TIE)
+    footed(OTHER, "AAA3EDT4,0/0,J365/23", f"offset {YEAR}", "-10800", "-14400", TIE)
     footed(OTHER, "AAA-1BBB,0/0,1/0", f"offset {YEAR - 3600}", "3600", "7200", LATEST)
     footed(OTHER, "AAA-1BBB,0/0,1/0", f"change {YEAR - 7200}", str(YEAR), str(YEAR - 3600), LATEST)
     footed(OTHER, "AAA0BBB,1/0,365/0", f"offset {YEAR - 1}", "3600", "0", LATEST)
