@@ -1,9 +1,11 @@
 -- What the functions that fill a block list are asked and answer.
 use mathlib.Core.Path.{_≡_}
+use mathlib.Core.Bool.{Bool, not, _&&_}
 use mathlib.Core.List.{List, [], map}
 use Prim.Native.Nat.{ℕ, _≤_, _<_}
 use lib.ListN.{take}
 use Rattle.model.specs.Blocks.{Block as Block′, put}
+use Rattle.model.specs.Build.{isNone}
 use Rattle.model.specs.Instant.{day}
 use Rattle.model.specs.Walk.{onward}
 use Rattle.model.specs.Working.{blocksOfAll}
@@ -17,13 +19,25 @@ use Rattle.rule.specs.Rules.{ruleIs, RuleFits}
 use Rattle.laws_base.specs.Every.{Every}
 use Rattle.rule.specs.declared.Rule.{Rule}
 use Rattle.zone_local.specs.Dates.{tillTime}
-use Rattle.window_dates.specs.Windows.{Window, IsLocalDates}
+use Rattle.window_dates.specs.Windows.{Window, IsLocalDates, rulePiece}
 use Rattle.window_piece.specs.Filled.{twoDays, IsFrame}
 use Rattle.build_blocks.specs.declared.Shifts.{Shifts}
 
 -- a block of a list, if it holds anything
 unfoldable pub heldBlock : Block → List Block′
 heldBlock b = put (b .start) (b .end) []
+
+-- there is a block
+unfoldable pub some : List Block′ → Bool
+some l = not (isNone l)
+
+-- a rule is on at the date d, and shows something of it in the window [lo, hi)
+abbrev pub showsAt : List ℕ → Rule → Instant → Instant → ℕ → Bool
+showsAt pack r lo hi d = ruleIs pack r .on d && some (rulePiece pack r lo hi d)
+
+-- what the first n rules have in the window [lo, hi)
+abbrev pub blocksShown : List ℕ → List Rule → ℕ → Instant → Instant → List Block′
+blocksShown pack rules n lo hi = blocksOfAll (nanos lo) (nanos hi) (map (ruleIs pack) (take n rules))
 
 -- the dates of a rule in the window [lo, hi), their frame, and the times of day of the shift's start and end
 pub record IsShifts (pack : List ℕ) (r : Rule) (lo hi : Instant) (x : Shifts) : Type 0 where
@@ -48,5 +62,5 @@ mostShown = 336
 
 -- the blocks of the first n rules in the window [lo, hi), from lo; a rule shows at most 21 dates
 pub record Listed (pack : List ℕ) (rules : List Rule) (n : ℕ) (lo hi : Instant) (b : Blocks) : Type 0 where
-  pub same : listOf b ≡ onward (nanos lo) (blocksOfAll (nanos lo) (nanos hi) (map (ruleIs pack) (take n rules)))
+  pub same : listOf b ≡ onward (nanos lo) (blocksShown pack rules n lo hi)
   pub few : b .len ≤ mostShown

@@ -1,5 +1,5 @@
 // The blocks of work or break rules in a window of at most 14 days, in a block list that is filled from the front, rule by rule and date by date. A block's
-// borders are nanoseconds from the window's start.
+// borders are nanoseconds from the window's start. And whether there is any, for which no list is made.
 ghost use mathlib.Core.Path.{_≡_};
 ghost use Prim.Native.Nat.{_+_, _<_};
 ghost use lib.Dec.{ltb};
@@ -10,9 +10,9 @@ ghost use Rattle.instant.specs.Instant.{nanos};
 ghost use Rattle.block_list.specs.Listed.{capacity};
 ghost use Rattle.rule.specs.Rules.{RuleFits};
 ghost use Rattle.zone_local.specs.Dates as date;
-ghost use Rattle.window_dates.specs.Windows.{Window, rulePiece};
+ghost use Rattle.window_dates.specs.Windows.{Window, rulePiece, ruleBlocks};
 ghost use Rattle.window_piece.specs.Filled.{InFortnight};
-ghost use Rattle.build_blocks.specs.Shown.{heldBlock, IsShifts, ShiftsDate, RulesIn, Listed};
+ghost use Rattle.build_blocks.specs.Shown.{heldBlock, some, showsAt, blocksShown, IsShifts, ShiftsDate, RulesIn, Listed};
 use block_list::Block;
 use block_list::Blocks;
 use instant::Instant;
@@ -100,6 +100,60 @@ fn piece_at(pack: &[u8], r: Rule, x: Shifts, day: u32, lo: Instant, hi: Instant)
     }
     let k = f.first + (day - days.first) as u64 * window_piece::DAY_NANOS;
     clipped(k + x.from, k + x.to, f.lo, f.hi)
+}
+
+// ---- whether there is a block
+
+// Does the rule show anything of the date in the window?
+fn shows_at(pack: &[u8], r: Rule, x: Shifts, day: u32, lo: Instant, hi: Instant) -> bool
+    requires { ⌜ ShiftsDate (now pack) r x day lo hi ⌝ }
+    ensures { λ b. ⌜ b ≡ showsAt (now (pack .entry)) r lo hi day ⌝ }
+{
+    if !rule::applies(r.days, day) {
+        return false;
+    }
+    let y = piece_at(pack, r, x, day, lo, hi);
+    y.start < y.end
+}
+
+// Does the rule show anything in the window? Its dates are gone through up to the first of which it does.
+fn shows(pack: &[u8], r: Rule, lo: Instant, hi: Instant) -> bool
+    requires { ⌜ RuleFits (now pack) r × Window 14 lo hi ⌝ }
+    ensures { λ b. ⌜ b ≡ some (ruleBlocks (now (pack .entry)) r lo hi) ⌝ }
+{
+    let x = shifts_of(pack, r, lo, hi);
+    let days = x.days;
+    let last = days.last;
+    let mut day = days.first;
+    while day <= last {
+        if shows_at(pack, r, x, day, lo, hi) {
+            return true;
+        }
+        day += 1;
+    }
+    false
+}
+
+// Does any of the first n rules show anything in the window? They are gone through up to the first that does.
+pub fn any_shows(
+    rules: [Rule; book::MOST_WORK],
+    n: usize,
+    pack: &[u8],
+    lo: Instant,
+    hi: Instant,
+) -> bool
+    requires { ⌜ RulesIn (now pack) rules n lo hi ⌝ }
+    ensures { λ b. ⌜ b ≡ some (blocksShown (now (pack .entry)) rules n lo hi) ⌝ }
+{
+    let mut i: usize = 0;
+    while i < n {
+        let r = rules[i];
+        if shows(pack, r, lo, hi) {
+            return true;
+        }
+        i += 1;
+    }
+    false
 }
 
 // ---- a list

@@ -1,14 +1,14 @@
 -- What is left of blocks, found block by block: what a turn of the loop keeps. Assumes nothing.
 use mathlib.Core.Path.{_≡_, refl, sym, _∙_, ap, ap₂}
-use mathlib.Core.Bool.{Bool, true, false, _||_}
+use mathlib.Core.Bool.{Bool, true, false}
 use mathlib.Core.List.{List, [], _∷_, _++_, map, append-nil}
-use Prim.Native.Nat.{ℕ, zero, suc, _+_, _≤_, _<_}
+use Prim.Native.Nat.{ℕ, zero, suc, _+_, _≤_, _<_, max}
 use native.Mathlib.Omega.{arith}
 use borrow.Author.Tests.{lt-ltb, le-ltb, le-leb, lt-leb, leb-false}
-use lib.Dec.{ltb, leb}
+use lib.Dec.{leb}
 use lib.ListN.{length, getD, take, drop}
 use Rattle.model.specs.Basic.{joined}
-use Rattle.model.specs.Blocks.{Block as Block′, sorted, merged, union, cut, subtract}
+use Rattle.model.specs.Blocks.{Block as Block′, block, insert, sorted, mergedFrom, merged, union, cut, subtract}
 use Rattle.model.specs.Build.{worksIn2001}
 use Rattle.model.specs.Walk.{onward}
 use Rattle.model.specs.Working.{Schedule, blocksOfAll, working}
@@ -22,10 +22,11 @@ use Rattle.block_list.specs.Listed.{blockIs, front, listOf, nil}
 use Rattle.laws_base.specs.Front.{rest-cons, rest-none}
 use Rattle.rule.specs.Rules.{ruleIs}
 use Rattle.rule.specs.declared.Rule.{Rule as Rule′}
-use Rattle.build_blocks.specs.Shown.{Listed}
+use Rattle.build_blocks.specs.Shown.{Listed, some}
+use Rattle.build_blocks.proofs.Any.{some-append, some-onward}
 use Rattle.window_piece.proofs.Laws.{Apart, apart-onward, union-onward, subtract-onward}
 use Rattle.window_week.proofs.Whole.{rules-apart, union-apart}
-use Rattle.build_check.specs.Left.{some, leaves, UnionOf}
+use Rattle.build_check.specs.Left.{leaves, UnionOf}
 
 -- ---- one block
 
@@ -80,11 +81,6 @@ module _ (b : Block′) (n : b .start < b .end) (g : Block′) (off : List Block
     covered e = behind ∙ cut-none (g .end) (b .end) off e
 
 -- ---- the lists
-
-some-append : (a b : List Block′) → some (a ++ b) ≡ (some a || some b)
-unfolding some
-some-append [] b = refl
-some-append (x ∷ a) b = refl
 
 left-first : (b : Block′) (l off : List Block′) → some (cut (b .start) (b .end) off) ≡ true → leaves (b ∷ l) off ≡ true
 unfolding leaves subtract
@@ -197,17 +193,25 @@ module _ (on : List Block) (n : ℕ) (off : List Block) (m i j : ℕ) (c : Passi
 
 -- ---- the whole
 
--- a count says whether there is a block
-pub counted : (n : ℕ) (l : List Block) → n ≤ length l → ltb 0 n ≡ some (front n l)
-unfolding some
-counted zero l h = refl
-counted (suc n) [] h = absurd (omega arith)
-counted (suc n) (b ∷ l) h = lt-ltb 0 (suc n) (omega arith)
+some-insert : (b : Block′) (l : List Block′) → some (insert b l) ≡ true
+unfolding some insert
+some-insert b [] = refl
+some-insert b (c ∷ l) = by-test (leb (b .start) (c .start)) (λ h. rw h) (λ h. rw h)
 
-some-onward : (t : ℕ) (l : List Block′) → some (onward t l) ≡ some l
-unfolding some onward
-some-onward t [] = refl
-some-onward t (b ∷ l) = refl
+some-merged : (b : Block′) (l : List Block′) → some (mergedFrom b l) ≡ true
+unfolding some mergedFrom
+some-merged b [] = refl
+some-merged b (c ∷ l) = by-test (leb (c .start) (b .end)) (λ h. rw h (some-merged (block (b .start) (max (b .end) (c .end))) l)) (λ h. rw h)
+
+-- merging leaves something of something
+some-union : (l : List Block′) → some (union l) ≡ some l
+unfolding some union merged sorted
+some-union [] = refl
+some-union (b ∷ l) = go (insert b (sorted l)) (some-insert b (sorted l))
+  where
+    go : (k : List Block′) → some k ≡ true → some (merged k) ≡ true
+    go [] e = e
+    go (c ∷ k) e = some-merged c k
 
 leaves-onward : (t : ℕ) (a off : List Block′) → Apart t a → Apart t off → leaves (onward t a) (onward t off) ≡ leaves a off
 unfolding leaves
@@ -228,24 +232,31 @@ union-is p rules n lo hi b r f e k =
       merged = record { few = omega (arith, f .few); normal = rw q (union-normal (onward t o) (apart-onward t o (rules-apart t (nanos hi) (map (ruleIs p) (take n rules))))) };
     }
 
-module _ (s : Schedule) (t : ℕ) (z : t ≡ 391337827200000000000) (on : List Block′) (e : on ≡ union (onward t (blocksOfAll t (end t) (s .work)))) where
-  module _ (off : List Block′) (f : off ≡ union (onward t (blocksOfAll t (end t) (s .breaks)))) where
-    pub works-left : (r : Bool) → r ≡ leaves on off → r ≡ worksIn2001 s
-    unfolding worksIn2001 working leaves some
-    works-left r i =
-        let O : List Block′ = blocksOfAll t (end t) (s .breaks) in
-        let W : List Block′ = blocksOfAll t (end t) (s .work) in
-        let a : Apart t W = rules-apart t (end t) (s .work) in
-        let b : Apart t O = rules-apart t (end t) (s .breaks) in
-        let g : O ≡ blocksOfAll t (end t) (s .breaks ++ []) = ap (blocksOfAll t (end t)) (sym (append-nil (s .breaks))) in
-        i ∙ ap₂ leaves (e ∙ union-onward t W (a .full) (a .from)) (f ∙ union-onward t O (b .full) (b .from))
-        ∙ leaves-onward t (union W) (union O) (union-apart t W a) (union-apart t O b)
-        ∙ ap (λ (x : List Block′). leaves (union W) (union x)) g ∙ rw z
+module _ (s : Schedule) (t : ℕ) (z : t ≡ 391337827200000000000) where
+  W : List Block′
+  W = blocksOfAll t (end t) (s .work)
+
+  O : List Block′
+  O = blocksOfAll t (end t) (s .breaks)
+
+  pub works-left : (on : List Block′) → on ≡ union (onward t (blocksOfAll t (end t) (s .work))) → (off : List Block′) → off ≡ union (onward t (blocksOfAll t (end t) (s .breaks)))
+      → (r : Bool) → r ≡ leaves on off → r ≡ worksIn2001 s
+  unfolding worksIn2001 working leaves some W O
+  works-left on e off f r i =
+      let a : Apart t W = rules-apart t (end t) (s .work) in
+      let b : Apart t O = rules-apart t (end t) (s .breaks) in
+      let g : O ≡ blocksOfAll t (end t) (s .breaks ++ []) = ap (blocksOfAll t (end t)) (sym (append-nil (s .breaks))) in
+      i ∙ ap₂ leaves (e ∙ union-onward t W (a .full) (a .from)) (f ∙ union-onward t O (b .full) (b .from))
+      ∙ leaves-onward t (union W) (union O) (union-apart t W a) (union-apart t O b)
+      ∙ ap (λ (x : List Block′). leaves (union W) (union x)) g ∙ rw z
 
   -- without breaks
-  pub works-whole : Normal on → s .breaks ≡ [] → (r : Bool) → r ≡ some on → r ≡ worksIn2001 s
+  pub works-bare : s .breaks ≡ [] → (r : Bool) → r ≡ some (blocksOfAll t (end t) (s .work)) → r ≡ worksIn2001 s
   unfolding union merged sorted onward joined
-  works-whole normal h r i = works-left [] (sym none) r (i ∙ sym (leaves-all on (chain-nonempty 0 on normal)))
+  works-bare h r i =
+      let l : List Block′ = onward t (blocksOfAll t (end t) (s .work)) in
+      let n : Normal (union l) = union-normal l (apart-onward t (blocksOfAll t (end t) (s .work)) (rules-apart t (end t) (s .work))) in
+      works-left (union l) refl [] (sym none) r (i ∙ sym (some-onward t (blocksOfAll t (end t) (s .work))) ∙ sym (some-union l) ∙ sym (leaves-all (union l) (chain-nonempty 0 (union l) n)))
     where
       none : union (onward t (blocksOfAll t (end t) (s .breaks))) ≡ []
       none = rw h

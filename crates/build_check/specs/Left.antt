@@ -1,24 +1,17 @@
 -- Whether anything is left of blocks.
-use mathlib.Core.Bool.{Bool, not}
+use mathlib.Core.Bool.{Bool}
 use mathlib.Core.Path.{_≡_}
-use mathlib.Core.List.{List, map}
+use mathlib.Core.List.{List}
 use Prim.Native.Nat.{ℕ, _≤_}
-use lib.ListN.{take}
 use Rattle.model.specs.Blocks.{Block, union, subtract}
-use Rattle.model.specs.Build.{isNone}
 use Rattle.model.specs.Walk.{onward}
-use Rattle.model.specs.Working.{blocksOfAll}
 use Rattle.laws_blocks.specs.Members.{Normal}
 use Rattle.instant.specs.Instant.{nanos}
 use Rattle.instant.specs.declared.Instant.{Instant}
-use Rattle.rule.specs.Rules.{ruleIs}
 use Rattle.rule.specs.declared.Rule.{Rule}
 use Rattle.block_list.specs.declared.Blocks.{Blocks}
 use Rattle.block_list.specs.Listed.{capacity, listOf}
-
--- there is a block
-unfoldable pub some : List Block → Bool
-some l = not (isNone l)
+use Rattle.build_blocks.specs.Shown.{some, blocksShown}
 
 -- something of on is left without the blocks of off
 unfoldable pub leaves : List Block → List Block → Bool
@@ -31,5 +24,5 @@ pub record Merged (b : Blocks) : Type 0 where
 
 -- the union of what the first n rules have in the window [lo, hi), from lo
 pub record UnionOf (pack : List ℕ) (rules : List Rule) (n : ℕ) (lo hi : Instant) (b : Blocks) : Type 0 where
-  pub same : listOf b ≡ union (onward (nanos lo) (blocksOfAll (nanos lo) (nanos hi) (map (ruleIs pack) (take n rules))))
+  pub same : listOf b ≡ union (onward (nanos lo) (blocksShown pack rules n lo hi))
   pub merged : Merged b

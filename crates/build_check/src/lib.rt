@@ -1,5 +1,6 @@
 // Whether a schedule has work at all: in two weeks of 2001, without breaks, holidays ignored. The blocks of work and those of breaks go into a block list
 // each, which is sorted and merged in its own array. Then the two lists are gone through together, until a block of work is found that is not taken whole.
+// Where there are no breaks, any block of work will do, and no list is made.
 ghost use mathlib.Core.Path.{_≡_};
 ghost use Rattle.model.specs.Build.{worksIn2001};
 ghost use Rattle.rule.specs.Rules.{scheduleIs, ScheduleFits};
@@ -69,10 +70,10 @@ pub fn has_work(book: &[u8], pack: &[u8], s: Schedule) -> bool
     let lo = Instant { sec: FROM, ns: 0 };
     let hi = Instant { sec: UPTO, ns: 0 };
     let work = s.work;
-    let on = union_of(work, s.works, pack, lo, hi);
     if s.pauses == 0 {
-        return 0 < on.len;
+        return build_blocks::any_shows(work, s.works, pack, lo, hi);
     }
+    let on = union_of(work, s.works, pack, lo, hi);
     let breaks = s.breaks;
     let off = union_of(breaks, s.pauses, pack, lo, hi);
     any_left(on, off)

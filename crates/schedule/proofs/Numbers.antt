@@ -32,9 +32,6 @@ whole s n f g h e = e ∙ (λ i. h (toZ-ofZ {w = w64} f i) (toZ-ofZ {w = w64} g 
 pub not-late : (a : Instant) → InRange a → nanos a ≤ lastInstant
 not-late a h = let k = h .high in let n = h .ns in omega arith
 
-pub earlier : (x y : ℕ) → ltb x y ≡ true → x ≤ y
-earlier x y t = let h = ltb-true x y t in omega arith
-
 -- ---- durations
 
 abbrev isDuration : ℤ → ℤ → Bool

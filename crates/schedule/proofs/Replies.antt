@@ -1,7 +1,8 @@
 -- What each end of the calls answers.
-use Rattle.instant.specs.Instant.{nanos}
+use Rattle.instant.specs.Instant.{nanos, InRange}
 use mathlib.Core.Path.{_≡_, refl, sym, _∙_}
 use mathlib.Core.Bool.{Bool, true, false, not}
+use mathlib.Core.Logic.{_⊎_, ⊎-elim}
 use mathlib.Core.Option.{some}
 use mathlib.Core.List.{List}
 use Prim.Native.Nat.{ℕ, zero, suc, _+_, _-_, _≤_, _<_, _^_, min, max}
@@ -11,7 +12,6 @@ use lib.IntN.{ℤ}
 use borrow.Author.Tests.{ltb-true, ltb-false, ne-eqb}
 use Rattle.model.specs.Answer.{Answer, gives, refuses, _>>=_}
 use Rattle.model.specs.Instant.{week, lastInstant, instantOf, instant, durationOf, duration, negated}
-use Rattle.model.specs.Blocks.{total}
 use Rattle.model.specs.Working.{Schedule, working}
 use Rattle.model.specs.Walk.{Way, on, back, at, reach, begun, timeFrom, timeBetween, ahead, search}
 use Rattle.model.specs.Skip.{repeats, neededBetween, neededSearch, anyTime, someTime}
@@ -25,6 +25,7 @@ use Rattle.rule.specs.Rules.{scheduleIs}
 use Rattle.build.specs.declared.Built.{Built}
 use Rattle.build.specs.Read.{answerIs}
 use Rattle.instant.specs.declared.Instant.{Instant}
+use Rattle.walk_between.specs.Sums.{Interval}
 use Rattle.walk_search.specs.Searches.{Counts, found-at}
 use Rattle.walk_search.specs.declared.Reached.{Reached}
 use Rattle.walk_search.specs.declared.Reached.the-variants as R
@@ -58,6 +59,20 @@ given-all v l m e f g h = rw e (f, record { least = g; most = omega arith })
 
 -- ---- between
 
+-- the instants a and b in their order
+pub record Ordered (a b lo hi : Instant) : Type 0 where
+  pub interval : Interval lo hi
+  pub low : nanos lo ≡ min (nanos a) (nanos b)
+  pub high : nanos hi ≡ max (nanos a) (nanos b)
+
+-- by a test of which is the earlier
+pub ordered : {a b lo hi : Instant} {m : Bool} {T E : Type 0} → InRange a → InRange b → m ≡ ltb (nanos b) (nanos a) → (T → m ≡ true) → (E → m ≡ false)
+    → ((t : T) × (lo ≡ b) × (hi ≡ a)) ⊎ ((e : E) × (lo ≡ a) × (hi ≡ b)) → Ordered a b lo hi
+ordered {a} {b} {lo} {hi} ia ib e f g w = ⊎-elim
+    (λ p. let h : nanos b < nanos a = ltb-true (nanos b) (nanos a) (sym e ∙ f (p .0)) in rw (p .1, p .2) (record { interval = record { start = ib; end = ia; order = omega arith }; low = omega arith; high = omega arith }))
+    (λ p. let h : nanos a ≤ nanos b = ltb-false (nanos b) (nanos a) (sym e ∙ g (p .0)) in rw (p .1, p .2) (record { interval = record { start = ia; end = ib; order = omega arith }; low = omega arith; high = omega arith }))
+    w
+
 module _ (s : Schedule) (a₁ a₂ b₁ b₂ : ℤ) where
   pub no-start : instantOf a₁ a₂ ≡ refuses 8 0 → KeepsReply (refuses 8 0) 0 (betweenCall s a₁ a₂ b₁ b₂)
   unfolding betweenCall
@@ -69,25 +84,14 @@ module _ (s : Schedule) (a₁ a₂ b₁ b₂ : ℤ) where
     no-end e = refused 8 0 (rw (ea, e))
 
     module _ (b : ℕ) (eb : instantOf b₁ b₂ ≡ gives b) where
-      pub time-turned : (u : Answer (List ℤ)) (c d : ℕ) → ltb b a ≡ true → d ≡ timeBetween s b a → u ≡ gives (duration (record { minus = true; size = d })) → c ≡ neededBetween s b a
-          → KeepsReply u c (betweenCall s a₁ a₂ b₁ b₂)
+      pub time-given : (u : Answer (List ℤ)) (c d lo hi : ℕ) (m : Bool) → lo ≡ min a b → hi ≡ max a b → m ≡ ltb b a → d ≡ timeBetween s lo hi → u ≡ gives (duration (record { minus = m; size = d }))
+          → c ≡ neededBetween s lo hi → KeepsReply u c (betweenCall s a₁ a₂ b₁ b₂)
       unfolding betweenCall
-      time-turned u c d t ed eu ec =
-          let h : b < a = ltb-true _ _ t in
-          let x : min a b ≡ b = omega arith in
-          let y : max a b ≡ a = omega arith in
-          given-all (duration (record { minus = true; size = timeBetween s b a })) (neededBetween s b a) (begun (a - b)) (rw (ea, eb, t, x, y)) (eu ∙ rw ed) ec
-          (needed-most (begun (a - b)) anyTime (ahead on s b) (λ x. repeats s (b + x)) (a - b) 0 0 0)
-
-      pub time-onward : (u : Answer (List ℤ)) (c d : ℕ) → ltb b a ≡ false → d ≡ timeBetween s a b → u ≡ gives (duration (record { minus = false; size = d })) → c ≡ neededBetween s a b
-          → KeepsReply u c (betweenCall s a₁ a₂ b₁ b₂)
-      unfolding betweenCall
-      time-onward u c d t ed eu ec =
-          let h : a ≤ b = ltb-false _ _ t in
-          let x : min a b ≡ a = omega arith in
-          let y : max a b ≡ b = omega arith in
-          given-all (duration (record { minus = false; size = timeBetween s a b })) (neededBetween s a b) (begun (b - a)) (rw (ea, eb, t, x, y)) (eu ∙ rw ed) ec
-          (needed-most (begun (b - a)) anyTime (ahead on s a) (λ x. repeats s (a + x)) (b - a) 0 0 0)
+      time-given u c d lo hi m el eh em ed eu ec =
+          let l = min a b in
+          let h = max a b in
+          given-all (duration (record { minus = ltb b a; size = timeBetween s l h })) (neededBetween s l h) (begun (h - l)) (rw (ea, eb)) (eu ∙ rw (em, ed, el, eh)) (ec ∙ rw (el, eh))
+          (needed-most (begun (h - l)) anyTime (ahead on s l) (λ x. repeats s (l + x)) (h - l) 0 0 0)
 
 -- ---- a search
 

@@ -44,7 +44,8 @@ fn time_answer(minus: bool, r: Summed) -> TimeAnswer
     TimeAnswer::Is(d.secs, d.nanos, r.windows)
 }
 
-// The working time from the instant a to the instant b, of a schedule that was built before.
+// The working time from the instant a to the instant b, of a schedule that was built before. There is one call of the walk for both directions, so that the
+// compiler can put it in here and the schedule is copied once less.
 pub fn between_in(
     book: &[u8],
     pack: &[u8],
@@ -63,10 +64,14 @@ pub fn between_in(
     let InstantRead::At(b) = instant_signed::instant_of(b_sec, b_ns) else {
         return TimeAnswer::Refused(refusal::INSTANT_OUT_OF_RANGE, 0);
     };
-    if instant::precedes(b, a) {
-        return time_answer(true, walk_between::between(book, pack, s, b, a));
+    let minus = instant::precedes(b, a);
+    let mut lo = a;
+    let mut hi = b;
+    if minus {
+        lo = b;
+        hi = a;
     }
-    time_answer(false, walk_between::between(book, pack, s, a, b))
+    time_answer(minus, walk_between::between(book, pack, s, lo, hi))
 }
 
 // The working time from the instant a to the instant b.

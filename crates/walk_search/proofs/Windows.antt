@@ -1,15 +1,13 @@
 -- The search in one window: its blocks in lent memory, by their distances from where work last ended. Assumes nothing.
-use mathlib.Core.Path.{_≡_, refl, sym, _∙_, ap}
-use mathlib.Core.Bool.{Bool, true, false}
+use mathlib.Core.Path.{_≡_, sym, _∙_, ap}
 use mathlib.Core.List.{List, [], _∷_}
-use Prim.Native.Nat.{ℕ, zero, suc, _+_, _-_, _≤_, _<_, min}
+use Prim.Native.Nat.{ℕ, _+_, _-_, _≤_, min}
 use native.Mathlib.Omega.{arith}
 use Rattle.model.specs.Blocks.{Block, total}
 use Rattle.model.specs.Instant.{week}
 use Rattle.model.specs.Working.{Schedule, working}
 use Rattle.model.specs.Walk.{Way, on, back, reach, ahead, searchBlocks, backward}
 use Rattle.model.specs.Walk as walk
-use Rattle.laws_blocks.specs.Lists.{Lists}
 use Rattle.laws_blocks.specs.Members.{covers, NonEmpty, Ends}
 use Rattle.laws_blocks.specs.Move.{moves}
 use Rattle.laws_blocks.specs.Totals.{lists-most}
@@ -52,6 +50,10 @@ ahead-most back s t x y h k =
     rw (e, f) at (lists-most (behind W t) (t - (t - x)) (t - (t - y)) (backward-lists W t (t - y) (t - x) (omega arith) (working-lists s (t - y) (t - x) (omega arith))))
 
 -- ---- the search
+
+-- by another name of the limit
+pub limit-is : {l m : ℕ} (y last D : ℕ) (P : List Block) → l ≡ m → searchBlocks l y last D P ≡ searchBlocks m y last D P
+limit-is y last D P e = ap (λ (k : ℕ). searchBlocks k y last D P) e
 
 -- from where work last ended to t
 module _ (s : Schedule) (t limit x y last D g w d : ℕ) (h : x ≤ y) (i : y ≤ x + week) (j : last ≤ x) (a : g ≡ x - last) (b : w ≡ y - x) (e : d ≡ min D (week + 1)) (q : walk.Step) (P : List Block) where

@@ -54,6 +54,10 @@ InWindow book pack s t back x y last left =
     ScheduleFits book pack s × WindowWithin t back x y
     × Exact last × (nanos left < most) × Exact left × (nanos last ≤ nanos x) × (nanos x ≤ nanos last + s .limit * second)
 
+-- the search limit of a schedule in nanoseconds
+abbrev pub IsLimit : Schedule → ℕ → Type 0
+IsLimit s limit = limit ≡ s .limit * second
+
 -- d is to find from t, and not nothing
 abbrev pub ToFind : Instant → Instant → Type 0
 ToFind t d = InRange t × (0 < nanos d) × (nanos d < most) × Exact d

@@ -52,11 +52,14 @@ fn times_rise(f: &[u8], b: usize, n: usize) -> bool
     }
     let m = n - 1;
     let mut i: usize = 0;
+    let mut last = key_at(f, b, 0);
     while i < m {
-        if key_at(f, b, i) >= key_at(f, b, i + 1) {
+        i += 1;
+        let next = key_at(f, b, i);
+        if last >= next {
             return false;
         }
-        i += 1;
+        last = next;
     }
     true
 }

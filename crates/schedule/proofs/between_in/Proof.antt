@@ -1,9 +1,8 @@
 -- `schedule::between_in` meets its contract.
-use mathlib.Core.Path.{sym, _∙_}
-use borrow.Author.Tests.{ltb-false}
+use mathlib.Core.Path.{_∙_}
 use borrow.Author.Needs.{needs}
-use Rattle.schedule.proofs.Replies.{time-fits, no-start, no-end, time-turned, time-onward}
-use Rattle.schedule.proofs.Numbers.{not-late, earlier}
+use Rattle.schedule.proofs.Replies.{time-fits, no-start, no-end, ordered, time-given}
+use Rattle.schedule.proofs.Numbers.{not-late}
 use Rattle.instant_signed.specs.InstantLaws.{instant-no, instant-yes}
 use Rattle.schedule.proofs.between_in.Statement.{statement}
 use Rattle.schedule.proofs.between_in.Tie as tie
@@ -36,22 +35,13 @@ precedes-requires : tie.Need-precedes-requires
 precedes-requires c κs = search needs
 
 between-requires : tie.Need-between-requires
-between-requires c κs = let a = instant-yes _ _ (c .before .before .before .before .before .before .before .before .before .before .before .before .fits .a-sec) (c .before .before .before .before .before .before .before .before .before .before .before .before .fits .a-ns) (c .before .before .before .before .before .before .before .before .before .instant-of .ensures) (c .before .before .before .before .before .before .before .a .given .1) in let b = instant-yes _ _ (c .before .before .before .before .before .before .before .before .before .before .before .before .fits .b-sec) (c .before .before .before .before .before .before .before .before .before .before .before .before .fits .b-ns) (c .before .before .before .before .before .instant-of2 .ensures) (c .before .before .before .b .given .1) in ((c .before .before .before .before .before .before .before .before .before .before .before .before .pre), record { start = b .in-range; end = a .in-range; order = earlier _ _ (sym (c .before .precedes .ensures) ∙ (c .if1 .taken)) })
+between-requires c κs = let a = instant-yes _ _ (c .before .before .before .before .before .before .before .before .before .before .before .before .fits .a-sec) (c .before .before .before .before .before .before .before .before .before .before .before .before .fits .a-ns) (c .before .before .before .before .before .before .before .before .before .instant-of .ensures) (c .before .before .before .before .before .before .before .a .given .1) in let b = instant-yes _ _ (c .before .before .before .before .before .before .before .before .before .before .before .before .fits .b-sec) (c .before .before .before .before .before .before .before .before .before .before .before .before .fits .b-ns) (c .before .before .before .before .before .instant-of2 .ensures) (c .before .before .before .b .given .1) in let o = ordered (a .in-range) (b .in-range) (c .before .precedes .ensures) (λ t. t .taken) (λ t. t .left) (c .if1 .came) in (c .before .before .before .before .before .before .before .before .before .before .before .before .pre, o .interval)
 
 time-answer-requires : tie.Need-time-answer-requires
-time-answer-requires c κs = let a = instant-yes _ _ (c .before .before .before .before .before .before .before .before .before .before .before .before .before .fits .a-sec) (c .before .before .before .before .before .before .before .before .before .before .before .before .before .fits .a-ns) (c .before .before .before .before .before .before .before .before .before .before .instant-of .ensures) (c .before .before .before .before .before .before .before .before .a .given .1) in (time-fits _ (c .between .result .time) _ _ (earlier _ _ (sym (c .before .before .precedes .ensures) ∙ (c .before .if1 .taken))) (not-late _ (a .in-range)) (c .between .ensures .0), (c .between .ensures .2))
+time-answer-requires c κs = let a = instant-yes _ _ (c .before .before .before .before .before .before .before .before .before .before .before .before .before .fits .a-sec) (c .before .before .before .before .before .before .before .before .before .before .before .before .before .fits .a-ns) (c .before .before .before .before .before .before .before .before .before .before .instant-of .ensures) (c .before .before .before .before .before .before .before .before .a .given .1) in let b = instant-yes _ _ (c .before .before .before .before .before .before .before .before .before .before .before .before .before .fits .b-sec) (c .before .before .before .before .before .before .before .before .before .before .before .before .before .fits .b-ns) (c .before .before .before .before .before .before .instant-of2 .ensures) (c .before .before .before .before .b .given .1) in let o = ordered (a .in-range) (b .in-range) (c .before .before .precedes .ensures) (λ t. t .taken) (λ t. t .left) (c .before .if1 .came) in (time-fits _ (c .between .result .time) _ _ (o .interval .order) (not-late _ (o .interval .end)) (c .between .ensures .0), c .between .ensures .2)
 
 returns-3 : tie.Need-returns-3
-returns-3 c = let a = instant-yes _ _ (c .before .before .before .before .before .before .before .before .before .before .before .before .before .before .fits .a-sec) (c .before .before .before .before .before .before .before .before .before .before .before .before .before .before .fits .a-ns) (c .before .before .before .before .before .before .before .before .before .before .before .instant-of .ensures) (c .before .before .before .before .before .before .before .before .before .a .given .1) in let b = instant-yes _ _ (c .before .before .before .before .before .before .before .before .before .before .before .before .before .before .fits .b-sec) (c .before .before .before .before .before .before .before .before .before .before .before .before .before .before .fits .b-ns) (c .before .before .before .before .before .before .before .instant-of2 .ensures) (c .before .before .before .before .before .b .given .1) in time-turned _ _ _ _ _ _ (a .means) _ (b .means) _ _ _ (sym (c .before .before .before .precedes .ensures) ∙ (c .before .before .if1 .taken)) (c .before .between .ensures .0) (c .time-answer .ensures .0) ((c .time-answer .ensures .1) ∙ (c .before .between .ensures .1))
-
-between-requires-2 : tie.Need-between-requires-2
-between-requires-2 c κs = let a = instant-yes _ _ (c .before .before .before .before .before .before .before .before .before .before .before .before .fits .a-sec) (c .before .before .before .before .before .before .before .before .before .before .before .before .fits .a-ns) (c .before .before .before .before .before .before .before .before .before .instant-of .ensures) (c .before .before .before .before .before .before .before .a .given .1) in let b = instant-yes _ _ (c .before .before .before .before .before .before .before .before .before .before .before .before .fits .b-sec) (c .before .before .before .before .before .before .before .before .before .before .before .before .fits .b-ns) (c .before .before .before .before .before .instant-of2 .ensures) (c .before .before .before .b .given .1) in ((c .before .before .before .before .before .before .before .before .before .before .before .before .pre), record { start = a .in-range; end = b .in-range; order = ltb-false _ _ (sym (c .before .precedes .ensures) ∙ (c .if1 .left)) })
-
-time-answer-requires-2 : tie.Need-time-answer-requires-2
-time-answer-requires-2 c κs = let b = instant-yes _ _ (c .before .before .before .before .before .before .before .before .before .before .before .before .before .fits .b-sec) (c .before .before .before .before .before .before .before .before .before .before .before .before .before .fits .b-ns) (c .before .before .before .before .before .before .instant-of2 .ensures) (c .before .before .before .before .b .given .1) in (time-fits _ (c .between2 .result .time) _ _ (ltb-false _ _ (sym (c .before .before .precedes .ensures) ∙ (c .before .if1 .left))) (not-late _ (b .in-range)) (c .between2 .ensures .0), (c .between2 .ensures .2))
-
-returns-4 : tie.Need-returns-4
-returns-4 c = let a = instant-yes _ _ (c .before .before .before .before .before .before .before .before .before .before .before .before .before .before .fits .a-sec) (c .before .before .before .before .before .before .before .before .before .before .before .before .before .before .fits .a-ns) (c .before .before .before .before .before .before .before .before .before .before .before .instant-of .ensures) (c .before .before .before .before .before .before .before .before .before .a .given .1) in let b = instant-yes _ _ (c .before .before .before .before .before .before .before .before .before .before .before .before .before .before .fits .b-sec) (c .before .before .before .before .before .before .before .before .before .before .before .before .before .before .fits .b-ns) (c .before .before .before .before .before .before .before .instant-of2 .ensures) (c .before .before .before .before .before .b .given .1) in time-onward _ _ _ _ _ _ (a .means) _ (b .means) _ _ _ (sym (c .before .before .before .precedes .ensures) ∙ (c .before .before .if1 .left)) (c .before .between2 .ensures .0) (c .time-answer2 .ensures .0) ((c .time-answer2 .ensures .1) ∙ (c .before .between2 .ensures .1))
+returns-3 c = let a = instant-yes _ _ (c .before .before .before .before .before .before .before .before .before .before .before .before .before .before .fits .a-sec) (c .before .before .before .before .before .before .before .before .before .before .before .before .before .before .fits .a-ns) (c .before .before .before .before .before .before .before .before .before .before .before .instant-of .ensures) (c .before .before .before .before .before .before .before .before .before .a .given .1) in let b = instant-yes _ _ (c .before .before .before .before .before .before .before .before .before .before .before .before .before .before .fits .b-sec) (c .before .before .before .before .before .before .before .before .before .before .before .before .before .before .fits .b-ns) (c .before .before .before .before .before .before .before .instant-of2 .ensures) (c .before .before .before .before .before .b .given .1) in let o = ordered (a .in-range) (b .in-range) (c .before .before .before .precedes .ensures) (λ t. t .taken) (λ t. t .left) (c .before .before .if1 .came) in time-given _ _ _ _ _ _ (a .means) _ (b .means) _ _ _ _ _ _ (o .low) (o .high) (c .before .before .before .precedes .ensures) (c .before .between .ensures .0) (c .time-answer .ensures .0) ((c .time-answer .ensures .1) ∙ (c .before .between .ensures .1))
 
 pub between-in-spec : {M : Type 1} → statement M
 between-in-spec =
@@ -68,7 +58,4 @@ between-in-spec =
     precedes-requires
     between-requires
     time-answer-requires
-    returns-3
-    between-requires-2
-    time-answer-requires-2
-    returns-4)
+    returns-3)

@@ -1,5 +1,5 @@
 -- `walk_search::search` meets its contract: nothing to find, or by `search_into`, where each size has room for its records. Assumes nothing.
-use mathlib.Core.Path.{sym, _∙_}
+use mathlib.Core.Path.{refl, sym, _∙_}
 use native.Mathlib.Omega.{arith}
 use borrow.Author.Tests.{ltb-true, ltb-false, not-true, not-false}
 use Rattle.instant.specs.Instant.{nanos}
@@ -14,6 +14,9 @@ precedes-requires c κs = search needs
 
 returns : tie.Need-returns
 returns c = (nothing-found _ (c .before .before .before .before .pre .0 .well) _ _ _ (let h = ltb-false 0 (nanos (c .before .before .before .before .args .d)) (sym (c .before .precedes .ensures) ∙ not-true _ (c .if1 .taken)) in omega arith), found-at {z = record { sec = 0; ns = 0 }} (omega arith) (nothing-count _ (c .before .before .before .before .pre .0 .well) _ _ _ (let h = ltb-false 0 (nanos (c .before .before .before .before .args .d)) (sym (c .before .precedes .ensures) ∙ not-true _ (c .if1 .taken)) in omega arith)))
+
+mul-limit : tie.Need-mul-limit
+mul-limit c = omega (arith, (c .before .before .before .before .before .pre .0 .limit))
 
 add-size-for : tie.Need-add-size-for
 add-size-for c = search needs
@@ -37,7 +40,7 @@ slice-aggregate-search-into-3 : tie.Need-slice-aggregate-search-into-3
 slice-aggregate-search-into-3 c = search needs
 
 search-into-requires : tie.Need-search-into-requires
-search-into-requires c κs = let m = rw (c .before .before .before .enum-told .given .1) at (c .before .before .before .before .before .size-for .ensures .1) in ((c .before .before .before .before .before .before .before .before .before .before .before .before .pre .0), ((c .before .before .before .before .before .before .before .before .before .before .before .before .pre .1), ltb-true 0 (nanos (c .before .before .before .before .before .before .before .before .before .before .before .before .args .d)) (sym (c .before .before .before .before .before .before .before .before .before .precedes .ensures) ∙ not-false _ (c .before .before .before .before .before .before .before .before .if1 .left)), (c .before .before .before .before .before .before .before .before .before .before .before .before .pre .2), (c .before .before .before .before .before .before .before .before .before .before .before .before .pre .3)), (omega arith, omega arith, omega arith))
+search-into-requires c κs = let m = rw (c .before .before .before .enum-told .given .1) at (c .before .before .before .before .before .size-for .ensures .1) in ((c .before .before .before .before .before .before .before .before .before .before .before .before .before .pre .0), ((c .before .before .before .before .before .before .before .before .before .before .before .before .before .pre .1), ltb-true 0 (nanos (c .before .before .before .before .before .before .before .before .before .before .before .before .before .args .d)) (sym (c .before .before .before .before .before .before .before .before .before .before .precedes .ensures) ∙ not-false _ (c .before .before .before .before .before .before .before .before .before .if1 .left)), (c .before .before .before .before .before .before .before .before .before .before .before .before .before .pre .2), (c .before .before .before .before .before .before .before .before .before .before .before .before .before .pre .3)), (omega arith, omega arith, omega arith), refl)
 
 enum-told-2 : tie.Need-enum-told-2
 enum-told-2 c = search needs
@@ -52,7 +55,7 @@ slice-aggregate-search-into-6 : tie.Need-slice-aggregate-search-into-6
 slice-aggregate-search-into-6 c = search needs
 
 search-into-requires-2 : tie.Need-search-into-requires-2
-search-into-requires-2 c κs = let m = rw (c .before .before .before .enum-told2 .given .1) at (c .before .before .before .before .before .size-for .ensures .1) in ((c .before .before .before .before .before .before .before .before .before .before .before .before .pre .0), ((c .before .before .before .before .before .before .before .before .before .before .before .before .pre .1), ltb-true 0 (nanos (c .before .before .before .before .before .before .before .before .before .before .before .before .args .d)) (sym (c .before .before .before .before .before .before .before .before .before .precedes .ensures) ∙ not-false _ (c .before .before .before .before .before .before .before .before .if1 .left)), (c .before .before .before .before .before .before .before .before .before .before .before .before .pre .2), (c .before .before .before .before .before .before .before .before .before .before .before .before .pre .3)), (omega arith, omega arith, omega arith))
+search-into-requires-2 c κs = let m = rw (c .before .before .before .enum-told2 .given .1) at (c .before .before .before .before .before .size-for .ensures .1) in ((c .before .before .before .before .before .before .before .before .before .before .before .before .before .pre .0), ((c .before .before .before .before .before .before .before .before .before .before .before .before .before .pre .1), ltb-true 0 (nanos (c .before .before .before .before .before .before .before .before .before .before .before .before .before .args .d)) (sym (c .before .before .before .before .before .before .before .before .before .before .precedes .ensures) ∙ not-false _ (c .before .before .before .before .before .before .before .before .before .if1 .left)), (c .before .before .before .before .before .before .before .before .before .before .before .before .before .pre .2), (c .before .before .before .before .before .before .before .before .before .before .before .before .before .pre .3)), (omega arith, omega arith, omega arith), refl)
 
 enum-told-3 : tie.Need-enum-told-3
 enum-told-3 c = search needs
@@ -67,7 +70,7 @@ slice-aggregate-search-into-9 : tie.Need-slice-aggregate-search-into-9
 slice-aggregate-search-into-9 c = search needs
 
 search-into-requires-3 : tie.Need-search-into-requires-3
-search-into-requires-3 c κs = let m = rw (c .before .before .before .enum-told3 .given .1) at (c .before .before .before .before .before .size-for .ensures .1) in ((c .before .before .before .before .before .before .before .before .before .before .before .before .pre .0), ((c .before .before .before .before .before .before .before .before .before .before .before .before .pre .1), ltb-true 0 (nanos (c .before .before .before .before .before .before .before .before .before .before .before .before .args .d)) (sym (c .before .before .before .before .before .before .before .before .before .precedes .ensures) ∙ not-false _ (c .before .before .before .before .before .before .before .before .if1 .left)), (c .before .before .before .before .before .before .before .before .before .before .before .before .pre .2), (c .before .before .before .before .before .before .before .before .before .before .before .before .pre .3)), (omega arith, omega arith, omega arith))
+search-into-requires-3 c κs = let m = rw (c .before .before .before .enum-told3 .given .1) at (c .before .before .before .before .before .size-for .ensures .1) in ((c .before .before .before .before .before .before .before .before .before .before .before .before .before .pre .0), ((c .before .before .before .before .before .before .before .before .before .before .before .before .before .pre .1), ltb-true 0 (nanos (c .before .before .before .before .before .before .before .before .before .before .before .before .before .args .d)) (sym (c .before .before .before .before .before .before .before .before .before .before .precedes .ensures) ∙ not-false _ (c .before .before .before .before .before .before .before .before .before .if1 .left)), (c .before .before .before .before .before .before .before .before .before .before .before .before .before .pre .2), (c .before .before .before .before .before .before .before .before .before .before .before .before .before .pre .3)), (omega arith, omega arith, omega arith), refl)
 
 returns-2 : tie.Need-returns-2
 returns-2 c = search needs
@@ -84,6 +87,7 @@ search-spec =
     (tie.spec
     precedes-requires
     returns
+    mul-limit
     add-size-for
     add-size-for-2
     size-for-requires

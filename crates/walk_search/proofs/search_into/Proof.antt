@@ -23,12 +23,12 @@ use Rattle.walk_search.proofs.search_into.Statement.{statement}
 use Rattle.walk_search.proofs.search_into.Tie as tie
 
 abbrev Inv-loop : tie.InvT-loop
-Inv-loop book pack s t back on₀ off₀ out₀ end x₀ last₀ left₀ kept₀ resolved₀ on off out x last left kept resolved =
+Inv-loop book pack s t back limit on₀ off₀ out₀ end x₀ last₀ left₀ kept₀ resolved₀ on off out x last left kept resolved =
     Searching (ahead (wayOf back) (scheduleIs book pack s) (nanos t)) (λ y. repeats (scheduleIs book pack s) (way.at (wayOf back) (nanos t) y)) (s .limit * second) (nanos end) (nanos left₀) (nanos x) (nanos last) (nanos left) resolved (nanos (kept .idle)) (previousIs kept)
     × Short x × Exact last × Exact left × PreviousExact kept × (length on ≡ length on₀) × (length off ≡ length off₀) × (length out ≡ length out₀)
 
 abbrev μ-loop : tie.MeasureT-loop
-μ-loop book pack s t back on₀ off₀ out₀ end x₀ last₀ left₀ kept₀ resolved₀ on off out x last left kept resolved =
+μ-loop book pack s t back limit on₀ off₀ out₀ end x₀ last₀ left₀ kept₀ resolved₀ on off out x last left kept resolved =
     nanos end - nanos x
 
 reach-requires : tie.Need-reach-requires Inv-loop μ-loop
@@ -47,7 +47,7 @@ window-end-requires : tie.Need-window-end-requires Inv-loop μ-loop
 window-end-requires c κs = ((c .before .before .before .before .loop .inv .1), (c .before .before .before .before .before .reach .ensures .1))
 
 search-window-requires : tie.Need-search-window-requires Inv-loop μ-loop
-search-window-requires c κs = (((c .before .before .before .before .before .before .before .before .before .before .before .before .before .before .before .pre .0), ((c .before .before .before .before .before .before .before .before .before .before .before .before .before .before .before .pre .1 .0), (ahead-of (wayOf (c .before .before .before .before .before .before .before .before .before .before .before .before .before .before .before .args .back)) (nanos (c .before .before .before .before .before .before .before .before .before .before .before .before .before .before .before .args .t)) _ _ (c .before .before .before .before .before .before .before .before .before .reach .result) (c .before .before .before .before .before .before .before .before .loop .inv .1) (c .before .before .before .window-end .ensures .1) (c .before .before .before .before .before .before .before .before .before .reach .ensures .0) (c .before .before .before .before .before .before .before .before .loop .inv .0 .upto) (c .before .before .before .window-end .ensures .0))), (c .before .before .before .before .before .before .before .before .loop .inv .2), (let h = (c .before .before .before .before .before .before .before .before .loop .inv .0 .less) in let k = (c .before .before .before .before .before .before .before .before .before .before .before .before .before .before .before .pre .1 .2) in omega arith), (c .before .before .before .before .before .before .before .before .loop .inv .3), (let e = (c .before .before .before .before .before .before .before .before .loop .inv .0 .since) in omega arith), (let e = (c .before .before .before .before .before .before .before .before .loop .inv .0 .since) in let n = (c .before .before .before .before .before .before .before .before .loop .inv .0 .near) in omega arith)), (omega (arith, (c .before .before .before .before .before .before .before .before .before .before .before .before .before .before .before .pre .2 .0), (c .before .before .before .before .before .before .before .before .loop .inv .5)), omega (arith, (c .before .before .before .before .before .before .before .before .before .before .before .before .before .before .before .pre .2 .1), (c .before .before .before .before .before .before .before .before .loop .inv .6)), omega (arith, (c .before .before .before .before .before .before .before .before .before .before .before .before .before .before .before .pre .2 .2), (c .before .before .before .before .before .before .before .before .loop .inv .7))))
+search-window-requires c κs = (((c .before .before .before .before .before .before .before .before .before .before .before .before .before .before .before .pre .0), ((c .before .before .before .before .before .before .before .before .before .before .before .before .before .before .before .pre .1 .0), (ahead-of (wayOf (c .before .before .before .before .before .before .before .before .before .before .before .before .before .before .before .args .back)) (nanos (c .before .before .before .before .before .before .before .before .before .before .before .before .before .before .before .args .t)) _ _ (c .before .before .before .before .before .before .before .before .before .reach .result) (c .before .before .before .before .before .before .before .before .loop .inv .1) (c .before .before .before .window-end .ensures .1) (c .before .before .before .before .before .before .before .before .before .reach .ensures .0) (c .before .before .before .before .before .before .before .before .loop .inv .0 .upto) (c .before .before .before .window-end .ensures .0))), (c .before .before .before .before .before .before .before .before .loop .inv .2), (let h = (c .before .before .before .before .before .before .before .before .loop .inv .0 .less) in let k = (c .before .before .before .before .before .before .before .before .before .before .before .before .before .before .before .pre .1 .2) in omega arith), (c .before .before .before .before .before .before .before .before .loop .inv .3), (let e = (c .before .before .before .before .before .before .before .before .loop .inv .0 .since) in omega arith), (let e = (c .before .before .before .before .before .before .before .before .loop .inv .0 .since) in let n = (c .before .before .before .before .before .before .before .before .loop .inv .0 .near) in omega arith)), (omega (arith, (c .before .before .before .before .before .before .before .before .before .before .before .before .before .before .before .pre .2 .0), (c .before .before .before .before .before .before .before .before .loop .inv .5)), omega (arith, (c .before .before .before .before .before .before .before .before .before .before .before .before .before .before .before .pre .2 .1), (c .before .before .before .before .before .before .before .before .loop .inv .6)), omega (arith, (c .before .before .before .before .before .before .before .before .before .before .before .before .before .before .before .pre .2 .2), (c .before .before .before .before .before .before .before .before .loop .inv .7))), (c .before .before .before .before .before .before .before .before .before .before .before .before .before .before .before .pre .3))
 
 add-resolved : tie.Need-add-resolved Inv-loop μ-loop
 add-resolved c = let h = (c .before .before .before .before .before .before .before .before .before .before .before .before .before .before .before .loop .inv .0 .few) (ltb-true (nanos (c .before .before .before .before .before .before .before .before .before .before .before .before .before .before .before .loop .x)) (nanos (c .before .before .before .before .before .before .before .before .before .before .before .before .before .before .before .before .reach .result)) (sym (c .before .before .before .before .before .before .before .before .before .before .before .before .before .before .precedes .ensures) ∙ (c .before .before .before .before .before .before .before .before .before .before .before .before .before .if1 .taken))) in let r = (c .before .before .before .before .before .before .before .before .before .before .before .before .before .before .before .loop .inv .1 .sec) in let q = (c .before .before .before .before .before .before .before .before .before .before .before .before .before .before .before .loop .inv .1 .ns) in omega arith

@@ -10,10 +10,11 @@ use Rattle.zone_tzif_block.proofs.times_rise.Statement.{statement}
 use Rattle.zone_tzif_block.proofs.times_rise.Tie as tie
 
 abbrev Inv-loop : tie.InvT-loop
-Inv-loop f base n m i₀ i = (i ≤ m) × (allFrom (risesAt (keyAt f base)) i (m - i) ≡ allFrom (risesAt (keyAt f base)) 0 m)
+Inv-loop f base n m i₀ last₀ i last =
+    (i ≤ m) × (last ≡ keyAt f base i) × (allFrom (risesAt (keyAt f base)) i (m - i) ≡ allFrom (risesAt (keyAt f base)) 0 m)
 
 abbrev μ-loop : tie.MeasureT-loop
-μ-loop f base n m i₀ i = m - i
+μ-loop f base n m i₀ last₀ i last = m - i
 
 returns : tie.Need-returns Inv-loop μ-loop
 returns c = search all-none
@@ -21,14 +22,14 @@ returns c = search all-none
 sub-m : tie.Need-sub-m Inv-loop μ-loop
 sub-m c = search needs
 
-loop-holds : tie.Need-loop-holds Inv-loop μ-loop
-loop-holds c = (search needs, simp sub-zero)
-
 key-at-requires : tie.Need-key-at-requires Inv-loop μ-loop
 key-at-requires c κs = search needs
 
-add-key-at : tie.Need-add-key-at Inv-loop μ-loop
-add-key-at c = search needs
+loop-holds : tie.Need-loop-holds Inv-loop μ-loop
+loop-holds c = (search needs, (c .key-at .ensures), simp sub-zero)
+
+add-i : tie.Need-add-i Inv-loop μ-loop
+add-i c = search needs
 
 key-at-requires-2 : tie.Need-key-at-requires-2 Inv-loop μ-loop
 key-at-requires-2 c κs = search needs
@@ -36,14 +37,11 @@ key-at-requires-2 c κs = search needs
 returns-2 : tie.Need-returns-2 Inv-loop μ-loop
 returns-2 c = search rise-no
 
-add-i : tie.Need-add-i Inv-loop μ-loop
-add-i c = search needs
-
 loop-less : tie.Need-loop-less Inv-loop μ-loop
 loop-less c = search needs
 
 loop-again : tie.Need-loop-again Inv-loop μ-loop
-loop-again c = (search needs, search rise-yes)
+loop-again c = (search needs, (c .before .key-at2 .ensures), search rise-yes)
 
 returns-3 : tie.Need-returns-3 Inv-loop μ-loop
 returns-3 c = search all-end
@@ -56,12 +54,11 @@ times-rise-spec =
     μ-loop
     returns
     sub-m
-    loop-holds
     key-at-requires
-    add-key-at
+    loop-holds
+    add-i
     key-at-requires-2
     returns-2
-    add-i
     loop-less
     loop-again
     returns-3)

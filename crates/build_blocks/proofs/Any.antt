@@ -1,0 +1,130 @@
+-- Whether there is a block: what a turn of either loop keeps. Assumes nothing.
+use mathlib.Core.Path.{_≡_, refl, sym, _∙_, ap}
+use mathlib.Core.Bool.{true, false, _&&_, _||_}
+use mathlib.Core.List.{List, [], _∷_, _++_, map}
+use Prim.Native.Nat.{ℕ, _+_, _-_, _≤_, _<_}
+use native.Mathlib.Omega.{arith}
+use lib.Dec.{ltb}
+use lib.ListN.{length, take, getD}
+use Rattle.model.specs.Basic.{run, joined}
+use Rattle.model.specs.Blocks.{Block as Block′}
+use Rattle.model.specs.Walk.{onward}
+use Rattle.model.specs.Working.{Rule, blocksOf, blocksOfAll}
+use Rattle.laws_base.specs.Test.{by-test, and-both, clash}
+use Rattle.instant.specs.Instant.{nanos}
+use Rattle.instant.specs.declared.Instant.{Instant}
+use Rattle.block_list.specs.declared.Block.{Block}
+use Rattle.zone_local.specs.Dates.{pieceOf}
+use Rattle.window_dates.specs.Windows.{IsLocalDates}
+use Rattle.window_dates.specs.declared.LocalDates.{LocalDates}
+use Rattle.window_dates.proofs.Fill.{shown, date-on, date-off, dates-done, restOf, rest-more, rest-end}
+use Rattle.window_piece.proofs.Frames.{rule-shows}
+use Rattle.build_blocks.specs.Shown.{heldBlock, some}
+
+pub some-append : (a b : List Block′) → some (a ++ b) ≡ (some a || some b)
+unfolding some
+some-append [] b = refl
+some-append (x ∷ a) b = refl
+
+pub some-onward : (t : ℕ) (l : List Block′) → some (onward t l) ≡ some l
+unfolding some onward
+some-onward t [] = refl
+some-onward t (b ∷ l) = refl
+
+-- where there is none
+none : (l : List Block′) → some l ≡ false → l ≡ []
+unfolding some
+none [] e = refl
+none (b ∷ l) e = clash true refl e
+
+-- a block of the code holds something where something is shown
+pub held-some : (x : Block) (t : ℕ) (l : List Block′) → heldBlock x ≡ onward t l → ltb (x .start) (x .end) ≡ some l
+unfolding heldBlock some
+held-some x t l e =
+    by-test (ltb (x .start) (x .end))
+    (λ h. rw h (ap some (rw h at e) ∙ some-onward t l))
+    (λ h. rw h (ap some (rw h at e) ∙ some-onward t l))
+
+-- ---- the dates of a rule
+
+-- what the dates from d to last show
+abbrev pub datesShow : Rule → ℕ → ℕ → ℕ → ℕ → List Block′
+datesShow r lo hi last d = shown (r .on) (pieceOf r lo hi) (run d (last + 1 - d))
+
+-- the dates in front of d show nothing
+pub record Passed (r : Rule) (lo hi first last d : ℕ) : Type 0 where
+  pub same : datesShow r lo hi last d ≡ datesShow r lo hi last first
+  pub upto : first ≤ d
+
+pub passed-starts : (r : Rule) (lo hi first last : ℕ) → Passed r lo hi first last first
+passed-starts r lo hi first last = record { same = refl; upto = omega arith }
+
+module _ (r : Rule) (lo hi first last d : ℕ) (m : Passed r lo hi first last d) where
+  -- what the dates from the first on show
+  abbrev whole : List Block′
+  whole = datesShow r lo hi last first
+
+  pub date-shows : d ≤ last → (r .on d && some (pieceOf r lo hi d)) ≡ true → true ≡ some whole
+  date-shows h t =
+      let p = and-both (r .on d) (some (pieceOf r lo hi d)) t in
+      let e = date-on (r .on) (pieceOf r lo hi) d last [] whole (m .same) h (p .0) (pieceOf r lo hi d) refl in
+      sym (sym (ap some e) ∙ some-append (pieceOf r lo hi d) (datesShow r lo hi last (d + 1)) ∙ rw (p .1))
+
+  pub date-passed : d ≤ last → (r .on d && some (pieceOf r lo hi d)) ≡ false → Passed r lo hi first last (d + 1)
+  date-passed h t =
+      let u = m .upto in
+      by-test (r .on d)
+      (λ p.
+      let q : some (pieceOf r lo hi d) ≡ false = rw p at t in
+      record { same = date-on (r .on) (pieceOf r lo hi) d last [] whole (m .same) h p [] (sym (none (pieceOf r lo hi d) q)); upto = omega arith })
+      (λ p. record { same = date-off (r .on) (pieceOf r lo hi) d last [] whole (m .same) h p; upto = omega arith })
+
+  pub dates-passed : last < d → false ≡ some whole
+  unfolding some
+  dates-passed h = ap some (dates-done (r .on) (pieceOf r lo hi) d last [] whole (m .same) h)
+
+-- the dates of a window show what the rule has in it
+pub dates-all : (r : Rule) (lo hi : Instant) (days : LocalDates) → IsLocalDates (r .zone) lo hi days
+    → datesShow r (nanos lo) (nanos hi) (days .last) (days .first) ≡ blocksOf (nanos lo) (nanos hi) r
+dates-all r lo hi days q = rule-shows r (nanos lo) (nanos hi) (days .first) (days .last) (q .first-is) (q .last-is)
+
+-- ---- the rules of a counted array
+
+module _ {A : Type 0} (lo hi : ℕ) (h : A → Rule) where
+  -- what a rule has in the window
+  abbrev has : A → List Block′
+  has a = blocksOf lo hi (h a)
+
+  has-all : (l : List A) → joined (map has l) ≡ blocksOfAll lo hi (map h l)
+  unfolding joined
+  has-all [] = refl
+  has-all (a ∷ l) = ap (λ (x : List Block′). has a ++ x) (has-all l)
+
+  module _ (n : ℕ) (rules : List A) where
+    -- the rules in front of i show nothing
+    pub record RulesPassed (i : ℕ) : Type 0 where
+      pub same : restOf has n rules i ≡ restOf has n rules 0
+      pub upto : i ≤ n
+      pub fits : n ≤ length rules
+
+    pub rules-start : n ≤ length rules → RulesPassed 0
+    rules-start f = record { same = refl; upto = omega arith; fits = f }
+
+    module _ (i : ℕ) (m : RulesPassed i) where
+      pub rule-shows-some : i < n → (x : A) → some (has (getD rules i x)) ≡ true → true ≡ some (blocksOfAll lo hi (map h (take n rules)))
+      rule-shows-some t x e =
+          sym (ap some (sym (has-all (take n rules)) ∙ sym (m .same) ∙ rest-more has n rules i x t (m .fits)) ∙ some-append (has (getD rules i x)) (restOf has n rules (i + 1)) ∙ rw e)
+
+      pub rule-passed : i < n → (x : A) → some (has (getD rules i x)) ≡ false → RulesPassed (i + 1)
+      rule-passed t x e =
+          record {
+            same = sym (rest-more has n rules i x t (m .fits) ∙ ap (λ (y : List Block′). y ++ restOf has n rules (i + 1)) (none (has (getD rules i x)) e)) ∙ m .same;
+            upto = omega arith;
+            fits = m .fits;
+          }
+
+      pub rules-passed : n ≤ i → false ≡ some (blocksOfAll lo hi (map h (take n rules)))
+      unfolding some
+      rules-passed t =
+          let u = m .upto in let z : i ≡ n = omega arith in
+          sym (ap some (sym (has-all (take n rules)) ∙ sym (m .same) ∙ ap (restOf has n rules) z ∙ rest-end has n rules (m .fits)))
