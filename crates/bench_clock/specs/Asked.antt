@@ -83,6 +83,10 @@ listedOf n (refuses m p) a b c d e = e
 
 -- ---- what each function promises
 
+-- r is the answer to a question, by its kind
+abbrev pub IsAnswer : List ℕ → List ℕ → rule.Schedule → ℕ → ℤ → ℤ → ℤ → ℤ → AnyAnswer → Type 0
+IsAnswer book pack s kind a b c d r = replyIs r ≡ answerOfKind kind (scheduleIs book pack s) a b c d
+
 -- r is the answer of `between`
 abbrev pub IsTime : List ℕ → List ℕ → rule.Schedule → ℤ → ℤ → ℤ → ℤ → AnyAnswer → Type 0
 IsTime book pack s a b c d r = replyIs r ≡ said (betweenCall (scheduleIs book pack s) a b c d)

@@ -3,9 +3,9 @@
 ghost use mathlib.Core.Path.{_≡_};
 ghost use Prim.Native.Nat.{_+_, _≤_};
 ghost use lib.ListN.{length};
-ghost use Rattle.rule.specs.Rules.{scheduleIs, ScheduleFits};
+ghost use Rattle.rule.specs.Rules.{ScheduleFits};
 ghost use Rattle.laws_base.specs.Mapped.{Mapped};
-ghost use Rattle.bench_clock.specs.Asked.{replyIs, answerOfKind, writtenAt, limitOf, IsTime, IsMove, IsPeriod, AnsweredAt, AllAnswered, BookAnswered, ListsOften, ListsOf};
+ghost use Rattle.bench_clock.specs.Asked.{replyIs, writtenAt, limitOf, IsAnswer, IsTime, IsMove, IsPeriod, AnsweredAt, AllAnswered, BookAnswered, ListsOften, ListsOf};
 use rule::Schedule;
 use schedule::MoveAnswer;
 use schedule::TimeAnswer;
@@ -71,7 +71,7 @@ fn answer(
     d: i64,
 ) -> AnyAnswer
     requires { ⌜ ScheduleFits (now book) (now pack) s ⌝ }
-    ensures { λ r. ⌜ replyIs r ≡ answerOfKind kind (scheduleIs (now (book .entry)) (now (pack .entry)) s) «a» «b» «c» «d» ⌝ }
+    ensures { λ r. ⌜ IsAnswer (now (book .entry)) (now (pack .entry)) s kind a b c d r ⌝ }
 {
     if kind == 0 {
         return time(book, pack, s, a, b, c, d);
@@ -180,7 +180,7 @@ fn lists(
     book: &[u8],
     pack: &[u8],
     s: Schedule,
-    times: usize,
+    n: usize,
     a: i64,
     b: i64,
     c: i64,
@@ -188,9 +188,9 @@ fn lists(
     out: &mut [i64],
 )
     requires { ⌜ ScheduleFits (now book) (now pack) s ⌝ }
-    ensures { λ _. ⌜ ListsOften (book .entry .now) (pack .entry .now) s times a b c d (out .entry .now) (out .exit .now) ⌝ }
+    ensures { λ _. ⌜ ListsOften (book .entry .now) (pack .entry .now) s n a b c d (out .entry .now) (out .exit .now) ⌝ }
 {
-    let mut left = times;
+    let mut left = n;
     while 0 < left {
         schedule_listing::list_in(book, pack, s, a, b, c, d, out);
         left -= 1;

@@ -19,31 +19,31 @@ use Rattle.window_dates.specs.Windows.{IsLocalDates}
 use Rattle.window_dates.specs.declared.LocalDates.{LocalDates}
 use Rattle.window_dates.proofs.Fill.{shown, date-on, date-off, dates-done, restOf, rest-more, rest-end}
 use Rattle.window_piece.proofs.Frames.{rule-shows}
-use Rattle.build_blocks.specs.Shown.{heldBlock, some}
+use Rattle.build_blocks.specs.Shown.{heldBlock, anyBlock}
 
-pub some-append : (a b : List Block′) → some (a ++ b) ≡ (some a || some b)
-unfolding some
-some-append [] b = refl
-some-append (x ∷ a) b = refl
+pub any-append : (a b : List Block′) → anyBlock (a ++ b) ≡ (anyBlock a || anyBlock b)
+unfolding anyBlock
+any-append [] b = refl
+any-append (x ∷ a) b = refl
 
-pub some-onward : (t : ℕ) (l : List Block′) → some (onward t l) ≡ some l
-unfolding some onward
-some-onward t [] = refl
-some-onward t (b ∷ l) = refl
+pub any-onward : (t : ℕ) (l : List Block′) → anyBlock (onward t l) ≡ anyBlock l
+unfolding anyBlock onward
+any-onward t [] = refl
+any-onward t (b ∷ l) = refl
 
 -- where there is none
-none : (l : List Block′) → some l ≡ false → l ≡ []
-unfolding some
+none : (l : List Block′) → anyBlock l ≡ false → l ≡ []
+unfolding anyBlock
 none [] e = refl
 none (b ∷ l) e = clash true refl e
 
 -- a block of the code holds something where something is shown
-pub held-some : (x : Block) (t : ℕ) (l : List Block′) → heldBlock x ≡ onward t l → ltb (x .start) (x .end) ≡ some l
-unfolding heldBlock some
-held-some x t l e =
+pub held-any : (x : Block) (t : ℕ) (l : List Block′) → heldBlock x ≡ onward t l → ltb (x .start) (x .end) ≡ anyBlock l
+unfolding heldBlock anyBlock
+held-any x t l e =
     by-test (ltb (x .start) (x .end))
-    (λ h. rw h (ap some (rw h at e) ∙ some-onward t l))
-    (λ h. rw h (ap some (rw h at e) ∙ some-onward t l))
+    (λ h. rw h (ap anyBlock (rw h at e) ∙ any-onward t l))
+    (λ h. rw h (ap anyBlock (rw h at e) ∙ any-onward t l))
 
 -- ---- the dates of a rule
 
@@ -64,24 +64,24 @@ module _ (r : Rule) (lo hi first last d : ℕ) (m : Passed r lo hi first last d)
   abbrev whole : List Block′
   whole = datesShow r lo hi last first
 
-  pub date-shows : d ≤ last → (r .on d && some (pieceOf r lo hi d)) ≡ true → true ≡ some whole
+  pub date-shows : d ≤ last → (r .on d && anyBlock (pieceOf r lo hi d)) ≡ true → true ≡ anyBlock whole
   date-shows h t =
-      let p = and-both (r .on d) (some (pieceOf r lo hi d)) t in
+      let p = and-both (r .on d) (anyBlock (pieceOf r lo hi d)) t in
       let e = date-on (r .on) (pieceOf r lo hi) d last [] whole (m .same) h (p .0) (pieceOf r lo hi d) refl in
-      sym (sym (ap some e) ∙ some-append (pieceOf r lo hi d) (datesShow r lo hi last (d + 1)) ∙ rw (p .1))
+      sym (sym (ap anyBlock e) ∙ any-append (pieceOf r lo hi d) (datesShow r lo hi last (d + 1)) ∙ rw (p .1))
 
-  pub date-passed : d ≤ last → (r .on d && some (pieceOf r lo hi d)) ≡ false → Passed r lo hi first last (d + 1)
+  pub date-passed : d ≤ last → (r .on d && anyBlock (pieceOf r lo hi d)) ≡ false → Passed r lo hi first last (d + 1)
   date-passed h t =
       let u = m .upto in
       by-test (r .on d)
       (λ p.
-      let q : some (pieceOf r lo hi d) ≡ false = rw p at t in
+      let q : anyBlock (pieceOf r lo hi d) ≡ false = rw p at t in
       record { same = date-on (r .on) (pieceOf r lo hi) d last [] whole (m .same) h p [] (sym (none (pieceOf r lo hi d) q)); upto = omega arith })
       (λ p. record { same = date-off (r .on) (pieceOf r lo hi) d last [] whole (m .same) h p; upto = omega arith })
 
-  pub dates-passed : last < d → false ≡ some whole
-  unfolding some
-  dates-passed h = ap some (dates-done (r .on) (pieceOf r lo hi) d last [] whole (m .same) h)
+  pub dates-passed : last < d → false ≡ anyBlock whole
+  unfolding anyBlock
+  dates-passed h = ap anyBlock (dates-done (r .on) (pieceOf r lo hi) d last [] whole (m .same) h)
 
 -- the dates of a window show what the rule has in it
 pub dates-all : (r : Rule) (lo hi : Instant) (days : LocalDates) → IsLocalDates (r .zone) lo hi days
@@ -111,11 +111,11 @@ module _ {A : Type 0} (lo hi : ℕ) (h : A → Rule) where
     rules-start f = record { same = refl; upto = omega arith; fits = f }
 
     module _ (i : ℕ) (m : RulesPassed i) where
-      pub rule-shows-some : i < n → (x : A) → some (has (getD rules i x)) ≡ true → true ≡ some (blocksOfAll lo hi (map h (take n rules)))
-      rule-shows-some t x e =
-          sym (ap some (sym (has-all (take n rules)) ∙ sym (m .same) ∙ rest-more has n rules i x t (m .fits)) ∙ some-append (has (getD rules i x)) (restOf has n rules (i + 1)) ∙ rw e)
+      pub rule-shows-any : i < n → (x : A) → anyBlock (has (getD rules i x)) ≡ true → true ≡ anyBlock (blocksOfAll lo hi (map h (take n rules)))
+      rule-shows-any t x e =
+          sym (ap anyBlock (sym (has-all (take n rules)) ∙ sym (m .same) ∙ rest-more has n rules i x t (m .fits)) ∙ any-append (has (getD rules i x)) (restOf has n rules (i + 1)) ∙ rw e)
 
-      pub rule-passed : i < n → (x : A) → some (has (getD rules i x)) ≡ false → RulesPassed (i + 1)
+      pub rule-passed : i < n → (x : A) → anyBlock (has (getD rules i x)) ≡ false → RulesPassed (i + 1)
       rule-passed t x e =
           record {
             same = sym (rest-more has n rules i x t (m .fits) ∙ ap (λ (y : List Block′). y ++ restOf has n rules (i + 1)) (none (has (getD rules i x)) e)) ∙ m .same;
@@ -123,8 +123,8 @@ module _ {A : Type 0} (lo hi : ℕ) (h : A → Rule) where
             fits = m .fits;
           }
 
-      pub rules-passed : n ≤ i → false ≡ some (blocksOfAll lo hi (map h (take n rules)))
-      unfolding some
+      pub rules-passed : n ≤ i → false ≡ anyBlock (blocksOfAll lo hi (map h (take n rules)))
+      unfolding anyBlock
       rules-passed t =
           let u = m .upto in let z : i ≡ n = omega arith in
-          sym (ap some (sym (has-all (take n rules)) ∙ sym (m .same) ∙ ap (restOf has n rules) z ∙ rest-end has n rules (m .fits)))
+          sym (ap anyBlock (sym (has-all (take n rules)) ∙ sym (m .same) ∙ ap (restOf has n rules) z ∙ rest-end has n rules (m .fits)))

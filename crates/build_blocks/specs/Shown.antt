@@ -28,12 +28,12 @@ unfoldable pub heldBlock : Block → List Block′
 heldBlock b = put (b .start) (b .end) []
 
 -- there is a block
-unfoldable pub some : List Block′ → Bool
-some l = not (isNone l)
+unfoldable pub anyBlock : List Block′ → Bool
+anyBlock l = not (isNone l)
 
 -- a rule is on at the date d, and shows something of it in the window [lo, hi)
 abbrev pub showsAt : List ℕ → Rule → Instant → Instant → ℕ → Bool
-showsAt pack r lo hi d = ruleIs pack r .on d && some (rulePiece pack r lo hi d)
+showsAt pack r lo hi d = ruleIs pack r .on d && anyBlock (rulePiece pack r lo hi d)
 
 -- what the first n rules have in the window [lo, hi)
 abbrev pub blocksShown : List ℕ → List Rule → ℕ → Instant → Instant → List Block′

@@ -12,7 +12,7 @@ ghost use Rattle.rule.specs.Rules.{RuleFits};
 ghost use Rattle.zone_local.specs.Dates as date;
 ghost use Rattle.window_dates.specs.Windows.{Window, rulePiece, ruleBlocks};
 ghost use Rattle.window_piece.specs.Filled.{InFortnight};
-ghost use Rattle.build_blocks.specs.Shown.{heldBlock, some, showsAt, blocksShown, IsShifts, ShiftsDate, RulesIn, Listed};
+ghost use Rattle.build_blocks.specs.Shown.{heldBlock, anyBlock, showsAt, blocksShown, IsShifts, ShiftsDate, RulesIn, Listed};
 use block_list::Block;
 use block_list::Blocks;
 use instant::Instant;
@@ -119,7 +119,7 @@ fn shows_at(pack: &[u8], r: Rule, x: Shifts, day: u32, lo: Instant, hi: Instant)
 // Does the rule show anything in the window? Its dates are gone through up to the first of which it does.
 fn shows(pack: &[u8], r: Rule, lo: Instant, hi: Instant) -> bool
     requires { ⌜ RuleFits (now pack) r × Window 14 lo hi ⌝ }
-    ensures { λ b. ⌜ b ≡ some (ruleBlocks (now (pack .entry)) r lo hi) ⌝ }
+    ensures { λ b. ⌜ b ≡ anyBlock (ruleBlocks (now (pack .entry)) r lo hi) ⌝ }
 {
     let x = shifts_of(pack, r, lo, hi);
     let days = x.days;
@@ -143,7 +143,7 @@ pub fn any_shows(
     hi: Instant,
 ) -> bool
     requires { ⌜ RulesIn (now pack) rules n lo hi ⌝ }
-    ensures { λ b. ⌜ b ≡ some (blocksShown (now (pack .entry)) rules n lo hi) ⌝ }
+    ensures { λ b. ⌜ b ≡ anyBlock (blocksShown (now (pack .entry)) rules n lo hi) ⌝ }
 {
     let mut i: usize = 0;
     while i < n {

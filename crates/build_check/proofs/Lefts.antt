@@ -22,8 +22,8 @@ use Rattle.block_list.specs.Listed.{blockIs, front, listOf, nil}
 use Rattle.laws_base.specs.Front.{rest-cons, rest-none}
 use Rattle.rule.specs.Rules.{ruleIs}
 use Rattle.rule.specs.declared.Rule.{Rule as Rule′}
-use Rattle.build_blocks.specs.Shown.{Listed, some}
-use Rattle.build_blocks.proofs.Any.{some-append, some-onward}
+use Rattle.build_blocks.specs.Shown.{Listed, anyBlock}
+use Rattle.build_blocks.proofs.Any.{any-append, any-onward}
 use Rattle.window_piece.proofs.Laws.{Apart, apart-onward, union-onward, subtract-onward}
 use Rattle.window_week.proofs.Whole.{rules-apart, union-apart}
 use Rattle.build_check.specs.Left.{leaves, UnionOf}
@@ -51,8 +51,8 @@ subtract-past g off (b ∷ l) f = rw (le-leb (g .end) (b .start) (f .0)) (ap (λ
 
 module _ (b : Block′) (n : b .start < b .end) (g : Block′) (off : List Block′) where
   -- g begins behind the block's start
-  in-front : g .start < g .end → b .start < g .start → some (cut (b .start) (b .end) (g ∷ off)) ≡ true
-  unfolding cut some
+  in-front : g .start < g .end → b .start < g .start → anyBlock (cut (b .start) (b .end) (g ∷ off)) ≡ true
+  unfolding cut anyBlock
   in-front h k =
       by-test (leb (b .end) (g .start))
       (λ q. rw (lt-leb (g .end) (b .start) (omega arith), q, lt-ltb (b .start) (b .end) n))
@@ -64,11 +64,11 @@ module _ (b : Block′) (n : b .start < b .end) (g : Block′) (off : List Block
     behind = rw (lt-leb (g .end) (b .start) h, lt-leb (b .end) (g .start) (omega arith), le-ltb (b .start) (g .start) k)
 
     -- g ends before the block's end, and the next one begins later
-    at-end : g .end < b .end → Chain (suc (g .end)) off → some (cut (b .start) (b .end) (g ∷ off)) ≡ true
-    unfolding cut some
-    at-end e c = ap some behind ∙ go off c
+    at-end : g .end < b .end → Chain (suc (g .end)) off → anyBlock (cut (b .start) (b .end) (g ∷ off)) ≡ true
+    unfolding cut anyBlock
+    at-end e c = ap anyBlock behind ∙ go off c
       where
-        go : (l : List Block′) → Chain (suc (g .end)) l → some (cut (g .end) (b .end) l) ≡ true
+        go : (l : List Block′) → Chain (suc (g .end)) l → anyBlock (cut (g .end) (b .end) l) ≡ true
         go [] c = rw (lt-ltb (g .end) (b .end) e)
         go (x ∷ l) c =
             let p = c .0 in let q = c .1 in
@@ -82,17 +82,17 @@ module _ (b : Block′) (n : b .start < b .end) (g : Block′) (off : List Block
 
 -- ---- the lists
 
-left-first : (b : Block′) (l off : List Block′) → some (cut (b .start) (b .end) off) ≡ true → leaves (b ∷ l) off ≡ true
+left-first : (b : Block′) (l off : List Block′) → anyBlock (cut (b .start) (b .end) off) ≡ true → leaves (b ∷ l) off ≡ true
 unfolding leaves subtract
-left-first b l off h = some-append (cut (b .start) (b .end) off) (subtract l off) ∙ rw h
+left-first b l off h = any-append (cut (b .start) (b .end) off) (subtract l off) ∙ rw h
 
 gone-first : (b : Block′) (l off : List Block′) → cut (b .start) (b .end) off ≡ [] → leaves (b ∷ l) off ≡ leaves l off
 unfolding leaves subtract
 gone-first b l off h = rw h
 
 -- without breaks
-leaves-all : (l : List Block′) → NonEmpty l → leaves l [] ≡ some l
-unfolding leaves subtract cut some
+leaves-all : (l : List Block′) → NonEmpty l → leaves l [] ≡ anyBlock l
+unfolding leaves subtract cut anyBlock
 leaves-all [] n = refl
 leaves-all (b ∷ l) n = rw (lt-ltb (b .start) (b .end) (n .0))
 
@@ -114,7 +114,7 @@ passing-starts on n off m a b = record { same = refl; upto = omega arith; past =
 
 module _ (on : List Block) (n : ℕ) (off : List Block) (m i j : ℕ) (c : Passing on n off m i j) where
   pub passing-done : n ≤ i → false ≡ leaves (front n on) (front m off)
-  unfolding leaves subtract some
+  unfolding leaves subtract anyBlock
   passing-done h =
       let u = c .upto in let z : i ≡ n = omega arith in
       sym (ap (λ (l : List Block′). leaves l (drop j (front m off))) (ap (λ (k : ℕ). drop k (front n on)) z ∙ rest-none blockIs n on (c .on-fits))) ∙ c .same
@@ -136,7 +136,7 @@ module _ (on : List Block) (n : ℕ) (off : List Block) (m i j : ℕ) (c : Passi
 
     -- nothing of off is to come
     pub passing-free : m ≤ j → true ≡ leaves (front n on) (front m off)
-    unfolding cut some
+    unfolding cut anyBlock
     passing-free k =
         let u = c .past in let z : j ≡ m = omega arith in
         let e : drop j (front m off) ≡ [] = ap (λ (q : ℕ). drop q (front m off)) z ∙ rest-none blockIs m off (c .off-fits) in
@@ -164,7 +164,7 @@ module _ (on : List Block) (n : ℕ) (off : List Block) (m i j : ℕ) (c : Passi
       passing-past p =
           let q : Chain (y .end) (x ∷ xs) = (p, chain .1, chain .2) in
           record {
-            same = ap (λ (l : List Block′). leaves l ys) first ∙ sym (ap some (subtract-past y ys (x ∷ xs) (chain-sorted (y .end) (x ∷ xs) q .1))) ∙ now-first;
+            same = ap (λ (l : List Block′). leaves l ys) first ∙ sym (ap anyBlock (subtract-past y ys (x ∷ xs) (chain-sorted (y .end) (x ∷ xs) q .1))) ∙ now-first;
             upto = omega arith;
             past = omega arith;
             on-fits = c .on-fits;
@@ -193,29 +193,29 @@ module _ (on : List Block) (n : ℕ) (off : List Block) (m i j : ℕ) (c : Passi
 
 -- ---- the whole
 
-some-insert : (b : Block′) (l : List Block′) → some (insert b l) ≡ true
-unfolding some insert
-some-insert b [] = refl
-some-insert b (c ∷ l) = by-test (leb (b .start) (c .start)) (λ h. rw h) (λ h. rw h)
+any-insert : (b : Block′) (l : List Block′) → anyBlock (insert b l) ≡ true
+unfolding anyBlock insert
+any-insert b [] = refl
+any-insert b (c ∷ l) = by-test (leb (b .start) (c .start)) (λ h. rw h) (λ h. rw h)
 
-some-merged : (b : Block′) (l : List Block′) → some (mergedFrom b l) ≡ true
-unfolding some mergedFrom
-some-merged b [] = refl
-some-merged b (c ∷ l) = by-test (leb (c .start) (b .end)) (λ h. rw h (some-merged (block (b .start) (max (b .end) (c .end))) l)) (λ h. rw h)
+any-merged : (b : Block′) (l : List Block′) → anyBlock (mergedFrom b l) ≡ true
+unfolding anyBlock mergedFrom
+any-merged b [] = refl
+any-merged b (c ∷ l) = by-test (leb (c .start) (b .end)) (λ h. rw h (any-merged (block (b .start) (max (b .end) (c .end))) l)) (λ h. rw h)
 
 -- merging leaves something of something
-some-union : (l : List Block′) → some (union l) ≡ some l
-unfolding some union merged sorted
-some-union [] = refl
-some-union (b ∷ l) = go (insert b (sorted l)) (some-insert b (sorted l))
+any-union : (l : List Block′) → anyBlock (union l) ≡ anyBlock l
+unfolding anyBlock union merged sorted
+any-union [] = refl
+any-union (b ∷ l) = go (insert b (sorted l)) (any-insert b (sorted l))
   where
-    go : (k : List Block′) → some k ≡ true → some (merged k) ≡ true
+    go : (k : List Block′) → anyBlock k ≡ true → anyBlock (merged k) ≡ true
     go [] e = e
-    go (c ∷ k) e = some-merged c k
+    go (c ∷ k) e = any-merged c k
 
 leaves-onward : (t : ℕ) (a off : List Block′) → Apart t a → Apart t off → leaves (onward t a) (onward t off) ≡ leaves a off
 unfolding leaves
-leaves-onward t a off p q = ap some (subtract-onward t a off (p .full) (p .from) (q .full) (q .from)) ∙ some-onward t (subtract a off)
+leaves-onward t a off p q = ap anyBlock (subtract-onward t a off (p .full) (p .from) (q .full) (q .from)) ∙ any-onward t (subtract a off)
 
 -- 14 days from t on
 abbrev end : ℕ → ℕ
@@ -241,7 +241,7 @@ module _ (s : Schedule) (t : ℕ) (z : t ≡ 391337827200000000000) where
 
   pub works-left : (on : List Block′) → on ≡ union (onward t (blocksOfAll t (end t) (s .work))) → (off : List Block′) → off ≡ union (onward t (blocksOfAll t (end t) (s .breaks)))
       → (r : Bool) → r ≡ leaves on off → r ≡ worksIn2001 s
-  unfolding worksIn2001 working leaves some W O
+  unfolding worksIn2001 working leaves anyBlock W O
   works-left on e off f r i =
       let a : Apart t W = rules-apart t (end t) (s .work) in
       let b : Apart t O = rules-apart t (end t) (s .breaks) in
@@ -251,12 +251,12 @@ module _ (s : Schedule) (t : ℕ) (z : t ≡ 391337827200000000000) where
       ∙ ap (λ (x : List Block′). leaves (union W) (union x)) g ∙ rw z
 
   -- without breaks
-  pub works-bare : s .breaks ≡ [] → (r : Bool) → r ≡ some (blocksOfAll t (end t) (s .work)) → r ≡ worksIn2001 s
+  pub works-bare : s .breaks ≡ [] → (r : Bool) → r ≡ anyBlock (blocksOfAll t (end t) (s .work)) → r ≡ worksIn2001 s
   unfolding union merged sorted onward joined
   works-bare h r i =
       let l : List Block′ = onward t (blocksOfAll t (end t) (s .work)) in
       let n : Normal (union l) = union-normal l (apart-onward t (blocksOfAll t (end t) (s .work)) (rules-apart t (end t) (s .work))) in
-      works-left (union l) refl [] (sym none) r (i ∙ sym (some-onward t (blocksOfAll t (end t) (s .work))) ∙ sym (some-union l) ∙ sym (leaves-all (union l) (chain-nonempty 0 (union l) n)))
+      works-left (union l) refl [] (sym none) r (i ∙ sym (any-onward t (blocksOfAll t (end t) (s .work))) ∙ sym (any-union l) ∙ sym (leaves-all (union l) (chain-nonempty 0 (union l) n)))
     where
       none : union (onward t (blocksOfAll t (end t) (s .breaks))) ≡ []
       none = rw h

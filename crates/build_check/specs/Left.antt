@@ -11,11 +11,11 @@ use Rattle.instant.specs.declared.Instant.{Instant}
 use Rattle.rule.specs.declared.Rule.{Rule}
 use Rattle.block_list.specs.declared.Blocks.{Blocks}
 use Rattle.block_list.specs.Listed.{capacity, listOf}
-use Rattle.build_blocks.specs.Shown.{some, blocksShown}
+use Rattle.build_blocks.specs.Shown.{anyBlock, blocksShown}
 
 -- something of on is left without the blocks of off
 unfoldable pub leaves : List Block → List Block → Bool
-leaves on off = some (subtract on off)
+leaves on off = anyBlock (subtract on off)
 
 -- a block list that is sorted and merged: its blocks are apart
 pub record Merged (b : Blocks) : Type 0 where

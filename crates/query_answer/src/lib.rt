@@ -67,7 +67,7 @@ fn put_period(out: &mut [u8], at: usize, r: PeriodAnswer) -> usize
 // The answer of a schedule that was built.
 fn put_answer(book: &[u8], pack: &[u8], s: Schedule, q: Query, out: &mut [u8], at: usize) -> usize
     requires { ⌜ ScheduleFits (now book) (now pack) s × (at + longest ≤ length (now out)) ⌝ }
-    ensures { λ e. ⌜ LineAnswered (now (book .entry)) (now (pack .entry)) s q (now (out .entry)) (now (out .exit)) at e ⌝ }
+    ensures { λ e. ⌜ LineAnswered (book .entry .now) (pack .entry .now) s q (out .entry .now) (out .exit .now) at e ⌝ }
 {
     match q {
         Query::Between(a, b, c, d) => {

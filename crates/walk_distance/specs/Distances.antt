@@ -10,11 +10,11 @@ use Rattle.laws_blocks.specs.Move.{moves}
 use Rattle.laws_skip.specs.WindowEnds.{Inside}
 use Rattle.instant.specs.Instant.{nanos, Exact, InRange}
 use Rattle.instant.specs.declared.Instant.{Instant}
-use Rattle.rule.specs.Rules.{scheduleIs}
+use Rattle.rule.specs.Rules.{scheduleIs, ScheduleFits}
 use Rattle.rule.specs.declared.Schedule.{Schedule}
 use Rattle.window_dates.specs.Windows.{Window}
 use Rattle.block_pairs.specs.Pairs.{pairs}
-use Rattle.window_week.specs.Room.{records}
+use Rattle.window_week.specs.Room.{records, HasRoom}
 use Rattle.walk_distance.specs.declared.Ends.{Ends}
 
 -- the way of a walk: back where the flag is set
@@ -46,6 +46,10 @@ pub record WindowAhead (w : Way) (t : ℕ) (x y : Instant) : Type 0 where
 -- a window between two distances from an instant of the range, going on or back
 abbrev pub WindowWithin : Instant → Bool → Instant → Instant → Type 0
 WindowWithin t b x y = InRange t × WindowAhead (wayOf b) (nanos t) x y
+
+-- such a window of a schedule that fits, and memory for its blocks
+abbrev pub WindowReady : List ℕ → List ℕ → Schedule → Instant → Bool → Instant → Instant → List ℕ → List ℕ → List ℕ → Type 0
+WindowReady book pack s t b x y k m n = ScheduleFits book pack s × WindowWithin t b x y × HasRoom s k m n
 
 -- the window between the distances x and y from t lies from lo to hi
 pub data WindowPlaced : Way → ℕ → ℕ → ℕ → ℕ → ℕ → Type 0 where

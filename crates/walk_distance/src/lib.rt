@@ -6,9 +6,7 @@ ghost use lib.Dec.{eqb};
 ghost use Rattle.instant.specs.Instant.{nanos, most, Exact, InRange};
 ghost use Rattle.model.specs.Instant.{week};
 ghost use Rattle.model.specs.Walk as way;
-ghost use Rattle.rule.specs.Rules.{ScheduleFits};
-ghost use Rattle.window_week.specs.Room.{HasRoom};
-ghost use Rattle.walk_distance.specs.Distances.{wayOf, rangeSeconds, mostWeeks, Short, WindowWithin, PlacedAt, ResolvedAt};
+ghost use Rattle.walk_distance.specs.Distances.{wayOf, rangeSeconds, mostWeeks, Short, WindowWithin, WindowReady, PlacedAt, ResolvedAt};
 use instant::Instant;
 use instant::Length;
 use rule::Schedule;
@@ -150,7 +148,7 @@ pub fn window_into(
     off: &mut [u64],
     out: &mut [u64],
 ) -> usize
-    requires { ⌜ ScheduleFits (now book) (now pack) s × WindowWithin t back x y × HasRoom s (now on) (now off) (now out) ⌝ }
+    requires { ⌜ WindowReady (now book) (now pack) s t back x y (now on) (now off) (now out) ⌝ }
     ensures { λ r. ⌜ ResolvedAt (now (book .entry)) (now (pack .entry)) s t back x y r (now (out .exit)) ⌝ }
 {
     let at = place(t, back, x, y);

@@ -48,19 +48,19 @@ SkipAsked t back k left x end =
 abbrev pub SkippedFrom : model.Schedule → Instant → Bool → Previous → Instant → Instant → Instant → ℕ → Type 0
 SkippedFrom s t back k left x end n = Skipped k (nanos left) (λ y. repeats s (at (wayOf back) (nanos t) y)) (nanos x) (nanos end) n
 
--- the window between the distances x and y from t, where work last ended no more than the limit before x, with so much left to find
-abbrev pub InWindow : List ℕ → List ℕ → Schedule → Instant → Bool → Instant → Instant → Instant → Instant → Type 0
-InWindow book pack s t back x y last left =
-    ScheduleFits book pack s × WindowWithin t back x y
-    × Exact last × (nanos left < most) × Exact left × (nanos last ≤ nanos x) × (nanos x ≤ nanos last + s .limit * second)
-
 -- the search limit of a schedule in nanoseconds
 abbrev pub IsLimit : Schedule → ℕ → Type 0
 IsLimit s limit = limit ≡ s .limit * second
 
+-- the window between the distances x and y from t, where work last ended no more than the limit before x, with so much left to find
+abbrev pub InWindow : List ℕ → List ℕ → Schedule → ℕ → Instant → Bool → Instant → Instant → Instant → Instant → Type 0
+InWindow book pack s limit t back x y last left =
+    ScheduleFits book pack s × WindowWithin t back x y
+    × Exact last × (nanos left < most) × Exact left × (nanos last ≤ nanos x) × (nanos x ≤ nanos last + s .limit * second) × IsLimit s limit
+
 -- d is to find from t, and not nothing
-abbrev pub ToFind : Instant → Instant → Type 0
-ToFind t d = InRange t × (0 < nanos d) × (nanos d < most) × Exact d
+abbrev pub ToFind : Schedule → ℕ → Instant → Instant → Type 0
+ToFind s limit t d = InRange t × (0 < nanos d) × (nanos d < most) × Exact d × IsLimit s limit
 
 -- the answer of a search
 abbrev pub reachedIs : Reached → Answer ℕ

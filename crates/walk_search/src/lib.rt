@@ -9,7 +9,7 @@ ghost use Rattle.window_week.specs.Room.{HasRoom};
 ghost use Rattle.walk_distance.specs.Distances.{wayOf, Short};
 ghost use Rattle.walk_search_week.specs.Steps.{restOf};
 ghost use Rattle.walk_search.specs.Steps.{Further, Leaves};
-ghost use Rattle.walk_search.specs.Searches.{KeepsWindow, SkipAsked, SkippedFrom, InWindow, ToFind, IsLimit, SearchAnswered};
+ghost use Rattle.walk_search.specs.Searches.{KeepsWindow, SkipAsked, SkippedFrom, InWindow, ToFind, SearchAnswered};
 use instant::Instant;
 use instant::Length;
 use rule::Schedule;
@@ -154,7 +154,7 @@ fn search_window(
     off: &mut [u64],
     out: &mut [u64],
 ) -> Step
-    requires { ⌜ InWindow (now book) (now pack) s t back x y last left × HasRoom s (now on) (now off) (now out) × IsLimit s limit ⌝ }
+    requires { ⌜ InWindow (now book) (now pack) s limit t back x y last left × HasRoom s (now on) (now off) (now out) ⌝ }
     ensures { λ r. ⌜ Leaves (scheduleIs (now (book .entry)) (now (pack .entry)) s) (wayOf back) t x y last left r ⌝ }
 {
     let g = instant::nanoseconds(instant::difference(x, last));
@@ -193,7 +193,7 @@ fn search_into(
     off: &mut [u64],
     out: &mut [u64],
 ) -> Reached
-    requires { ⌜ ScheduleFits (now book) (now pack) s × ToFind t d × HasRoom s (now on) (now off) (now out) × IsLimit s limit ⌝ }
+    requires { ⌜ ScheduleFits (now book) (now pack) s × ToFind s limit t d × HasRoom s (now on) (now off) (now out) ⌝ }
     ensures { λ r. ⌜ SearchAnswered (wayOf back) (scheduleIs (now (book .entry)) (now (pack .entry)) s) t d r ⌝ }
 {
     let end = walk_distance::reach(t, back);

@@ -8,17 +8,19 @@ use lib.Dec.{leb, ltb}
 use Rattle.model.specs.Tzif as model
 use Rattle.model.specs.Zone.{offsetAt}
 use Rattle.laws_zone.specs.Zones.{ZoneFits}
-use Rattle.zone_tzif.specs.Opened.{Opened, zoneAt}
+use Rattle.zone_tzif.specs.Opened.{Opened, zoneAt, countAt}
 use Rattle.zone_tzif.specs.declared.Layout.{Layout}
 use Rattle.zone_tzif.specs.declared.OffsetBounds.{OffsetBounds}
 use Rattle.zone_footer.specs.declared.Footer.{Footer}
 use Rattle.zone_footer.specs.declared.Footer.the-variants as F
-use Rattle.zone_changes.specs.Meaning.{theFooter}
+use Rattle.zone_changes.specs.Meaning.{theFooter, IsOffset}
+use Rattle.zone_changes.specs.declared.OffsetUntil.{OffsetUntil}
 use Rattle.zone.specs.declared.Zone.{Zone}
 use Rattle.zone.specs.declared.ZoneRead.{ZoneRead}
 use Rattle.zone.specs.declared.ZoneRead.the-variants as R
 use Rattle.instant.specs.Instant.{yearsEnd}
 use Rattle.laws_zone.specs.Sound.{firstLocal}
+use Rattle.laws_zone.specs.Runs.{Past}
 use Rattle.model.specs.Offset.{greatestOffset}
 
 -- the zone of the definitions
@@ -69,6 +71,10 @@ inRun u o e x = leb (u + o) x && ltb (x - o) e
 abbrev pub nextCount : Layout → ℕ → ℕ
 nextCount l k = min (k + 1) (l .count)
 
+-- the offset at u, up to a second; k transitions are at or before u, and one more at or before that second
+abbrev pub RunAfter : List ℕ → Zone → ℕ → ℕ → OffsetUntil → Type 0
+RunAfter f z k u r = IsOffset (zoneOffset f z) u r × (nextCount (z .table) k ≡ countAt f (z .table) (r .until))
+
 -- no offset is below the one bound or above the other, and no bound above what a zone may have
 pub record ZoneBounds (off : ℕ → ℕ) (b : OffsetBounds) : Type 0 where
   pub least : (u : ℕ) → b .least ≤ off u
@@ -81,3 +87,7 @@ pub record Searched (f : List ℕ) (z : Zone) (x : ℕ) (b : OffsetBounds) : Typ
   pub from : firstLocal ≤ x
   pub to : x < yearsEnd
   pub bounds : ZoneBounds (zoneOffset f z) b
+
+-- the same from a second on that lies past the first jump over x; n transitions are at or before it
+abbrev pub SearchedFrom : List ℕ → Zone → ℕ → OffsetBounds → ℕ → ℕ → ℕ → Type 0
+SearchedFrom f z x b from n d = Searched f z x b × Past (zoneOffset f z) x from d × (n ≡ countAt f (z .table) from)

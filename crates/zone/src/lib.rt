@@ -6,12 +6,11 @@ ghost use Rattle.model.specs.Zone as model;
 ghost use Rattle.model.specs.Tzif.{zoneOf};
 ghost use Rattle.model.specs.Offset.{greatestOffset};
 ghost use Rattle.laws_zone.specs.Resolve.{Resolves};
-ghost use Rattle.laws_zone.specs.Runs.{Past};
 ghost use Rattle.laws_zone.specs.Sound.{firstLocal};
 ghost use Rattle.instant.specs.Instant.{yearsEnd};
 ghost use Rattle.zone_changes.specs.Meaning.{IsOffset};
 ghost use Rattle.zone_tzif.specs.Opened.{countAt};
-ghost use Rattle.zone.specs.Zones.{zoneIs, ZoneOk, Asked, zoneOffset, zoneRead, ReadOk, ruled, inRun, nextCount, ZoneBounds, Searched};
+ghost use Rattle.zone.specs.Zones.{zoneIs, ZoneOk, Asked, zoneOffset, zoneRead, ReadOk, ruled, inRun, nextCount, RunAfter, ZoneBounds, Searched, SearchedFrom};
 use zone_changes::OffsetUntil;
 use zone_footer::Footer;
 use zone_tzif::Layout;
@@ -84,7 +83,7 @@ fn count_on(table: Layout, k: usize) -> usize
 // The offset at u, and a second before which it stays, where k transitions are at or before u.
 fn run_after(f: &[u8], z: Zone, k: usize, u: u64) -> OffsetUntil
     requires { ⌜ Asked (now f) z u × (k ≡ countAt (now f) (z .table) u) ⌝ }
-    ensures { λ r. ⌜ IsOffset (zoneOffset (now (f .entry)) z) u r × (nextCount (z .table) k ≡ countAt (now (f .entry)) (z .table) (r .until)) ⌝ }
+    ensures { λ r. ⌜ RunAfter (now (f .entry)) z k u r ⌝ }
 {
     let table = z.table;
     let offset = zone_tzif::table_offset(f, table, k);
@@ -141,7 +140,7 @@ fn in_run(u: u64, o: u64, e: u64, x: u64) -> bool
 
 // The first reading of x from the second `from` on, past the first jump over x, and d if there is none. Of the transitions n are at or before `from`.
 fn read_after(f: &[u8], z: Zone, x: u64, bounds: OffsetBounds, from: u64, n: usize, d: u64) -> u64
-    requires { ⌜ Searched (now f) z x bounds × Past (zoneOffset (now f) z) x from d × (n ≡ countAt (now f) (z .table) from) ⌝ }
+    requires { ⌜ SearchedFrom (now f) z x bounds from n d ⌝ }
     ensures { λ r. ⌜ Resolves (zoneOffset (now (f .entry)) z) x r ⌝ }
 {
     let table = z.table;

@@ -6,7 +6,7 @@ use lib.ListN.{length}
 use Rattle.laws_base.specs.Every.{every-front}
 use Rattle.instant.specs.Instant.{nanos}
 use Rattle.rule.specs.Rules.{ruleIs, RuleFits}
-use Rattle.build_blocks.proofs.Any.{RulesPassed, rules-start, rule-shows-some, rule-passed, rules-passed}
+use Rattle.build_blocks.proofs.Any.{RulesPassed, rules-start, rule-shows-any, rule-passed, rules-passed}
 use Rattle.build_blocks.proofs.any_shows.Statement.{statement}
 use Rattle.build_blocks.proofs.any_shows.Tie as tie
 
@@ -29,7 +29,7 @@ shows-requires : tie.Need-shows-requires Inv-loop μ-loop
 shows-requires c κs = (every-front (RuleFits _) _ _ _ _ (c .before .loop-test .taken) (c .before .before .loop .inv .fits) (c .before .before .before .before .pre .1), (c .before .before .before .before .pre .2))
 
 returns : tie.Need-returns Inv-loop μ-loop
-returns c = rule-shows-some _ _ _ _ _ _ (c .before .before .before .before .loop .inv) (c .before .before .before .loop-test .taken) _ (sym (c .before .shows .ensures) ∙ (c .if1 .taken))
+returns c = rule-shows-any _ _ _ _ _ _ (c .before .before .before .before .loop .inv) (c .before .before .before .loop-test .taken) _ (sym (c .before .shows .ensures) ∙ (c .if1 .taken))
 
 add-i : tie.Need-add-i Inv-loop μ-loop
 add-i c = omega (arith, (c .before .before .before .before .before .before .pre .0), (c .before .before .before .loop-test .taken))

@@ -4,7 +4,7 @@ use Prim.Native.Nat.{_+_, _-_}
 use native.Mathlib.Omega.{arith}
 use Rattle.instant.specs.Instant.{nanos}
 use Rattle.rule.specs.Rules.{ruleIs}
-use Rattle.build_blocks.specs.Shown.{some}
+use Rattle.build_blocks.specs.Shown.{anyBlock}
 use Rattle.build_blocks.proofs.Any.{Passed, passed-starts, date-shows, date-passed, dates-passed, dates-all}
 use Rattle.build_blocks.proofs.shows.Statement.{statement}
 use Rattle.build_blocks.proofs.shows.Tie as tie
@@ -28,7 +28,7 @@ shows-at-requires c κs =
 returns : tie.Need-returns Inv-loop μ-loop
 returns c =
     date-shows _ _ _ _ _ _ (c .before .before .before .loop .inv) (omega (arith, (c .before .before .loop-test .taken))) (sym (c .before .shows-at .ensures) ∙ (c .if1 .taken))
-    ∙ ap some (dates-all _ _ _ _ (c .before .before .before .before .before .shifts-of .ensures .dates))
+    ∙ ap anyBlock (dates-all _ _ _ _ (c .before .before .before .before .before .shifts-of .ensures .dates))
 
 add-day : tie.Need-add-day Inv-loop μ-loop
 add-day c = omega (arith, (c .before .before .before .before .before .shifts-of .ensures .dates .high), (c .before .before .loop-test .taken))
@@ -40,7 +40,7 @@ loop-again : tie.Need-loop-again Inv-loop μ-loop
 loop-again c = date-passed _ _ _ _ _ _ (c .before .before .before .loop .inv) (omega (arith, (c .before .before .loop-test .taken))) (sym (c .before .shows-at .ensures) ∙ (c .if1 .left))
 
 returns-2 : tie.Need-returns-2 Inv-loop μ-loop
-returns-2 c = dates-passed _ _ _ _ _ _ (c .before .loop .inv) (c .loop-test .left) ∙ ap some (dates-all _ _ _ _ (c .before .before .before .shifts-of .ensures .dates))
+returns-2 c = dates-passed _ _ _ _ _ _ (c .before .loop .inv) (c .loop-test .left) ∙ ap anyBlock (dates-all _ _ _ _ (c .before .before .before .shifts-of .ensures .dates))
 
 pub shows-spec : {M : Type 1} → statement M
 shows-spec =

@@ -40,7 +40,7 @@ slice-aggregate-search-into-3 : tie.Need-slice-aggregate-search-into-3
 slice-aggregate-search-into-3 c = search needs
 
 search-into-requires : tie.Need-search-into-requires
-search-into-requires c κs = let m = rw (c .before .before .before .enum-told .given .1) at (c .before .before .before .before .before .size-for .ensures .1) in ((c .before .before .before .before .before .before .before .before .before .before .before .before .before .pre .0), ((c .before .before .before .before .before .before .before .before .before .before .before .before .before .pre .1), ltb-true 0 (nanos (c .before .before .before .before .before .before .before .before .before .before .before .before .before .args .d)) (sym (c .before .before .before .before .before .before .before .before .before .before .precedes .ensures) ∙ not-false _ (c .before .before .before .before .before .before .before .before .before .if1 .left)), (c .before .before .before .before .before .before .before .before .before .before .before .before .before .pre .2), (c .before .before .before .before .before .before .before .before .before .before .before .before .before .pre .3)), (omega arith, omega arith, omega arith), refl)
+search-into-requires c κs = let m = rw (c .before .before .before .enum-told .given .1) at (c .before .before .before .before .before .size-for .ensures .1) in ((c .before .before .before .before .before .before .before .before .before .before .before .before .before .pre .0), ((c .before .before .before .before .before .before .before .before .before .before .before .before .before .pre .1), ltb-true 0 (nanos (c .before .before .before .before .before .before .before .before .before .before .before .before .before .args .d)) (sym (c .before .before .before .before .before .before .before .before .before .before .precedes .ensures) ∙ not-false _ (c .before .before .before .before .before .before .before .before .before .if1 .left)), (c .before .before .before .before .before .before .before .before .before .before .before .before .before .pre .2), (c .before .before .before .before .before .before .before .before .before .before .before .before .before .pre .3), refl), (omega arith, omega arith, omega arith))
 
 enum-told-2 : tie.Need-enum-told-2
 enum-told-2 c = search needs
@@ -55,7 +55,7 @@ slice-aggregate-search-into-6 : tie.Need-slice-aggregate-search-into-6
 slice-aggregate-search-into-6 c = search needs
 
 search-into-requires-2 : tie.Need-search-into-requires-2
-search-into-requires-2 c κs = let m = rw (c .before .before .before .enum-told2 .given .1) at (c .before .before .before .before .before .size-for .ensures .1) in ((c .before .before .before .before .before .before .before .before .before .before .before .before .before .pre .0), ((c .before .before .before .before .before .before .before .before .before .before .before .before .before .pre .1), ltb-true 0 (nanos (c .before .before .before .before .before .before .before .before .before .before .before .before .before .args .d)) (sym (c .before .before .before .before .before .before .before .before .before .before .precedes .ensures) ∙ not-false _ (c .before .before .before .before .before .before .before .before .before .if1 .left)), (c .before .before .before .before .before .before .before .before .before .before .before .before .before .pre .2), (c .before .before .before .before .before .before .before .before .before .before .before .before .before .pre .3)), (omega arith, omega arith, omega arith), refl)
+search-into-requires-2 c κs = let m = rw (c .before .before .before .enum-told2 .given .1) at (c .before .before .before .before .before .size-for .ensures .1) in ((c .before .before .before .before .before .before .before .before .before .before .before .before .before .pre .0), ((c .before .before .before .before .before .before .before .before .before .before .before .before .before .pre .1), ltb-true 0 (nanos (c .before .before .before .before .before .before .before .before .before .before .before .before .before .args .d)) (sym (c .before .before .before .before .before .before .before .before .before .before .precedes .ensures) ∙ not-false _ (c .before .before .before .before .before .before .before .before .before .if1 .left)), (c .before .before .before .before .before .before .before .before .before .before .before .before .before .pre .2), (c .before .before .before .before .before .before .before .before .before .before .before .before .before .pre .3), refl), (omega arith, omega arith, omega arith))
 
 enum-told-3 : tie.Need-enum-told-3
 enum-told-3 c = search needs
@@ -70,7 +70,7 @@ slice-aggregate-search-into-9 : tie.Need-slice-aggregate-search-into-9
 slice-aggregate-search-into-9 c = search needs
 
 search-into-requires-3 : tie.Need-search-into-requires-3
-search-into-requires-3 c κs = let m = rw (c .before .before .before .enum-told3 .given .1) at (c .before .before .before .before .before .size-for .ensures .1) in ((c .before .before .before .before .before .before .before .before .before .before .before .before .before .pre .0), ((c .before .before .before .before .before .before .before .before .before .before .before .before .before .pre .1), ltb-true 0 (nanos (c .before .before .before .before .before .before .before .before .before .before .before .before .before .args .d)) (sym (c .before .before .before .before .before .before .before .before .before .before .precedes .ensures) ∙ not-false _ (c .before .before .before .before .before .before .before .before .before .if1 .left)), (c .before .before .before .before .before .before .before .before .before .before .before .before .before .pre .2), (c .before .before .before .before .before .before .before .before .before .before .before .before .before .pre .3)), (omega arith, omega arith, omega arith), refl)
+search-into-requires-3 c κs = let m = rw (c .before .before .before .enum-told3 .given .1) at (c .before .before .before .before .before .size-for .ensures .1) in ((c .before .before .before .before .before .before .before .before .before .before .before .before .before .pre .0), ((c .before .before .before .before .before .before .before .before .before .before .before .before .before .pre .1), ltb-true 0 (nanos (c .before .before .before .before .before .before .before .before .before .before .before .before .before .args .d)) (sym (c .before .before .before .before .before .before .before .before .before .before .precedes .ensures) ∙ not-false _ (c .before .before .before .before .before .before .before .before .before .if1 .left)), (c .before .before .before .before .before .before .before .before .before .before .before .before .before .pre .2), (c .before .before .before .before .before .before .before .before .before .before .before .before .before .pre .3), refl), (omega arith, omega arith, omega arith))
 
 returns-2 : tie.Need-returns-2
 returns-2 c = search needs

@@ -47,7 +47,7 @@ window-end-requires : tie.Need-window-end-requires Inv-loop μ-loop
 window-end-requires c κs = ((c .before .before .before .before .loop .inv .1), (c .before .before .before .before .before .reach .ensures .1))
 
 search-window-requires : tie.Need-search-window-requires Inv-loop μ-loop
-search-window-requires c κs = (((c .before .before .before .before .before .before .before .before .before .before .before .before .before .before .before .pre .0), ((c .before .before .before .before .before .before .before .before .before .before .before .before .before .before .before .pre .1 .0), (ahead-of (wayOf (c .before .before .before .before .before .before .before .before .before .before .before .before .before .before .before .args .back)) (nanos (c .before .before .before .before .before .before .before .before .before .before .before .before .before .before .before .args .t)) _ _ (c .before .before .before .before .before .before .before .before .before .reach .result) (c .before .before .before .before .before .before .before .before .loop .inv .1) (c .before .before .before .window-end .ensures .1) (c .before .before .before .before .before .before .before .before .before .reach .ensures .0) (c .before .before .before .before .before .before .before .before .loop .inv .0 .upto) (c .before .before .before .window-end .ensures .0))), (c .before .before .before .before .before .before .before .before .loop .inv .2), (let h = (c .before .before .before .before .before .before .before .before .loop .inv .0 .less) in let k = (c .before .before .before .before .before .before .before .before .before .before .before .before .before .before .before .pre .1 .2) in omega arith), (c .before .before .before .before .before .before .before .before .loop .inv .3), (let e = (c .before .before .before .before .before .before .before .before .loop .inv .0 .since) in omega arith), (let e = (c .before .before .before .before .before .before .before .before .loop .inv .0 .since) in let n = (c .before .before .before .before .before .before .before .before .loop .inv .0 .near) in omega arith)), (omega (arith, (c .before .before .before .before .before .before .before .before .before .before .before .before .before .before .before .pre .2 .0), (c .before .before .before .before .before .before .before .before .loop .inv .5)), omega (arith, (c .before .before .before .before .before .before .before .before .before .before .before .before .before .before .before .pre .2 .1), (c .before .before .before .before .before .before .before .before .loop .inv .6)), omega (arith, (c .before .before .before .before .before .before .before .before .before .before .before .before .before .before .before .pre .2 .2), (c .before .before .before .before .before .before .before .before .loop .inv .7))), (c .before .before .before .before .before .before .before .before .before .before .before .before .before .before .before .pre .3))
+search-window-requires c κs = (((c .before .before .before .before .before .before .before .before .before .before .before .before .before .before .before .pre .0), ((c .before .before .before .before .before .before .before .before .before .before .before .before .before .before .before .pre .1 .0), (ahead-of (wayOf (c .before .before .before .before .before .before .before .before .before .before .before .before .before .before .before .args .back)) (nanos (c .before .before .before .before .before .before .before .before .before .before .before .before .before .before .before .args .t)) _ _ (c .before .before .before .before .before .before .before .before .before .reach .result) (c .before .before .before .before .before .before .before .before .loop .inv .1) (c .before .before .before .window-end .ensures .1) (c .before .before .before .before .before .before .before .before .before .reach .ensures .0) (c .before .before .before .before .before .before .before .before .loop .inv .0 .upto) (c .before .before .before .window-end .ensures .0))), (c .before .before .before .before .before .before .before .before .loop .inv .2), (let h = (c .before .before .before .before .before .before .before .before .loop .inv .0 .less) in let k = (c .before .before .before .before .before .before .before .before .before .before .before .before .before .before .before .pre .1 .2) in omega arith), (c .before .before .before .before .before .before .before .before .loop .inv .3), (let e = (c .before .before .before .before .before .before .before .before .loop .inv .0 .since) in omega arith), (let e = (c .before .before .before .before .before .before .before .before .loop .inv .0 .since) in let n = (c .before .before .before .before .before .before .before .before .loop .inv .0 .near) in omega arith), (c .before .before .before .before .before .before .before .before .before .before .before .before .before .before .before .pre .1 .4)), (omega (arith, (c .before .before .before .before .before .before .before .before .before .before .before .before .before .before .before .pre .2 .0), (c .before .before .before .before .before .before .before .before .loop .inv .5)), omega (arith, (c .before .before .before .before .before .before .before .before .before .before .before .before .before .before .before .pre .2 .1), (c .before .before .before .before .before .before .before .before .loop .inv .6)), omega (arith, (c .before .before .before .before .before .before .before .before .before .before .before .before .before .before .before .pre .2 .2), (c .before .before .before .before .before .before .before .before .loop .inv .7))))
 
 add-resolved : tie.Need-add-resolved Inv-loop μ-loop
 add-resolved c = let h = (c .before .before .before .before .before .before .before .before .before .before .before .before .before .before .before .loop .inv .0 .few) (ltb-true (nanos (c .before .before .before .before .before .before .before .before .before .before .before .before .before .before .before .loop .x)) (nanos (c .before .before .before .before .before .before .before .before .before .before .before .before .before .before .before .before .reach .result)) (sym (c .before .before .before .before .before .before .before .before .before .before .before .before .before .before .precedes .ensures) ∙ (c .before .before .before .before .before .before .before .before .before .before .before .before .before .if1 .taken))) in let r = (c .before .before .before .before .before .before .before .before .before .before .before .before .before .before .before .loop .inv .1 .sec) in let q = (c .before .before .before .before .before .before .before .before .before .before .before .before .before .before .before .loop .inv .1 .ns) in omega arith

@@ -43,7 +43,7 @@ same-length-3 : tie.Need-same-length-3
 same-length-3 c = search needs
 
 returns : tie.Need-returns
-returns c = (rw ((c .before .before .before .if1 .taken)) (((c .further .ensures .0)) ∙ window-back _ _ _ _ _ _ _ _ _ _ ((c .before .before .before .before .before .before .before .before .before .before .before .before .before .before .before .before .before .before .before .before .before .before .before .before .pre .0 .1 .1 .order)) ((c .before .before .before .before .before .before .before .before .before .before .before .before .before .before .before .before .before .before .before .before .before .before .before .before .pre .0 .1 .1 .short)) ((c .before .before .before .before .before .before .before .before .before .before .before .before .before .before .before .before .before .before .before .before .before .before .before .before .pre .0 .5)) (((c .before .before .before .before .before .before .before .before .before .before .before .before .before .before .before .before .before .nanoseconds .ensures)) ∙ ((c .before .before .before .before .before .before .before .before .before .before .before .before .before .before .before .before .before .before .difference .ensures .0))) (((c .before .before .before .before .before .before .before .before .before .before .before .before .before .before .before .nanoseconds2 .ensures)) ∙ ((c .before .before .before .before .before .before .before .before .before .before .before .before .before .before .before .before .difference2 .ensures .0))) ((c .before .before .before .before .before .before .before .before .before .before .before .before .before .before .wanted .ensures)) _ _ (rw ((c .before .before .before .if1 .taken)) at ((c .before .before .before .before .before .before .before .before .before .before .before .before .before .before .before .before .before .before .before .before .before .before .before .before .pre .0 .1 .1 .near))) (rw ((c .before .before .before .if1 .taken)) at ((c .before .before .before .before .before .before .before .before .before .before .window-into .ensures .0))) ((c .before .search-backward .ensures)) ∙ limit-is _ _ _ _ (c .before .before .before .before .before .before .before .before .before .before .before .before .before .before .before .before .before .before .before .before .before .before .before .before .pre .2)), ((c .further .ensures .1)))
+returns c = (rw ((c .before .before .before .if1 .taken)) (((c .further .ensures .0)) ∙ window-back _ _ _ _ _ _ _ _ _ _ ((c .before .before .before .before .before .before .before .before .before .before .before .before .before .before .before .before .before .before .before .before .before .before .before .before .pre .0 .1 .1 .order)) ((c .before .before .before .before .before .before .before .before .before .before .before .before .before .before .before .before .before .before .before .before .before .before .before .before .pre .0 .1 .1 .short)) ((c .before .before .before .before .before .before .before .before .before .before .before .before .before .before .before .before .before .before .before .before .before .before .before .before .pre .0 .5)) (((c .before .before .before .before .before .before .before .before .before .before .before .before .before .before .before .before .before .nanoseconds .ensures)) ∙ ((c .before .before .before .before .before .before .before .before .before .before .before .before .before .before .before .before .before .before .difference .ensures .0))) (((c .before .before .before .before .before .before .before .before .before .before .before .before .before .before .before .nanoseconds2 .ensures)) ∙ ((c .before .before .before .before .before .before .before .before .before .before .before .before .before .before .before .before .difference2 .ensures .0))) ((c .before .before .before .before .before .before .before .before .before .before .before .before .before .before .wanted .ensures)) _ _ (rw ((c .before .before .before .if1 .taken)) at ((c .before .before .before .before .before .before .before .before .before .before .before .before .before .before .before .before .before .before .before .before .before .before .before .before .pre .0 .1 .1 .near))) (rw ((c .before .before .before .if1 .taken)) at ((c .before .before .before .before .before .before .before .before .before .before .window-into .ensures .0))) ((c .before .search-backward .ensures)) ∙ limit-is _ _ _ _ (c .before .before .before .before .before .before .before .before .before .before .before .before .before .before .before .before .before .before .before .before .before .before .before .before .pre .0 .7)), ((c .further .ensures .1)))
 
 search-forward-requires : tie.Need-search-forward-requires
 search-forward-requires c κs = (omega (arith, ((c .before .before .before .before .before .before .before .before .window-into .ensures .2)), (c .before .before .before .out .given), ((c .before .before .before .before .before .before .before .before .before .before .before .before .before .before .before .before .before .before .before .before .before .before .pre .1 .2))), inside-full (nanos ((c .before .before .before .before .before .before .before .before .before .before .before .before .before .before .before .before .before .before .before .before .before .before .args .y)) - nanos ((c .before .before .before .before .before .before .before .before .before .before .before .before .before .before .before .before .before .before .before .before .before .before .args .x))) _ _ ((c .before .before .before .before .before .before .before .before .window-into .ensures .1)), inside-ends _ (nanos ((c .before .before .before .before .before .before .before .before .before .before .before .before .before .before .before .before .before .before .before .before .before .before .args .y)) - nanos ((c .before .before .before .before .before .before .before .before .before .before .before .before .before .before .before .before .before .before .before .before .before .before .args .x))) _ _ (((c .before .before .before .before .before .before .before .before .before .before .before .before .before .nanoseconds2 .ensures)) ∙ ((c .before .before .before .before .before .before .before .before .before .before .before .before .before .before .difference2 .ensures .0))) ((c .before .before .before .before .before .before .before .before .window-into .ensures .1)), (let g = (((c .before .before .before .before .before .before .before .before .before .before .before .before .before .before .before .nanoseconds .ensures)) ∙ ((c .before .before .before .before .before .before .before .before .before .before .before .before .before .before .before .before .difference .ensures .0))) in let w = (((c .before .before .before .before .before .before .before .before .before .before .before .before .before .nanoseconds2 .ensures)) ∙ ((c .before .before .before .before .before .before .before .before .before .before .before .before .before .before .difference2 .ensures .0))) in let h = ((c .before .before .before .before .before .before .before .before .before .before .before .before .before .before .before .before .before .before .before .before .before .before .pre .0 .1 .1 .short)) in let k = ((c .before .before .before .before .before .before .before .before .before .before .before .before .before .before .before .before .before .before .before .before .before .before .pre .0 .6)) in let l = ((c .before .before .before .before .before .before .before .before .before .before .before .before .before .before .before .before .before .before .before .before .before .before .pre .0 .0 .limit)) in omega (arith, g, w, h, k, l)))
@@ -61,7 +61,7 @@ same-length-6 : tie.Need-same-length-6
 same-length-6 c = search needs
 
 returns-2 : tie.Need-returns-2
-returns-2 c = (rw ((c .before .before .before .if1 .left)) (((c .further2 .ensures .0)) ∙ window-on _ _ _ _ _ _ _ _ _ _ ((c .before .before .before .before .before .before .before .before .before .before .before .before .before .before .before .before .before .before .before .before .before .before .before .before .pre .0 .1 .1 .order)) ((c .before .before .before .before .before .before .before .before .before .before .before .before .before .before .before .before .before .before .before .before .before .before .before .before .pre .0 .1 .1 .short)) ((c .before .before .before .before .before .before .before .before .before .before .before .before .before .before .before .before .before .before .before .before .before .before .before .before .pre .0 .5)) (((c .before .before .before .before .before .before .before .before .before .before .before .before .before .before .before .before .before .nanoseconds .ensures)) ∙ ((c .before .before .before .before .before .before .before .before .before .before .before .before .before .before .before .before .before .before .difference .ensures .0))) (((c .before .before .before .before .before .before .before .before .before .before .before .before .before .before .before .nanoseconds2 .ensures)) ∙ ((c .before .before .before .before .before .before .before .before .before .before .before .before .before .before .before .before .difference2 .ensures .0))) ((c .before .before .before .before .before .before .before .before .before .before .before .before .before .before .wanted .ensures)) _ _ (rw ((c .before .before .before .if1 .left)) at ((c .before .before .before .before .before .before .before .before .before .before .before .before .before .before .before .before .before .before .before .before .before .before .before .before .pre .0 .1 .1 .near))) (rw ((c .before .before .before .if1 .left)) at ((c .before .before .before .before .before .before .before .before .before .before .window-into .ensures .0))) ((c .before .search-forward .ensures)) ∙ limit-is _ _ _ _ (c .before .before .before .before .before .before .before .before .before .before .before .before .before .before .before .before .before .before .before .before .before .before .before .before .pre .2)), ((c .further2 .ensures .1)))
+returns-2 c = (rw ((c .before .before .before .if1 .left)) (((c .further2 .ensures .0)) ∙ window-on _ _ _ _ _ _ _ _ _ _ ((c .before .before .before .before .before .before .before .before .before .before .before .before .before .before .before .before .before .before .before .before .before .before .before .before .pre .0 .1 .1 .order)) ((c .before .before .before .before .before .before .before .before .before .before .before .before .before .before .before .before .before .before .before .before .before .before .before .before .pre .0 .1 .1 .short)) ((c .before .before .before .before .before .before .before .before .before .before .before .before .before .before .before .before .before .before .before .before .before .before .before .before .pre .0 .5)) (((c .before .before .before .before .before .before .before .before .before .before .before .before .before .before .before .before .before .nanoseconds .ensures)) ∙ ((c .before .before .before .before .before .before .before .before .before .before .before .before .before .before .before .before .before .before .difference .ensures .0))) (((c .before .before .before .before .before .before .before .before .before .before .before .before .before .before .before .nanoseconds2 .ensures)) ∙ ((c .before .before .before .before .before .before .before .before .before .before .before .before .before .before .before .before .difference2 .ensures .0))) ((c .before .before .before .before .before .before .before .before .before .before .before .before .before .before .wanted .ensures)) _ _ (rw ((c .before .before .before .if1 .left)) at ((c .before .before .before .before .before .before .before .before .before .before .before .before .before .before .before .before .before .before .before .before .before .before .before .before .pre .0 .1 .1 .near))) (rw ((c .before .before .before .if1 .left)) at ((c .before .before .before .before .before .before .before .before .before .before .window-into .ensures .0))) ((c .before .search-forward .ensures)) ∙ limit-is _ _ _ _ (c .before .before .before .before .before .before .before .before .before .before .before .before .before .before .before .before .before .before .before .before .before .before .before .before .pre .0 .7)), ((c .further2 .ensures .1)))
 
 pub search-window-spec : {M : Type 1} → statement M
 search-window-spec =
