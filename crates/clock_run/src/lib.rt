@@ -6,7 +6,7 @@
 ghost use Prim.Native.Nat.{_≤_};
 ghost use lib.ListN.{length};
 ghost use Rattle.answer_line.specs.Placed.{longest};
-ghost use Rattle.query_answer.specs.Answering.{Stands};
+ghost use Rattle.build.specs.Read.{Builds};
 ghost use Rattle.io.specs.Counts.{Counts};
 use build::Built;
 use libc::STDIN_FILENO;
@@ -137,7 +137,7 @@ struct Passed {
 
 // Reads a piece to its end, and writes the answers, as often as `out` is full.
 fn pass(book: &[u8], pack: &[u8], b: Built, p: Progress, input: &[u8], out: &mut [u8]) -> Passed
-    requires { ⌜ Stands (now book) (now pack) b × (longest ≤ length (now out)) ⌝ }
+    requires { ⌜ Builds (now book) (now pack) b × (longest ≤ length (now out)) ⌝ }
 {
     let mut r = p;
     let mut i: usize = 0;
@@ -162,7 +162,7 @@ fn pass(book: &[u8], pack: &[u8], b: Built, p: Progress, input: &[u8], out: &mut
 
 // Reads one piece and writes the answers; at the end of the input the answer of a last line without a newline.
 fn step(book: &[u8], pack: &[u8], b: Built, p: Progress, input: &mut [u8], out: &mut [u8]) -> Passed
-    requires { ⌜ Stands (now book) (now pack) b × (longest ≤ length (now out)) ⌝ }
+    requires { ⌜ Builds (now book) (now pack) b × (longest ≤ length (now out)) ⌝ }
 {
     let got = read_some(STDIN_FILENO, input);
     if got < 0 {

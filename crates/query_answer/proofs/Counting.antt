@@ -19,6 +19,7 @@ use Rattle.laws_base.specs.Test.{clash, never}
 use Rattle.model.specs.Build.{build}
 use Rattle.rule.specs.Rules.{scheduleIs}
 use Rattle.build.specs.declared.Built.{Built}
+use Rattle.build.specs.Read.{Builds}
 use borrow.Author.Tests.{eq-eqb, ne-eqb}
 use Rattle.answer_line.specs.Placed.{Placed, exactly}
 use Rattle.query_line.specs.Reading.{queryIs}
@@ -29,7 +30,7 @@ use Rattle.schedule.specs.declared.TimeAnswer.{TimeAnswer}
 use Rattle.schedule.specs.declared.TimeAnswer.the-variants as T
 use Rattle.schedule.specs.declared.MoveAnswer.{MoveAnswer}
 use Rattle.schedule.specs.declared.MoveAnswer.the-variants as M
-use Rattle.query_answer.specs.Answering.{timeText, movedText, isBad, Stands}
+use Rattle.query_answer.specs.Answering.{timeText, movedText, isBad}
 
 -- an answer that is given tells its windows
 data Counted : Answer Reply → Type 0 where
@@ -155,7 +156,7 @@ module _ {old new : List ℕ} {at e : ℕ} where
   line-bad-too n k Q.Bad h p = p
 
   -- from what `build` answers
-  module _ (book pack : List ℕ) (b : Built) (q : Option model.Query) (st : Stands book pack b) where
+  module _ (book pack : List ℕ) (b : Built) (q : Option model.Query) (st : Builds book pack b) where
     pub built-line : b .number ≡ 0 → Placed old new at e (replyIn leastOnly (gives (scheduleIs book pack (b .schedule))) q) →
         Placed old new at e (replyIn leastOnly (build book pack) q)
     built-line h p = rw (← st .means, eq-eqb (b .number) 0 h) p

@@ -8,8 +8,6 @@ use Rattle.model.specs.Build.{build}
 use Rattle.model.specs.Lines.{printed, replyIn, leastOnly}
 use Rattle.rule.specs.Rules.{scheduleIs}
 use Rattle.rule.specs.declared.Schedule.{Schedule}
-use Rattle.build.specs.Read.{Answers}
-use Rattle.build.specs.declared.Built.{Built}
 use Rattle.query_line.specs.Reading.{queryIs}
 use Rattle.query_line.specs.declared.Query.{Query}
 use Rattle.query_line.specs.declared.Query.the-variants as Q
@@ -53,7 +51,3 @@ LineAnswered book pack s q old new at end = PlacedLine old new at end (replyIn l
 -- the line of a query to a book and a pack is written
 abbrev pub Replied : List ℕ → List ℕ → Query → List ℕ → List ℕ → ℕ → ℕ → Type 0
 Replied book pack q old new at end = PlacedLine old new at end (replyIn leastOnly (build book pack) (queryIs q))
-
--- b is what `build` answers
-abbrev pub Stands : List ℕ → List ℕ → Built → Type 0
-Stands book pack b = Answers book pack b (build book pack)

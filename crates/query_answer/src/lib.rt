@@ -3,8 +3,9 @@ ghost use mathlib.Core.Path.{_≡_};
 ghost use Prim.Native.Nat.{_+_, _≤_};
 ghost use lib.ListN.{length};
 ghost use Rattle.rule.specs.Rules.{ScheduleFits};
+ghost use Rattle.build.specs.Read.{Builds};
 ghost use Rattle.answer_line.specs.Placed.{longest, PlacedLine};
-ghost use Rattle.query_answer.specs.Answering.{timeText, movedText, periodText, isBad, refusedText, Stands, LineAnswered, Replied};
+ghost use Rattle.query_answer.specs.Answering.{timeText, movedText, periodText, isBad, refusedText, LineAnswered, Replied};
 use build::Built;
 use query_line::Query;
 use rule::Schedule;
@@ -121,7 +122,7 @@ fn put_refusal(number: u64, place: u64, q: Query, out: &mut [u8], at: usize) -> 
 
 // Writes the answer line of a query, from what `build` answered.
 pub fn answer(book: &[u8], pack: &[u8], b: Built, q: Query, out: &mut [u8], at: usize) -> usize
-    requires { ⌜ Stands (now book) (now pack) b × (at + longest ≤ length (now out)) ⌝ }
+    requires { ⌜ Builds (now book) (now pack) b × (at + longest ≤ length (now out)) ⌝ }
     ensures { λ e. ⌜ Replied (now (book .entry)) (now (pack .entry)) q (now (out .entry)) (now (out .exit)) at e ⌝ }
 {
     if b.number == 0 {

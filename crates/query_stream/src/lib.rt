@@ -5,7 +5,7 @@ ghost use mathlib.Core.Path.{_≡_};
 ghost use Prim.Native.Nat.{_-_, _^_, _≤_, _<_};
 ghost use lib.ListN.{length};
 ghost use Rattle.answer_line.specs.Placed.{longest};
-ghost use Rattle.query_answer.specs.Answering.{Stands};
+ghost use Rattle.build.specs.Read.{Builds};
 ghost use Rattle.query_stream.specs.Streaming.{Begun, HasLineRoom, LineEnded, LineGoesOn, FedBy, Ended};
 ghost use Rattle.model.specs.Bytes.{newline};
 use answer_line::LONGEST;
@@ -34,7 +34,7 @@ pub fn begin() -> Progress
 
 // Reads a newline: it ends the line at hand, whose answer is written.
 fn end_line(book: &[u8], pack: &[u8], b: Built, p: Progress, out: &mut [u8]) -> Progress
-    requires { ⌜ Stands (now book) (now pack) b × HasLineRoom p (now out) ⌝ }
+    requires { ⌜ Builds (now book) (now pack) b × HasLineRoom p (now out) ⌝ }
     ensures { λ r. ⌜ LineEnded (now (book .entry)) (now (pack .entry)) (now (out .entry)) (now (out .exit)) p r ⌝ }
 {
     let line = p.line;
@@ -70,7 +70,7 @@ pub fn feed(
     input: &[u8],
     out: &mut [u8],
 ) -> Progress
-    requires { ⌜ Stands (now book) (now pack) b × ((p .used ≤ length (now out)) × (p .next ≤ length (now input))) ⌝ }
+    requires { ⌜ Builds (now book) (now pack) b × ((p .used ≤ length (now out)) × (p .next ≤ length (now input))) ⌝ }
     ensures { λ r. ⌜ FedBy (book .entry) (pack .entry) (input .entry) (out .entry) (out .exit) p r ⌝ }
 {
     let mut r = p;
@@ -92,7 +92,7 @@ pub fn feed(
 
 // The input ends: a last line without a newline counts. Writes its answer at the start of `out`; no other byte changes.
 pub fn end(book: &[u8], pack: &[u8], b: Built, p: Progress, out: &mut [u8]) -> usize
-    requires { ⌜ Stands (now book) (now pack) b × (longest ≤ length (now out)) ⌝ }
+    requires { ⌜ Builds (now book) (now pack) b × (longest ≤ length (now out)) ⌝ }
     ensures { λ r. ⌜ Ended (now (book .entry)) (now (pack .entry)) (now (out .entry)) (now (out .exit)) p r ⌝ }
 {
     if p.begun {

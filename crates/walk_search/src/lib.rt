@@ -138,7 +138,7 @@ fn further(r: WeekStep, last: Length, left: Length, d: u64) -> Step
 }
 
 // What the window from x to y leaves, where `left` is to find and work last ended at `last`, no more than the limit before x. Its blocks are found
-// in lent memory. The limit is in nanoseconds.
+// in lent memory. `gap` is the limit in nanoseconds.
 fn search_window(
     book: &[u8],
     pack: &[u8],
@@ -149,12 +149,12 @@ fn search_window(
     y: Length,
     last: Length,
     left: Length,
-    limit: u64,
+    gap: u64,
     on: &mut [u64],
     off: &mut [u64],
     out: &mut [u64],
 ) -> Step
-    requires { ⌜ InWindow (now book) (now pack) s limit t back x y last left × HasRoom s (now on) (now off) (now out) ⌝ }
+    requires { ⌜ InWindow (now book) (now pack) s gap t back x y last left × HasRoom s (now on) (now off) (now out) ⌝ }
     ensures { λ r. ⌜ Leaves (scheduleIs (now (book .entry)) (now (pack .entry)) s) (wayOf back) t x y last left r ⌝ }
 {
     let g = instant::nanoseconds(instant::difference(x, last));
@@ -163,14 +163,14 @@ fn search_window(
     let n = walk_distance::window_into(book, pack, s, t, back, x, y, on, off, out);
     if back {
         return further(
-            walk_search_week::search_backward(out, n, limit, g, w, d),
+            walk_search_week::search_backward(out, n, gap, g, w, d),
             last,
             left,
             d,
         );
     }
     further(
-        walk_search_week::search_forward(out, n, limit, g, w, d),
+        walk_search_week::search_forward(out, n, gap, g, w, d),
         last,
         left,
         d,
@@ -179,8 +179,8 @@ fn search_window(
 
 // ---- the walk
 
-// The distance from t at which d of working time is spent, d not zero. A window's blocks are found in lent memory. The limit is in nanoseconds; the
-// caller works it out, because a schedule of which a field is read here would be copied for each window once more.
+// The distance from t at which d of working time is spent, d not zero. A window's blocks are found in lent memory. `gap` is the limit in
+// nanoseconds: the caller works it out, because a schedule of which a field is read here would be copied for each window once more.
 fn search_into(
     book: &[u8],
     pack: &[u8],
@@ -188,12 +188,12 @@ fn search_into(
     t: Instant,
     back: bool,
     d: Length,
-    limit: u64,
+    gap: u64,
     on: &mut [u64],
     off: &mut [u64],
     out: &mut [u64],
 ) -> Reached
-    requires { ⌜ ScheduleFits (now book) (now pack) s × ToFind s limit t d × HasRoom s (now on) (now off) (now out) ⌝ }
+    requires { ⌜ ScheduleFits (now book) (now pack) s × ToFind s gap t d × HasRoom s (now on) (now off) (now out) ⌝ }
     ensures { λ r. ⌜ SearchAnswered (wayOf back) (scheduleIs (now (book .entry)) (now (pack .entry)) s) t d r ⌝ }
 {
     let end = walk_distance::reach(t, back);
@@ -211,21 +211,7 @@ fn search_into(
         let n = skips(book, pack, s, t, back, kept, left, x, end);
         if n == 0 {
             let y = walk_distance::window_end(x, end);
-            let step = search_window(
-                book,
-                pack,
-                s,
-                t,
-                back,
-                x,
-                y,
-                last,
-                left,
-                limit,
-                on,
-                off,
-                out,
-            );
+            let step = search_window(book, pack, s, t, back, x, y, last, left, gap, on, off, out);
             resolved += 1;
             match step {
                 Step::Found(z) => return Reached::At(z, resolved),
@@ -256,59 +242,26 @@ pub fn search(book: &[u8], pack: &[u8], s: Schedule, t: Instant, back: bool, d: 
     if !instant::precedes(zero, d) {
         return Reached::At(zero, 0);
     }
-    let limit = s.limit * instant::SECOND;
+    let gap = s.limit * instant::SECOND;
     let size = window_memory::size_for(s.works + s.pauses + s.closings);
     match size {
         Size::One => {
             let mut on = [0u64; window_memory::ONE];
             let mut off = [0u64; window_memory::ONE];
             let mut out = [0u64; window_memory::ONE];
-            search_into(
-                book,
-                pack,
-                s,
-                t,
-                back,
-                d,
-                limit,
-                &mut on,
-                &mut off,
-                &mut out,
-            )
+            search_into(book, pack, s, t, back, d, gap, &mut on, &mut off, &mut out)
         },
         Size::Four => {
             let mut on = [0u64; window_memory::FOUR];
             let mut off = [0u64; window_memory::FOUR];
             let mut out = [0u64; window_memory::FOUR];
-            search_into(
-                book,
-                pack,
-                s,
-                t,
-                back,
-                d,
-                limit,
-                &mut on,
-                &mut off,
-                &mut out,
-            )
+            search_into(book, pack, s, t, back, d, gap, &mut on, &mut off, &mut out)
         },
         Size::All => {
             let mut on = [0u64; window_memory::ALL];
             let mut off = [0u64; window_memory::ALL];
             let mut out = [0u64; window_memory::ALL];
-            search_into(
-                book,
-                pack,
-                s,
-                t,
-                back,
-                d,
-                limit,
-                &mut on,
-                &mut off,
-                &mut out,
-            )
+            search_into(book, pack, s, t, back, d, gap, &mut on, &mut off, &mut out)
         },
     }
 }

@@ -15,8 +15,8 @@ precedes-requires c κs = search needs
 returns : tie.Need-returns
 returns c = (nothing-found _ (c .before .before .before .before .pre .0 .well) _ _ _ (let h = ltb-false 0 (nanos (c .before .before .before .before .args .d)) (sym (c .before .precedes .ensures) ∙ not-true _ (c .if1 .taken)) in omega arith), found-at {z = record { sec = 0; ns = 0 }} (omega arith) (nothing-count _ (c .before .before .before .before .pre .0 .well) _ _ _ (let h = ltb-false 0 (nanos (c .before .before .before .before .args .d)) (sym (c .before .precedes .ensures) ∙ not-true _ (c .if1 .taken)) in omega arith)))
 
-mul-limit : tie.Need-mul-limit
-mul-limit c = omega (arith, (c .before .before .before .before .before .pre .0 .limit))
+mul-gap : tie.Need-mul-gap
+mul-gap c = omega (arith, (c .before .before .before .before .before .pre .0 .limit))
 
 add-size-for : tie.Need-add-size-for
 add-size-for c = search needs
@@ -87,7 +87,7 @@ search-spec =
     (tie.spec
     precedes-requires
     returns
-    mul-limit
+    mul-gap
     add-size-for
     add-size-for-2
     size-for-requires

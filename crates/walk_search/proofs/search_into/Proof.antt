@@ -23,12 +23,12 @@ use Rattle.walk_search.proofs.search_into.Statement.{statement}
 use Rattle.walk_search.proofs.search_into.Tie as tie
 
 abbrev Inv-loop : tie.InvT-loop
-Inv-loop book pack s t back limit on₀ off₀ out₀ end x₀ last₀ left₀ kept₀ resolved₀ on off out x last left kept resolved =
+Inv-loop book pack s t back gap on₀ off₀ out₀ end x₀ last₀ left₀ kept₀ resolved₀ on off out x last left kept resolved =
     Searching (ahead (wayOf back) (scheduleIs book pack s) (nanos t)) (λ y. repeats (scheduleIs book pack s) (way.at (wayOf back) (nanos t) y)) (s .limit * second) (nanos end) (nanos left₀) (nanos x) (nanos last) (nanos left) resolved (nanos (kept .idle)) (previousIs kept)
     × Short x × Exact last × Exact left × PreviousExact kept × (length on ≡ length on₀) × (length off ≡ length off₀) × (length out ≡ length out₀)
 
 abbrev μ-loop : tie.MeasureT-loop
-μ-loop book pack s t back limit on₀ off₀ out₀ end x₀ last₀ left₀ kept₀ resolved₀ on off out x last left kept resolved =
+μ-loop book pack s t back gap on₀ off₀ out₀ end x₀ last₀ left₀ kept₀ resolved₀ on off out x last left kept resolved =
     nanos end - nanos x
 
 reach-requires : tie.Need-reach-requires Inv-loop μ-loop
