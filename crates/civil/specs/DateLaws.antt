@@ -51,9 +51,9 @@ unfolding dayRead
 day-no d e = rw e
 
 -- a date's day is in the range
-pub day-in : (d : Date) (n : ℕ) → dayRead d ≡ Day n → (firstDay ≤ n) × (n ≤ lastDay)
+pub read-day-in : (d : Date) (n : ℕ) → dayRead d ≡ Day n → (firstDay ≤ n) × (n ≤ lastDay)
 unfolding dayRead
-day-in d n e =
+read-day-in d n e =
     by-test (isDate (d .year) (d .month) (d .day))
     (λ t.
     let v = date-facts {y = d .year} {m = d .month} {d = d .day} t in

@@ -1,5 +1,5 @@
 -- How many blocks there are: a union has no more than its list, and a difference no more than its two lists together. With bounds on the blocks
--- of the rules they say that the array of 672 suffices.
+-- of the rules they say that an array of `mostBlocks` suffices.
 use Prim.Native.Nat.{ℕ, suc, _+_, _<_, _≤_, max}
 use mathlib.Core.Path.{_≡_, refl, _∙_, ap}
 use mathlib.Core.Bool.{_&&_}
@@ -12,6 +12,10 @@ use Rattle.model.specs.Blocks.{Block, block, put, insert, sorted, mergedFrom, m
 use Rattle.laws_base.specs.Test.{by-test}
 use Rattle.laws_blocks.specs.Count.{bit}
 use Rattle.laws_blocks.specs.Members.{NonEmpty, Chain, Normal, union-normal}
+
+-- no window has more blocks than this
+abbrev pub mostBlocks : ℕ
+mostBlocks = 672
 
 -- ---- union
 

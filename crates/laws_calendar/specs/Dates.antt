@@ -12,7 +12,7 @@ use borrow.Author.Tests.{eqb-true, eqb-false, ltb-true, ltb-false}
 use Rattle.model.specs.Basic.{if_then_else_, isIn}
 use Rattle.model.specs.Calendar.{isLeap, daysBeforeYear, daysInMonth, daysBeforeMonth, Date, date, isDate, dayNumber, yearOf, monthsBegun, monthOf, dateIn, dateOf, firstDay, lastDay}
 use Rattle.laws_base.specs.Claim.{Claim, le, lt, eq, both, if, Says, allBelow, at-each, all₂, at-each₂, says, passes, fails}
-use Rattle.laws_calendar.specs.Years.{dby-hi, dby-lo}
+use Rattle.laws_calendar.specs.Years.{dby-hi, dby-lo, yearEstimate}
 
 -- ---- the length of a year
 
@@ -106,16 +106,11 @@ pub after-first : (n e : ℕ) → n < daysBeforeYear e → 0 < e
 after-first n zero h = absurd (omega (arith, first-year))
 after-first n (suc e) h = omega arith
 
-est : ℕ → ℕ
-est n = 400 * (n + 1) / 146097
+estimate-hi : (n : ℕ) → n < daysBeforeYear (yearEstimate n + 1)
+estimate-hi n = omega (arith, dby-lo (yearEstimate n + 1))
 
-est-hi : (n : ℕ) → n < daysBeforeYear (est n + 1)
-unfolding est
-est-hi n = omega (arith, dby-lo (400 * (n + 1) / 146097 + 1))
-
-est-lo : (n : ℕ) → daysBeforeYear (est n) ≤ n + 3
-unfolding est
-est-lo n = omega (arith, dby-hi (400 * (n + 1) / 146097))
+estimate-lo : (n : ℕ) → daysBeforeYear (yearEstimate n) ≤ n + 3
+estimate-lo n = omega (arith, dby-hi (yearEstimate n))
 
 one-less : (n e : ℕ) → daysBeforeYear e ≤ n + 3 → n < daysBeforeYear e → InYear n (e - 1)
 one-less n e lo t =
@@ -128,8 +123,8 @@ pick-year n e lo hi true t = one-less n e lo (ltb-true _ _ t)
 
 -- a day lies in the year that yearOf says
 pub year-within : (n : ℕ) → InYear n (yearOf n)
-unfolding yearOf est
-year-within n = pick-year n (400 * (n + 1) / 146097) (est-lo n) (est-hi n) _ refl
+unfolding yearOf
+year-within n = pick-year n (yearEstimate n) (estimate-lo n) (estimate-hi n) _ refl
 
 no-later : {n a b : ℕ} → InYear n a → InYear n b → Dec (a ≤ b) → a ≤ b
 no-later p q (yes h) = h
@@ -262,13 +257,13 @@ is-had v = record { month-low = v .month-low; month-high = v .month-high; day-lo
 claim : ℕ → ℕ → ℕ → Claim
 claim y m d = both (both (le 401 y) (le y 20399)) (both (both (le 1 m) (le m 12)) (both (le 1 d) (le d (daysInMonth (isLeap y) m))))
 
-told : {y m d : ℕ} → Says (claim y m d) → IsDate y m d
+claimed-date : {y m d : ℕ} → Says (claim y m d) → IsDate y m d
 unfolding claim
-told h = record { year-low = h .0 .0; year-high = h .0 .1; month-low = h .1 .0 .0; month-high = h .1 .0 .1; day-low = h .1 .1 .0; day-high = h .1 .1 .1 }
+claimed-date h = record { year-low = h .0 .0; year-high = h .0 .1; month-low = h .1 .0 .0; month-high = h .1 .0 .1; day-low = h .1 .1 .0; day-high = h .1 .1 .1 }
 
 pub date-facts : {y m d : ℕ} → isDate y m d ≡ true → IsDate y m d
 unfolding isDate claim
-date-facts {y} {m} {d} e = told (says (claim y m d) e)
+date-facts {y} {m} {d} e = claimed-date (says (claim y m d) e)
 
 pub date-test : {y m d : ℕ} → IsDate y m d → isDate y m d ≡ true
 unfolding isDate claim
@@ -276,7 +271,7 @@ date-test {y} {m} {d} v = passes (claim y m d) ((v .year-low, v .year-high), ((v
 
 pub no-date : {y m d : ℕ} → (IsDate y m d → ⊥) → isDate y m d ≡ false
 unfolding isDate claim
-no-date {y} {m} {d} f = fails (claim y m d) (λ h. f (told h))
+no-date {y} {m} {d} f = fails (claim y m d) (λ h. f (claimed-date h))
 
 first-is : daysBeforeYear 401 ≡ firstDay
 unfolding daysBeforeYear

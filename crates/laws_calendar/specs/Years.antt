@@ -19,19 +19,19 @@ unfolding daysBeforeYear
 dby-lo y = omega arith
 
 -- the year of a day, within a day or five
-abbrev est : ℕ → ℕ
-est n = 400 * (n + 1) / 146097
+abbrev pub yearEstimate : ℕ → ℕ
+yearEstimate n = 400 * (n + 1) / 146097
 
 pub year-from : (n : ℕ) → daysBeforeYear (yearOf n) ≤ n + 1
 unfolding yearOf
 year-from n =
-    let early : daysBeforeYear (est n - 1) ≤ n + 1 = omega (arith, dby-hi (est n - 1)) in
-    by-test (ltb n (daysBeforeYear (est n))) (λ e. rw e early) (λ e. let late : daysBeforeYear (est n) ≤ n + 1 = omega (arith, ltb-false n (daysBeforeYear (est n)) e) in rw e late)
+    let early : daysBeforeYear (yearEstimate n - 1) ≤ n + 1 = omega (arith, dby-hi (yearEstimate n - 1)) in
+    by-test (ltb n (daysBeforeYear (yearEstimate n))) (λ e. rw e early) (λ e. let late : daysBeforeYear (yearEstimate n) ≤ n + 1 = omega (arith, ltb-false n (daysBeforeYear (yearEstimate n)) e) in rw e late)
 
 pub year-to : (n : ℕ) → n < daysBeforeYear (yearOf n) + 370
 unfolding yearOf
 year-to n =
-    let late : n < daysBeforeYear (est n) + 370 = omega (arith, dby-lo (est n)) in
-    by-test (ltb n (daysBeforeYear (est n)))
-    (λ e. let early : n < daysBeforeYear (est n - 1) + 370 = omega (arith, ltb-true n (daysBeforeYear (est n)) e, dby-hi (est n), dby-lo (est n - 1)) in rw e early)
+    let late : n < daysBeforeYear (yearEstimate n) + 370 = omega (arith, dby-lo (yearEstimate n)) in
+    by-test (ltb n (daysBeforeYear (yearEstimate n)))
+    (λ e. let early : n < daysBeforeYear (yearEstimate n - 1) + 370 = omega (arith, ltb-true n (daysBeforeYear (yearEstimate n)) e, dby-hi (yearEstimate n), dby-lo (yearEstimate n - 1)) in rw e early)
     (λ e. rw e late)

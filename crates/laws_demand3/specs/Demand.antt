@@ -17,7 +17,7 @@ use Rattle.laws_blocks.specs.Totals.{lists-total}
 use Rattle.laws_blocks.specs.Turn.{seenFrom, behind, onward-lists, backward-lists}
 use Rattle.laws_demand3.specs.Walks.{Crossed, Found, Outcome, met, lacks, over, found-once, outcome-once, outcome-on, search-outcome, search-finds}
 use Rattle.laws_demand3.specs.Distance.{outcome-onward, found-distance, found-backward, first-work}
-use Rattle.laws_demand3.specs.Windows.{RuleOk, NearRule, OfRules, works, window-lists}
+use Rattle.laws_demand3.specs.Windows.{RuleOk, NearRule, OfRules, worksAt, window-lists}
 use Rattle.laws_base.specs.Test.{never}
 
 -- -9998-01-01T00:00Z
@@ -107,7 +107,7 @@ module _ (s : Schedule) where
 
   module _ (ok : OfRules RuleOk s) (near : OfRules NearRule s) where
     abbrev W : ℕ → Bool
-    W = works s
+    W = worksAt s
 
     lists-at : (lo hi : ℕ) → (firstDay + 5) * day ≤ lo → lo ≤ hi → hi ≤ lastInstant → Lists W lo hi (working s lo hi)
     lists-at = window-lists s ok near

@@ -20,7 +20,7 @@ use Rattle.laws_demand3.specs.Pairs.{Pair, nanosOf, IsInstant, IsDuratio
 use Rattle.laws_demand3.specs.Zones.{zonesOf, WithinDay}
 use Rattle.laws_base.specs.Every.{Every}
 use Rattle.laws_demand3.specs.Diff.{diff, diff-add, diff-same, neg-pos, pos-diff, nat-diff}
-use Rattle.laws_demand3.specs.SignedPairs.{At, at-read, at-shown, shown-at, pairOf, pair-at, at-instant, instant-at, at-order, at-since, Plain, plain, plain-sum, lengthOf, length-shown, length-nanos}
+use Rattle.laws_demand3.specs.SignedPairs.{At, at-read, at-shown, shown-at, pairOf, pair-at, at-instant, instant-at, at-order, at-since, NotBelowZero, not-below-zero, not-below-zero-sum, lengthOf, length-shown, length-nanos}
 use Rattle.laws_demand3.specs.Built.{built, near-rules}
 use Rattle.laws_demand3.specs.Demand as counted
 use Rattle.laws_demand3.specs.Demand.{move, time}
@@ -127,21 +127,21 @@ same-nanos c d e = let f : c .sec ≡ d .sec = cc in let g : c .ns ≡ d .ns = c
 
 module _ (book pack : List ℕ) (s : Schedule) (e : build book pack ≡ gives s) where
   module _ (a b : Pair) (m n : ℕ) (p : At a m) (q : At b n) where
-    abbrev spent : Duration
-    spent = record { minus = ltb n m; size = timeBetween s (min m n) (max m n) }
+    abbrev workingTime : Duration
+    workingTime = record { minus = ltb n m; size = timeBetween s (min m n) (max m n) }
 
-    between-said : said (between book pack (a .sec) (a .ns) (b .sec) (b .ns)) ≡ gives (listedPair (lengthOf spent))
+    between-said : said (between book pack (a .sec) (a .ns) (b .sec) (b .ns)) ≡ gives (listedPair (lengthOf workingTime))
     unfolding betweenCall
-    between-said = rw (e, at-read a m p, at-read b n q) (ap gives (length-shown spent))
+    between-said = rw (e, at-read a m p, at-read b n q) (ap gives (length-shown workingTime))
 
-    spent-nanos : nanosOf (lengthOf spent) ≡ diff (time s m n) (time s n m)
-    spent-nanos = length-nanos spent ∙ time-signed s m n
+    working-time-nanos : nanosOf (lengthOf workingTime) ≡ diff (time s m n) (time s n m)
+    working-time-nanos = length-nanos workingTime ∙ time-signed s m n
 
     time-is : WorkingTime (asDefined book pack) a b (diff (time s m n) (time s n m))
-    time-is = (lengthOf spent, between-said, spent-nanos)
+    time-is = (lengthOf workingTime, between-said, working-time-nanos)
 
     is-time : (w : ℤ) → WorkingTime (asDefined book pack) a b w → w ≡ diff (time s m n) (time s n m)
-    is-time w h = sym (h .2) ∙ same-nanos (h .0) (lengthOf spent) (sym (h .1) ∙ between-said) ∙ spent-nanos
+    is-time w h = sym (h .2) ∙ same-nanos (h .0) (lengthOf workingTime) (sym (h .1) ∙ between-said) ∙ working-time-nanos
 
     -- a positive working time goes forward
     time-pos : (k : ℕ) → 0 < k → WorkingTime (asDefined book pack) a b (pos k) → time s m n ≡ k
@@ -156,10 +156,10 @@ module _ (book pack : List ℕ) (s : Schedule) (e : build book pack ≡ gives s)
 
     -- forward it is the time
     time-on : m ≤ n → WorkingTime (asDefined book pack) a b (pos (time s m n))
-    time-on h = (lengthOf spent, between-said, spent-nanos ∙ rw (time-back s n m h) (sym (pos-diff (time s m n))))
+    time-on h = (lengthOf workingTime, between-said, working-time-nanos ∙ rw (time-back s n m h) (sym (pos-diff (time s m n))))
 
   -- what adding and taking off a duration that is not negative says
-  module _ (t d : Pair) (m n : ℕ) (p : At t m) (q : Plain d n) where
+  module _ (t d : Pair) (m n : ℕ) (p : At t m) (q : NotBelowZero d n) where
     pub adding-is : adding book pack t d ≡ (move on s m n >>= λ x. gives (instant x))
     unfolding moveCall
     adding-is = rw (e, at-read t m p, q .read) (moved-said s on m n)
@@ -177,8 +177,8 @@ not-negative (pos n) h = leZ-yes (le→leb 0 n (omega arith))
 not-negative (negsuc n) h = absurd (h .lt)
 
 -- a duration above zero, as a number
-positive : (d : Pair) → IsDuration d → pos 0 <ℤ nanosOf d → (n : ℕ) × (Plain d n) × (0 < n)
-positive d i h = let a = plain d i (not-negative (nanosOf d) h) in (a .0, a .1, ltb→lt 0 (a .0) (rw (a .1 .size) at (h .lt)))
+positive : (d : Pair) → IsDuration d → pos 0 <ℤ nanosOf d → (n : ℕ) × (NotBelowZero d n) × (0 < n)
+positive d i h = let a = not-below-zero d i (not-negative (nanosOf d) h) in (a .0, a .1, ltb→lt 0 (a .0) (rw (a .1 .size) at (h .lt)))
 
 module _ (book pack : List ℕ) (s : Schedule) (e : build book pack ≡ gives s) (near : Every WithinDay (zonesOf book pack)) where
   adds : (a b c : Pair) → Given a → Given b → Given c → (x y : ℤ) × WorkingTime (asDefined book pack) a b x × WorkingTime (asDefined book pack) b c y × WorkingTime (asDefined book pack) a c (x +ℤ y)
@@ -218,8 +218,8 @@ module _ (book pack : List ℕ) (s : Schedule) (e : build book pack ≡ gives s)
         after = at-order t (pairOf z) m z (p .1) az (a .later);
         idle = (v .0, v .1, v .2 ∙ ap pos (a .idle));
         again = adding-is book pack s e (pairOf z) d z k az (q .1) ∙ rw (a .again) (ap gives (r .2));
-        further = λ b c ib hb ic hc. (let l = plain b ib hb in
-            let o = plain-sum d b c k (l .0) (q .1) (l .1) ic hc in
+        further = λ b c ib hb ic hc. (let l = not-below-zero b ib hb in
+            let o = not-below-zero-sum d b c k (l .0) (q .1) (l .1) ic hc in
             adding-is book pack s e x b n (l .0) ax (l .1) ∙ ap (λ y. y >>= λ x. gives (instant x)) (a .further (l .0)) ∙ sym (adding-is book pack s e t c m (k + l .0) (p .1) o));
       }
 

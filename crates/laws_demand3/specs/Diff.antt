@@ -35,39 +35,39 @@ form a b = go (decLe b a)
     go (no f) = rw (diff-neg a b (omega arith)) (neg (b - suc a) (omega arith))
 
 -- a number that has the form is the difference
-pub is-nat : (a b n : ℕ) → a ≡ b + n → pos n ≡ diff a b
-is-nat a b n h = sym (diff-nat a b (omega arith) ∙ ap pos (omega arith))
+pub nat-is-diff : (a b n : ℕ) → a ≡ b + n → pos n ≡ diff a b
+nat-is-diff a b n h = sym (diff-nat a b (omega arith) ∙ ap pos (omega arith))
 
-pub is-neg : (a b n : ℕ) → b ≡ a + suc n → negsuc n ≡ diff a b
-is-neg a b n h = sym (diff-neg a b (omega arith) ∙ ap negsuc (omega arith))
+pub neg-is-diff : (a b n : ℕ) → b ≡ a + suc n → negsuc n ≡ diff a b
+neg-is-diff a b n h = sym (diff-neg a b (omega arith) ∙ ap negsuc (omega arith))
 
 -- two differences are equal where the sums are
 pub diff-same : (a b c d : ℕ) → a + d ≡ c + b → diff a b ≡ diff c d
 diff-same a b c d h = go (form a b)
   where
     go : {z : ℤ} → Form a b z → z ≡ diff c d
-    go (nat n e) = is-nat c d n (omega arith)
-    go (neg n e) = is-neg c d n (omega arith)
+    go (nat n e) = nat-is-diff c d n (omega arith)
+    go (neg n e) = neg-is-diff c d n (omega arith)
 
 pub diff-add : (a b c d : ℕ) → diff a b +ℤ diff c d ≡ diff (a + c) (b + d)
 unfolding diff
 diff-add a b c d = go (form a b) (form c d)
   where
     go : {x y : ℤ} → Form a b x → Form c d y → x +ℤ y ≡ diff (a + c) (b + d)
-    go (nat m e) (nat n f) = is-nat (a + c) (b + d) (m + n) (omega arith)
+    go (nat m e) (nat n f) = nat-is-diff (a + c) (b + d) (m + n) (omega arith)
     go (nat m e) (neg n f) = diff-same m (suc n) (a + c) (b + d) (omega arith)
     go (neg m e) (nat n f) = diff-same n (suc m) (a + c) (b + d) (omega arith)
-    go (neg m e) (neg n f) = is-neg (a + c) (b + d) (suc (m + n)) (omega arith)
+    go (neg m e) (neg n f) = neg-is-diff (a + c) (b + d) (suc (m + n)) (omega arith)
 
 pub neg-pos : (n : ℕ) → negℤ (pos n) ≡ diff 0 n
-neg-pos zero = is-nat 0 0 0 refl
-neg-pos (suc n) = is-neg 0 (suc n) n (omega arith)
+neg-pos zero = nat-is-diff 0 0 0 refl
+neg-pos (suc n) = neg-is-diff 0 (suc n) n (omega arith)
 
 pub diff-mul : (a b k : ℕ) → diff a b *ℤ pos k ≡ diff (a * k) (b * k)
 diff-mul a b k = go (form a b)
   where
     go : {x : ℤ} → Form a b x → x *ℤ pos k ≡ diff (a * k) (b * k)
-    go (nat n e) = is-nat (a * k) (b * k) (n * k) (rw e (omega arith))
+    go (nat n e) = nat-is-diff (a * k) (b * k) (n * k) (rw e (omega arith))
     go (neg n e) = neg-pos (suc n * k) ∙ diff-same 0 (suc n * k) (a * k) (b * k) (rw e (omega arith))
 
 pub diff-le : (a b c d : ℕ) → leZ (diff a b) (diff c d) ≡ leb (a + d) (c + b)
@@ -93,11 +93,11 @@ down (negsuc n) = suc n
 
 pub as-diff : (z : ℤ) → z ≡ diff (up z) (down z)
 unfolding up down
-as-diff (pos n) = is-nat n 0 n (omega arith)
-as-diff (negsuc n) = is-neg 0 (suc n) n (omega arith)
+as-diff (pos n) = nat-is-diff n 0 n (omega arith)
+as-diff (negsuc n) = neg-is-diff 0 (suc n) n (omega arith)
 
 pub pos-diff : (n : ℕ) → pos n ≡ diff n 0
-pos-diff n = is-nat n 0 n (omega arith)
+pos-diff n = nat-is-diff n 0 n (omega arith)
 
 -- a natural number that is a difference
 pub nat-diff : (a b n : ℕ) → pos n ≡ diff a b → a ≡ b + n

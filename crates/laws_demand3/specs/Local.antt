@@ -12,11 +12,11 @@ use Rattle.model.specs.Zone.{offsetAt, secondOf, resolve, steady}
 use Rattle.model.specs.Working.{localDay, firstDate, lastDate}
 use Rattle.laws_base.specs.Test.{by-test}
 use Rattle.laws_zone.specs.Sound.{Sound, dawn}
-use Rattle.model.specs.Offset.{offsetBias}
+use Rattle.model.specs.Offset.{offsetBias, greatestOffset}
 
 -- offsets are kept with 26 hours added
 abbrev pub bias : ℕ
-bias = 93600000000000
+bias = offsetBias * second
 
 -- the offset at an instant, in nanoseconds
 unfoldable pub offsetNanos : Zone → ℕ → ℕ
@@ -37,7 +37,7 @@ module _ (z : Zone) (s : Sound z) where
   unfolding offsetNanos
   off-low t = let h = s .low (t / second) in omega arith
 
-  pub off-high : (t : ℕ) → offsetNanos z t ≤ 187199000000000
+  pub off-high : (t : ℕ) → offsetNanos z t ≤ greatestOffset * second
   unfolding offsetNanos
   off-high t = let h = s .high (t / second) in omega arith
 

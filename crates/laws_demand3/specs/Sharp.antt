@@ -21,7 +21,7 @@ use Rattle.laws_demand3.specs.Pairs.{Pair, nanosOf, listedPair}
 use Rattle.laws_demand3.specs.Zones.{WithinDay, usedIn, zonesOf}
 use Rattle.laws_base.specs.Every.{Every}
 use Rattle.laws_demand3.specs.Demand3.{Given, WorkingTime, Demand3, asDefined, demand-3}
-use Rattle.model.specs.Instant.{daySeconds}
+use Rattle.model.specs.Instant.{daySeconds, epoch}
 use Rattle.model.specs.Offset.{offsetBias}
 
 -- a default zone "z", and work on Mondays from 23:59:59.5 for 24 hours
@@ -38,7 +38,7 @@ pack n =
 
 -- the change, in seconds from -10400
 abbrev change : ℕ
-change = 390359520000 + 1768262400
+change = epoch + 1768262400
 
 -- the offset of the zone at the change is that at the start and n more; the book has no other zone
 abbrev Apart : ℕ → Type 0

@@ -12,7 +12,7 @@ use Rattle.model.specs.Basic.{if_then_else_}
 use Rattle.model.specs.Instant.{epoch, second, firstInstant, lastInstant, signed, secondFrom, instantOf, instant, Duration, durationOf, duration}
 use Rattle.model.specs.Answer.{gives}
 use Rattle.laws_base.specs.Test.{by-test}
-use Rattle.laws_demand3.specs.Diff.{diff, Form, nat, neg, form, is-nat, is-neg, diff-same, diff-add, neg-pos, diff-mul, up, down, as-diff, pos-diff, le-diff, diff-order}
+use Rattle.laws_demand3.specs.Diff.{diff, Form, nat, neg, form, nat-is-diff, neg-is-diff, diff-same, diff-add, neg-pos, diff-mul, up, down, as-diff, pos-diff, le-diff, diff-order}
 use Rattle.laws_demand3.specs.Pairs.{Pair, nanosOf, IsInstant, IsDuration, listedPair}
 
 -- nanoseconds up to 1970
@@ -51,7 +51,7 @@ at-nanos p t a = rw (a .sec, a .ns, diff-mul, pos-diff (t % second), diff-add) (
 signed-second : (s : ℕ) → (if leb epoch s then pos (s - epoch) else negℤ (pos (epoch - s))) ≡ diff s epoch
 signed-second s =
     by-test (leb epoch s)
-    (λ e. rw e (is-nat s epoch (s - epoch) (omega (arith, leb-true epoch s e))))
+    (λ e. rw e (nat-is-diff s epoch (s - epoch) (omega (arith, leb-true epoch s e))))
     (λ e. rw e (neg-pos (epoch - s) ∙ diff-same 0 (epoch - s) s epoch (omega (arith, leb-false epoch s e))))
 
 pub at-shown : (p : Pair) (t : ℕ) → At p t → instant t ≡ listedPair p
@@ -89,12 +89,12 @@ instant-at p i = go (p .sec) (p .ns) refl refl (i .first) (i .last) (i .low) (i 
         let x = leb→le a 253402207200 (k .le) in let y = leb→le b 999999999 (m .le) in
         let u : ((epoch + a) * second + b) / second ≡ epoch + a = omega arith in
         let v : ((epoch + a) * second + b) % second ≡ b = omega arith in
-        ((epoch + a) * second + b, record { from = omega arith; upto = omega arith; sec = e ∙ rw u (is-nat (epoch + a) epoch a refl); ns = f ∙ rw v })
+        ((epoch + a) * second + b, record { from = omega arith; upto = omega arith; sec = e ∙ rw u (nat-is-diff (epoch + a) epoch a refl); ns = f ∙ rw v })
     go (negsuc a) (pos b) e f h k l m =
         let x = leb→le a 377705023200 (h .le) in let y = leb→le b 999999999 (m .le) in
         let u : ((epoch - suc a) * second + b) / second ≡ epoch - suc a = omega arith in
         let v : ((epoch - suc a) * second + b) % second ≡ b = omega arith in
-        ((epoch - suc a) * second + b, record { from = omega arith; upto = omega arith; sec = e ∙ rw u (is-neg (epoch - suc a) epoch a (omega arith)); ns = f ∙ rw v })
+        ((epoch - suc a) * second + b, record { from = omega arith; upto = omega arith; sec = e ∙ rw u (neg-is-diff (epoch - suc a) epoch a (omega arith)); ns = f ∙ rw v })
 
 -- the order of instants
 pub at-order : (p q : Pair) (t u : ℕ) → At p t → At q u → t ≤ u → nanosOf p ≤ℤ nanosOf q
@@ -108,36 +108,36 @@ at-since p t a h =
 -- ---- durations
 
 -- the pair p is the duration n, not below zero
-pub record Plain (p : Pair) (n : ℕ) : Type 0 where
+pub record NotBelowZero (p : Pair) (n : ℕ) : Type 0 where
   pub read : durationOf (p .sec) (p .ns) ≡ gives (record { minus = false; size = n })
   pub size : nanosOf p ≡ pos n
 
-plain-read : (a b : ℕ) → b < second → durationOf (pos a) (pos b) ≡ gives (record { minus = false; size = a * second + b })
+not-below-zero-read : (a b : ℕ) → b < second → durationOf (pos a) (pos b) ≡ gives (record { minus = false; size = a * second + b })
 unfolding durationOf
-plain-read a b h =
+not-below-zero-read a b h =
     by-test (eqb a 0)
     (λ e. rw (lt-ltb b second h, e))
     (λ e. by-test (eqb b 0) (λ f. rw (lt-ltb b second h, e, f)) (λ f. rw (lt-ltb b second h, e, f)))
 
-pub plain : (p : Pair) → IsDuration p → pos 0 ≤ℤ nanosOf p → (n : ℕ) × Plain p n
+pub not-below-zero : (p : Pair) → IsDuration p → pos 0 ≤ℤ nanosOf p → (n : ℕ) × NotBelowZero p n
 unfolding up down
-plain p i h = go (p .sec) (p .ns) refl refl (i .small) (i .above) (i .below)
+not-below-zero p i h = go (p .sec) (p .ns) refl refl (i .small) (i .above) (i .below)
   where
     low : down (p .sec) * second + down (p .ns) ≤ up (p .sec) * second + up (p .ns)
     low = let k = le-diff 0 0 (up (p .sec) * second + up (p .ns)) (down (p .sec) * second + down (p .ns)) (rw (pos-diff 0, nanos-diff p) at h) in omega arith
 
-    go : (s n : ℤ) → p .sec ≡ s → p .ns ≡ n → natAbs n < second → (pos 0 <ℤ s → pos 0 ≤ℤ n) → (s <ℤ pos 0 → n ≤ℤ pos 0) → (n : ℕ) × Plain p n
-    go (pos a) (pos b) e f k l m = (a * second + b, record { read = rw (e, f) (plain-read a b k); size = rw (e, f) })
+    go : (s n : ℤ) → p .sec ≡ s → p .ns ≡ n → natAbs n < second → (pos 0 <ℤ s → pos 0 ≤ℤ n) → (s <ℤ pos 0 → n ≤ℤ pos 0) → (n : ℕ) × NotBelowZero p n
+    go (pos a) (pos b) e f k l m = (a * second + b, record { read = rw (e, f) (not-below-zero-read a b k); size = rw (e, f) })
     go (pos zero) (negsuc b) e f k l m = absurd (let x = rw (e, f) at low in omega arith)
     go (pos (suc a)) (negsuc b) e f k l m = absurd (l (ltZ-yes (lt→ltb 0 (suc a) (omega arith))) .le)
     go (negsuc a) (pos b) e f k l m = absurd (let x = rw (e, f) at low in let y = leb→le b 0 (m (ltZ-yes tt) .le) in omega arith)
     go (negsuc a) (negsuc b) e f k l m = absurd (let x = rw (e, f) at low in omega arith)
 
 -- the sum of two durations, where it is one
-pub plain-sum : (d e f : Pair) (m n : ℕ) → Plain d m → Plain e n → IsDuration f → nanosOf f ≡ nanosOf d +ℤ nanosOf e → Plain f (m + n)
-plain-sum d e f m n p q i h =
+pub not-below-zero-sum : (d e f : Pair) (m n : ℕ) → NotBelowZero d m → NotBelowZero e n → IsDuration f → nanosOf f ≡ nanosOf d +ℤ nanosOf e → NotBelowZero f (m + n)
+not-below-zero-sum d e f m n p q i h =
     let s : nanosOf f ≡ pos (m + n) = h ∙ rw (p .size, q .size) in
-    let r = plain f i (rw s (leZ-yes (le→leb 0 (m + n) (omega arith)))) in
+    let r = not-below-zero f i (rw s (leZ-yes (le→leb 0 (m + n) (omega arith)))) in
     let t : r .0 ≡ m + n = pos-same (sym (r .1 .size) ∙ s) in
     rw t at (r .1)
   where

@@ -18,7 +18,7 @@ use Rattle.model.specs.Build.{build}
 use Rattle.model.specs.Walk.{begun, timeFrom, timeBetween}
 use Rattle.model.specs.Calls.{betweenCall, between, said}
 use Rattle.laws_demand3.specs.Pairs.{Pair, IsInstant, listedPair}
-use Rattle.laws_demand3.specs.SignedPairs.{at-shown, instant-at, Plain}
+use Rattle.laws_demand3.specs.SignedPairs.{at-shown, instant-at, NotBelowZero}
 use Rattle.laws_demand3.specs.Demand.{nothing, nothing-off}
 use Rattle.laws_demand3.specs.Demand3.{adding, takingOff, adding-is, taking-is}
 
@@ -50,17 +50,17 @@ reads a₁ a₂ = go (isIn (firstInstant / second) (lastInstant / second) (secon
     go false t = not-read
 
 module _ (s : Schedule) where
-  abbrev spent : ℕ → ℕ → Duration
-  spent m n = record { minus = ltb n m; size = timeBetween s (min m n) (max m n) }
+  abbrev workingTime : ℕ → ℕ → Duration
+  workingTime m n = record { minus = ltb n m; size = timeBetween s (min m n) (max m n) }
 
   time-self : (m : ℕ) → timeBetween s m m ≡ 0
   unfolding timeFrom
   time-self m = let e : begun (m - m) ≡ 0 = omega arith in rw e
 
-  spent-turned : (m n : ℕ) → duration (spent n m) ≡ map negℤ (duration (spent m n))
-  spent-turned m n = go (decLt m n) (decLt n m)
+  working-time-turned : (m n : ℕ) → duration (workingTime n m) ≡ map negℤ (duration (workingTime m n))
+  working-time-turned m n = go (decLt m n) (decLt n m)
     where
-      go : Dec (m < n) → Dec (n < m) → duration (spent n m) ≡ map negℤ (duration (spent m n))
+      go : Dec (m < n) → Dec (n < m) → duration (workingTime n m) ≡ map negℤ (duration (workingTime m n))
       go (yes h) k =
           let a : min m n ≡ m = omega arith in let b : max m n ≡ n = omega arith in
           let c : min n m ≡ m = omega arith in let d : max n m ≡ n = omega arith in
@@ -79,9 +79,9 @@ module _ (s : Schedule) where
   call-turned a₁ a₂ b₁ b₂ = go (instantOf a₁ a₂) (instantOf b₁ b₂) (reads a₁ a₂) (reads b₁ b₂) (λ a b. _)
     where
       go : (r q : Answer ℕ) → Reading r → Reading q → (f : ℕ → ℕ → Option (ℕ × ℕ))
-          → said (q >>= λ a. r >>= λ b. gives (record { values = duration (spent a b); windows = f a b }))
-          ≡ negative (said (r >>= λ a. q >>= λ b. gives (record { values = duration (spent a b); windows = f a b })))
-      go (gives m) (gives n) (is-read _) (is-read _) f = ap gives (spent-turned m n)
+          → said (q >>= λ a. r >>= λ b. gives (record { values = duration (workingTime a b); windows = f a b }))
+          ≡ negative (said (r >>= λ a. q >>= λ b. gives (record { values = duration (workingTime a b); windows = f a b })))
+      go (gives m) (gives n) (is-read _) (is-read _) f = ap gives (working-time-turned m n)
       go (gives m) (refuses _ _) (is-read _) not-read f = refl
       go (refuses _ _) (gives n) not-read (is-read _) f = refl
       go (refuses _ _) (refuses _ _) not-read not-read f = refl
@@ -100,7 +100,7 @@ between-turned book pack a₁ a₂ b₁ b₂ = go (build book pack)
 abbrev zeroPair : Pair
 zeroPair = record { sec = pos 0; ns = pos 0 }
 
-zero-plain : Plain zeroPair 0
+zero-plain : NotBelowZero zeroPair 0
 unfolding durationOf
 zero-plain = record { read = refl; size = refl }
 

@@ -83,8 +83,8 @@ someHolds [] u = false
 someHolds (r ∷ l) u = ruleHolds r u || someHolds l u
 
 -- whether u is working time
-pub works : Schedule → ℕ → Bool
-works s u = someHolds (s .work) u && not (someHolds (offRules s) u)
+pub worksAt : Schedule → ℕ → Bool
+worksAt s u = someHolds (s .work) u && not (someHolds (offRules s) u)
 
 module _ (r : Rule) where
   holds-at : (d u : ℕ) → Holds r d u → holdsAt r d u ≡ true
@@ -281,8 +281,8 @@ module _ (lo hi : ℕ) where
       rw (covers-append u (blocksOf lo hi r) (blocksOfAll lo hi l), rule-covers r (o .0) (n .0) lo hi u a b c e, all-covers l (o .1) (n .1) u a b c e)
 
 -- the window lemma
-pub window-lists : (s : Schedule) → OfRules RuleOk s → OfRules NearRule s → (lo hi : ℕ) → (firstDay + 5) * day ≤ lo → lo ≤ hi → hi ≤ lastInstant → Lists (works s) lo hi (working s lo hi)
-unfolding working works
+pub window-lists : (s : Schedule) → OfRules RuleOk s → OfRules NearRule s → (lo hi : ℕ) → (firstDay + 5) * day ≤ lo → lo ≤ hi → hi ≤ lastInstant → Lists (worksAt s) lo hi (working s lo hi)
+unfolding working worksAt
 window-lists s o n lo hi a b c =
-    left-lists lo hi (blocksOfAll lo hi (s .work)) (blocksOfAll lo hi (offRules s)) (all-nonempty lo hi (s .work)) (all-nonempty lo hi (offRules s)) (all-in lo hi (s .work)) b (works s)
+    left-lists lo hi (blocksOfAll lo hi (s .work)) (blocksOfAll lo hi (offRules s)) (all-nonempty lo hi (s .work)) (all-nonempty lo hi (offRules s)) (all-in lo hi (s .work)) b (worksAt s)
     (λ u e f. sym (ap₂ (λ (x y : Bool). x && not y) (all-covers lo hi (s .work) (o .0) (n .0) u a c e f) (all-covers lo hi (offRules s) (o .1) (n .1) u a c e f)))

@@ -18,7 +18,7 @@ use Rattle.model.specs.Walk.{Way, on, reach, onward, ahead, begun, listed, stre
 use Rattle.laws_base.specs.Test.{by-test, clash}
 use Rattle.laws_blocks.specs.Lists.{Lists, none, next, firstStart, firstEnd}
 use Rattle.laws_blocks.specs.Stretches.{begun-enough}
-use Rattle.laws_skip.specs.WindowEnds.{Inside, lists-inside}
+use Rattle.laws_skip.specs.WindowEnds.{Inside, inside-more, lists-inside}
 use Rattle.laws_skip.specs.Schedules.{ahead-inside}
 use Rattle.laws_listing.specs.Listing.{listedAt, windows-list}
 
@@ -289,10 +289,6 @@ listed-onward s t (suc n) x end h =
     rw e
     (onward-append t (working s (t + x) (t + min (x + week) end)) (listed n (working s) (t + min (x + week) end) (t + end))
     ∙ ap (λ (l : List Block). onward t (working s (t + x) (t + min (x + week) end)) ++ l) (listed-onward s t n (min (x + week) end) end (omega arith)))
-
-inside-more : (lo mid hi : ℕ) (l : List Block) → lo ≤ mid → Inside mid hi l → Inside lo hi l
-inside-more lo mid hi [] h i = tt
-inside-more lo mid hi (b ∷ l) h i = (omega arith, i .1, i .2, inside-more lo mid hi l h (i .3))
 
 -- ---- the next period by the listing
 

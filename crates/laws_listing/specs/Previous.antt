@@ -31,7 +31,7 @@ use Rattle.laws_blocks.specs.Turn.{behind, backward-lists}
 use Rattle.laws_blocks.specs.Stretches.{Maximal, lists-covers, merged-stretches, stretches-unique, listed-none, listed-more, listed-lists}
 use Rattle.laws_demand3.specs.Zones.{WithinDay, zonesOf}
 use Rattle.laws_base.specs.Every.{Every}
-use Rattle.laws_demand3.specs.Windows.{RuleOk, NearRule, OfRules, works, window-lists}
+use Rattle.laws_demand3.specs.Windows.{RuleOk, NearRule, OfRules, worksAt, window-lists}
 use Rattle.laws_demand3.specs.Built.{built, near-rules}
 use Rattle.laws_demand3.specs.Demand.{since}
 use Rattle.laws_skip.specs.WindowEnds.{backward-none, backward-cons}
@@ -274,7 +274,7 @@ module _ (s : Schedule) (k lo t : ℕ) (weeks : t ≡ lo + k * week) where
 
 module _ (s : Schedule) (ok : OfRules RuleOk s) (near : OfRules NearRule s) where
   -- a window from the sixth day of -9999 on shows the working time in it: so does every window with an instant u a week later or more
-  to-works : (n a t u : ℕ) → t ≤ a + n * week → a ≤ u → u < t → t ≤ lastInstant → (firstDay + 5) * day + week ≤ u → covers (listedTo n (working s) a t) u ≡ works s u
+  to-works : (n a t u : ℕ) → t ≤ a + n * week → a ≤ u → u < t → t ≤ lastInstant → (firstDay + 5) * day + week ≤ u → covers (listedTo n (working s) a t) u ≡ worksAt s u
   unfolding listedTo
   to-works zero a t u e h k l m = absurd (omega arith)
   to-works (suc n) a t u e h k l m =
@@ -283,7 +283,7 @@ module _ (s : Schedule) (ok : OfRules RuleOk s) (near : OfRules NearRule s) wher
       let p = to-self (working s) (working-lists s) n a (max (t - week) a) (omega arith) in
       let q = working-lists s (max (t - week) a) t (omega arith) in
       ⊎-elim (λ c. in-first a (max (t - week) a) t A B p q u c ∙ to-works n a (max (t - week) a) u (omega arith) h c (omega arith) m)
-      (λ c. in-second a (max (t - week) a) t A B p q u c ∙ sym (lists-covers (works s) (max (t - week) a) t (window-lists s ok near (max (t - week) a) t (omega arith) (omega arith) l) u c k))
+      (λ c. in-second a (max (t - week) a) t A B p q u c ∙ sym (lists-covers (worksAt s) (max (t - week) a) t (window-lists s ok near (max (t - week) a) t (omega arith) (omega arith) l) u c k))
       (halves u (max (t - week) a))
 
 module _ (book pack : List ℕ) (s : Schedule) (e : build book pack ≡ gives s) (days : Every WithinDay (zonesOf book pack)) (lo t : ℕ) (h : since ≤ lo) (k : t ≤ lastInstant) where
@@ -293,9 +293,9 @@ module _ (book pack : List ℕ) (s : Schedule) (e : build book pack ≡ gives s)
   near : OfRules NearRule s
   near = near-rules book pack s e days
 
-  listing-works : lo ≤ t → Lists (works s) lo t (listed (begun (t - lo)) (working s) lo t)
+  listing-works : lo ≤ t → Lists (worksAt s) lo t (listed (begun (t - lo)) (working s) lo t)
   listing-works o =
-      listed-lists (works s) (working s) since lastInstant (λ x y a b c d. window-lists s ok near x y (omega arith) b d) (begun (t - lo)) lo t h o k (omega arith)
+      listed-lists (worksAt s) (working s) since lastInstant (λ x y a b c d. window-lists s ok near x y (omega arith) b d) (begun (t - lo)) lo t h o k (omega arith)
 
   -- for a book that builds and whose zones' offsets lie within 24 hours: the listing from any instant from -9998 on
   pub listing-from-any : lo ≤ t → stretchesTo s lo t ≡ stretches s lo t
@@ -303,11 +303,11 @@ module _ (book pack : List ℕ) (s : Schedule) (e : build book pack ≡ gives s)
       let n = begun (t - lo) in
       let l = listedTo n (working s) lo t in
       let m = listed n (working s) lo t in
-      let r = lists-as (covers l) (works s) lo t (λ u x y. sym (to-works s ok near n lo t u (omega arith) x y k (omega arith))) (to-self (working s) (working-lists s) n lo t o) in
-      stretches-unique (works s) lo t (merged l) (merged m) (merged-stretches (works s) lo t l r) (merged-stretches (works s) lo t m (listing-works o))
+      let r = lists-as (covers l) (worksAt s) lo t (λ u x y. sym (to-works s ok near n lo t u (omega arith) x y k (omega arith))) (to-self (working s) (working-lists s) n lo t o) in
+      stretches-unique (worksAt s) lo t (merged l) (merged m) (merged-stretches (worksAt s) lo t l r) (merged-stretches (worksAt s) lo t m (listing-works o))
 
   -- and by it the previous period, where it goes back far enough
   pub previous-from-any : lo + 2 * s .limit < t → period back s t ≡ lastStretch (s .limit) lo t (stretches s lo t)
   previous-from-any far =
       listed-last s lo t (omega arith) far (listed (begun (t - lo)) (working s) lo t)
-      (lists-as (works s) (covers (blocksTo s t)) lo t (λ u x y. to-works s ok near (begun (t - firstInstant)) firstInstant t u (omega arith) (omega arith) y k (omega arith)) (listing-works (omega arith)))
+      (lists-as (worksAt s) (covers (blocksTo s t)) lo t (λ u x y. to-works s ok near (begun (t - firstInstant)) firstInstant t u (omega arith) (omega arith) y k (omega arith)) (listing-works (omega arith)))

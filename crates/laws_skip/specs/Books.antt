@@ -20,6 +20,7 @@ use Rattle.model.specs.Skip.{repeats, neededBetween}
 use Rattle.model.specs.Build.{defaultZone, zoneUsed, noRules, withRule, rulesOf, worksIn2001, build}
 use Rattle.laws_base.specs.Test.{and-both}
 use Rattle.laws_blocks.specs.Move.{moves}
+use Rattle.laws_blocks.specs.Count672.{mostBlocks}
 use Rattle.laws_zone.specs.Sound.{Sound}
 use Rattle.laws_base.specs.Every.{Every, every-both}
 use Rattle.laws_demand3.specs.Windows.{RuleOk, OfRules, offRules}
@@ -181,9 +182,9 @@ module _ (book pack : List ℕ) (s : Schedule) (e : build book pack ≡ gives s)
       → SearchAnswers (ahead w s t) (λ y. repeats s (at w t y)) (reach w t) d (skipSearch (ahead w s t) (λ y. repeats s (at w t y)) (s .limit) (reach w t) d) (search w s t d)
   search-same w t d = search-skipping s (well .ok) (well .weekly) w t d (well .limit)
 
-  -- 672 blocks suffice
+  -- the blocks of a window are few enough
   pub window-blocks : (lo hi : ℕ) → hi ≤ lo + 7 * day
-      → (length (blocksOfAll lo hi (s .work)) ≤ 672) × (length (blocksOfAll lo hi (offRules s)) ≤ 672) × (length (working s lo hi) ≤ 672)
+      → (length (blocksOfAll lo hi (s .work)) ≤ mostBlocks) × (length (blocksOfAll lo hi (offRules s)) ≤ mostBlocks) × (length (working s lo hi) ≤ mostBlocks)
   window-blocks lo hi h =
       let a = work-seven s (well .ok) (well .few) lo hi h in let b = off-seven s (well .ok) (well .few) lo hi h in
       (omega arith, omega arith, working-seven s (well .ok) (well .few) lo hi h)

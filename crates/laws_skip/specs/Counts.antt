@@ -15,7 +15,7 @@ use Rattle.model.specs.Blocks.{Block, clipped}
 use Rattle.model.specs.Working.{Rule, Schedule, holidayRule, localDay, firstDate, lastDate, localDates, startOf, endOf, blocksOf, blocksOfAll, working}
 use Rattle.laws_base.specs.Test.{by-test}
 use Rattle.laws_zone.specs.Sound.{Sound}
-use Rattle.laws_blocks.specs.Count672.{left-length}
+use Rattle.laws_blocks.specs.Count672.{mostBlocks, left-length}
 use Rattle.laws_base.specs.Every.{Every, every-apart}
 use Rattle.laws_demand3.specs.Windows.{RuleOk, OfRules, offRules, all-nonempty}
 use Rattle.laws_skip.specs.Steady.{}
@@ -107,7 +107,7 @@ module _ (s : Schedule) (ok : OfRules RuleOk s) (few : Few s) where
     off-seven = let a = rules-length lo hi 7 h (offRules s) (ok .1) in let b = rules-off in omega arith
 
     -- what is left
-    pub working-seven : length (working s lo hi) ≤ 672
+    pub working-seven : length (working s lo hi) ≤ mostBlocks
     unfolding working
     working-seven =
         let a = left-length (blocksOfAll lo hi (s .work)) (blocksOfAll lo hi (offRules s)) (all-nonempty lo hi (s .work)) in
@@ -122,7 +122,7 @@ module _ (s : Schedule) (ok : OfRules RuleOk s) (few : Few s) where
     pub breaks-fourteen : length (blocksOfAll lo hi (s .breaks)) ≤ 336
     breaks-fourteen = let a = rules-length lo hi 14 h (s .breaks) (every-apart RuleOk (s .breaks) (map holidayRule (s .holidays)) (ok .1) .0) in let b = few .pauses in omega arith
 
-    pub bare-fourteen : length (working (bare s) lo hi) ≤ 672
+    pub bare-fourteen : length (working (bare s) lo hi) ≤ mostBlocks
     unfolding working
     bare-fourteen =
         let a = left-length (blocksOfAll lo hi (s .work)) (blocksOfAll lo hi (s .breaks)) (all-nonempty lo hi (s .work)) in

@@ -18,7 +18,7 @@ use Rattle.model.specs.Walk.{begun, timeFrom, Step, found, gap, left, searchBlo
 use Rattle.model.specs.Skip.{neededFrom, anyTime, someTime}
 use Rattle.laws_base.specs.Test.{by-test, and-both, clash, never}
 use Rattle.laws_blocks.specs.Move.{moves, total-moved}
-use Rattle.laws_skip.specs.WindowEnds.{Inside, lastEnd, end-any, end-inside, end-moved, search-blocks-all, Spent, is-found, is-gap, is-left, search-blocks-means}
+use Rattle.laws_skip.specs.WindowEnds.{Inside, lastEnd, end-any, end-inside, end-moved, search-blocks-all, WalkEnds, is-found, is-gap, is-left, search-blocks-means}
 
 -- ---- a search
 
@@ -114,7 +114,7 @@ pub record KeptWeek (look : ℕ → ℕ → List Block) (x last k g : ℕ) : Typ
   pub early : week ≤ x
   pub sum : k ≡ total (look (x - week) x)
   pub some : 0 < k
-  pub edge : g + last ≡ x
+  pub gap-is : g + last ≡ x
   pub ends : (v : ℕ) → lastEnd (look (x - week) x) v ≡ last
   pub behind : x ≤ last + week
 
@@ -183,7 +183,7 @@ module _ (look : ℕ → ℕ → List Block) (rep : ℕ → Bool) (limit end : �
     keeps-on : KeptWeek look (x + week) (last + week) k g
     keeps-on =
         let e : x + week - week ≡ x = omega arith in
-        record { early = omega arith; sum = rw e (sym again); some = v .some; edge = (let c = v .edge in omega arith); ends = λ u. rw e (end-again u); behind = (let c = v .behind in omega arith) }
+        record { early = omega arith; sum = rw e (sym again); some = v .some; gap-is = (let c = v .gap-is in omega arith); ends = λ u. rw e (end-again u); behind = (let c = v .behind in omega arith) }
 
   keep-week : (x y m : ℕ) → x ≤ y → y ≤ end → (y ≤ x + week) → (y < x + week → end ≤ y) → ((u : ℕ) → 0 < total (look x y) → lastEnd (look x y) u ≡ m)
       → Holding look end y m (total (look x y)) (keep (eqb (y - x) week && ltb 0 (total (look x y))) (total (look x y)) (y - m))
@@ -195,7 +195,7 @@ module _ (look : ℕ → ℕ → List Block) (rep : ℕ → Bool) (limit end : �
       let g : y - week ≡ x = omega arith in
       let i = end-inside x y (look x y) (tidy x y h k) x (omega arith) h in
       let j = f x s in
-      rw (p, q) (refl, record { early = omega arith; sum = rw g; some = s; edge = omega arith; ends = (λ u. rw g (f u s)); behind = omega arith }))
+      rw (p, q) (refl, record { early = omega arith; sum = rw g; some = s; gap-is = omega arith; ends = (λ u. rw g (f u s)); behind = omega arith }))
       (λ q. rw (p, q) (inr (inl (let s = ltb-false 0 (total (look x y)) q in omega arith)))))
       (λ p. let e = eqb-false (y - x) week p in rw p (inr (inr (c (omega arith)))))
 
@@ -219,13 +219,13 @@ module _ (look : ℕ → ℕ → List Block) (rep : ℕ → Bool) (limit end : �
           let f : min (x + week) end ≡ x + week = omega arith in
           let m = ltb-true k d (s .0) in
           let b : x + week ≤ end = omega arith in
-          let a : x + week - g ≡ last + week = (let c = w .edge in omega arith) in
+          let a : x + week - g ≡ last + week = (let c = w .gap-is in omega arith) in
           let n : needs someTime rep x (min (x + week) end) time d ≡ 0 = ap (λ t. if t then 0 else 1) (sym (test-same x last time d (known k g) (e, w)) ∙ p) in
           let n′ : needs someTime rep x (x + week) time d ≡ 0 = rw f at n in
           rw (f, a, search-blocks-again x last k g w b (t .1) d m)
           (same-left {c = 0} {m = last + week} {e = d - k} {p = known k g} (sym n′) (ap (λ y. d - y) (sym (again x last k g w b (t .1)))) (omega arith) (again x last k g w b (t .1), keeps-on x last k g w b (t .1)))
 
-      walked : (s : Step) → Spent x (min (x + week) end) last d (look x (min (x + week) end)) s → needs someTime rep x (min (x + week) end) time d ≡ 1
+      walked : (s : Step) → WalkEnds x (min (x + week) end) last d (look x (min (x + week) end)) s → needs someTime rep x (min (x + week) end) time d ≡ 1
           → Same look rep end x (min (x + week) end) time d
           (elim s as (λ _. Turn) [
             | found z ↦ stops (gives z)

@@ -12,6 +12,7 @@ use borrow.Author.Tests.{leb-true, leb-false, lt-ltb, le-ltb, le-leb}
 use Rattle.model.specs.Basic.{if_then_else_, all, any, among, isIn, filter, run, joined}
 use Rattle.model.specs.Calendar.{firstDay, lastDay, contains}
 use Rattle.model.specs.Instant.{second, day, week, firstInstant, lastInstant}
+use Rattle.model.specs.Offset.{greatestOffset}
 use Rattle.model.specs.Tzif.{Zone}
 use Rattle.model.specs.Zone.{resolve}
 use Rattle.model.specs.Book.{Hours}
@@ -71,7 +72,7 @@ abbrev pub less : ℕ → ℕ → ℕ → ℕ
 less o d time = d * day + time + bias - o
 
 module _ (r : Rule) (ok : RuleOk r) (S E o : ℕ) (low : firstInstant ≤ S) (up : E ≤ lastInstant) (same : (u : ℕ) → S ≤ u → u ≤ E → offsetNanos (r .zone) u ≡ o)
-    (ob : second ≤ o) (oh : o ≤ 187199000000000) where
+    (ob : second ≤ o) (oh : o ≤ greatestOffset * second) where
   near-end : (lo hi d : ℕ) → S + 4 * day ≤ lo → hi + 4 * day ≤ E → lo + o ≤ (d + 3) * day + bias → d * day + bias ≤ hi + o + day → Alike lo (endOf r d) (less o d (till r))
   unfolding endOf till
   near-end lo hi d a b c e =
@@ -166,7 +167,7 @@ abbrev pieceOn : Rule → ℕ → ℕ → ℕ → List Block
 pieceOn r lo hi d = clipped lo hi (startOf r d) (endOf r d)
 
 module _ (r : Rule) (ok : RuleOk r) (S E o : ℕ) (low : firstInstant ≤ S) (up : E ≤ lastInstant) (same : (u : ℕ) → S ≤ u → u ≤ E → offsetNanos (r .zone) u ≡ o)
-    (ob : second ≤ o) (oh : o ≤ 187199000000000) where
+    (ob : second ≤ o) (oh : o ≤ greatestOffset * second) where
   first-is : (lo : ℕ) → S + 4 * day ≤ lo → lo ≤ E → firstDate (r .zone) lo ≡ (lo + o - bias) / day - 2
   unfolding firstDate
   first-is lo a b = rw (day-is (r .zone) (ok .sound) lo, same lo (omega arith) b, le-leb (firstDay + 2) ((lo + o - bias) / day) (omega arith))

@@ -18,13 +18,13 @@ abbrev pub Inside : ℕ → ℕ → List Block → Type 0
 Inside lo hi [] = Unit {0}
 Inside lo hi (b ∷ l) = (lo ≤ b .start) × (b .start < b .end) × (b .end ≤ hi) × Inside lo hi l
 
-inside-from : (lo mid hi : ℕ) (l : List Block) → lo ≤ mid → Inside mid hi l → Inside lo hi l
-inside-from lo mid hi [] h i = tt
-inside-from lo mid hi (b ∷ l) h i = (omega arith, i .1, i .2, inside-from lo mid hi l h (i .3))
+pub inside-more : (lo mid hi : ℕ) (l : List Block) → lo ≤ mid → Inside mid hi l → Inside lo hi l
+inside-more lo mid hi [] h i = tt
+inside-more lo mid hi (b ∷ l) h i = (omega arith, i .1, i .2, inside-more lo mid hi l h (i .3))
 
 pub lists-inside : (W : ℕ → Bool) (lo hi : ℕ) {l : List Block} → Lists W lo hi l → Inside lo hi l
 lists-inside W lo hi (none h e) = tt
-lists-inside W lo hi (next {l = l} s e a b c i f r) = (a, b, c, inside-from lo e hi l (omega arith) (lists-inside W e hi r))
+lists-inside W lo hi (next {l = l} s e a b c i f r) = (a, b, c, inside-more lo e hi l (omega arith) (lists-inside W e hi r))
 
 -- the end of the last block, x of none
 unfoldable pub lastEnd : List Block → ℕ → ℕ
@@ -58,18 +58,18 @@ search-blocks-all limit lo hi (x ∷ l) i last d a b c =
     (search-blocks-all limit lo hi l (i .3) (x .end) (d - (x .end - x .start)) a (omega arith) (omega arith) ∙ ap (λ y. left y (lastEnd l (x .end))) (omega arith))
 
 -- where a window's walk ends: at a distance of the window, by a gap, or with time left and the end of the last block
-pub data Spent (lo hi last d : ℕ) (l : List Block) : Step → Type 0 where
-  is-found : {z : ℕ} → lo < z → z ≤ hi → Spent lo hi last d l (found z)
-  is-gap : Spent lo hi last d l gap
-  is-left : {e m : ℕ} → e ≡ d - total l → total l < d → m ≡ lastEnd l last → Spent lo hi last d l (left e m)
+pub data WalkEnds (lo hi last d : ℕ) (l : List Block) : Step → Type 0 where
+  is-found : {z : ℕ} → lo < z → z ≤ hi → WalkEnds lo hi last d l (found z)
+  is-gap : WalkEnds lo hi last d l gap
+  is-left : {e m : ℕ} → e ≡ d - total l → total l < d → m ≡ lastEnd l last → WalkEnds lo hi last d l (left e m)
 
-spent-later : {lo hi last d : ℕ} {l : List Block} {s : Step} (b : Block) → Spent lo hi (b .end) (d - (b .end - b .start)) l s → b .end - b .start < d → Spent lo hi last d (b ∷ l) s
+walk-ends-later : {lo hi last d : ℕ} {l : List Block} {s : Step} (b : Block) → WalkEnds lo hi (b .end) (d - (b .end - b .start)) l s → b .end - b .start < d → WalkEnds lo hi last d (b ∷ l) s
 unfolding total lastEnd
-spent-later b (is-found h k) n = is-found h k
-spent-later b is-gap n = is-gap
-spent-later b (is-left {e = e} {m = m} p q r) n = is-left {e = e} {m = m} (omega arith) (omega arith) r
+walk-ends-later b (is-found h k) n = is-found h k
+walk-ends-later b is-gap n = is-gap
+walk-ends-later b (is-left {e = e} {m = m} p q r) n = is-left {e = e} {m = m} (omega arith) (omega arith) r
 
-pub search-blocks-means : (limit lo hi : ℕ) (l : List Block) → Inside lo hi l → (last d : ℕ) → 0 < d → Spent lo hi last d l (searchBlocks limit hi last d l)
+pub search-blocks-means : (limit lo hi : ℕ) (l : List Block) → Inside lo hi l → (last d : ℕ) → 0 < d → WalkEnds lo hi last d l (searchBlocks limit hi last d l)
 unfolding searchBlocks total lastEnd
 search-blocks-means limit lo hi [] i last d h = by-test (ltb limit (hi - last)) (λ p. rw p is-gap) (λ p. rw p (is-left {e = d} {m = last} (omega arith) h refl))
 search-blocks-means limit lo hi (b ∷ l) i last d h =
@@ -77,7 +77,7 @@ search-blocks-means limit lo hi (b ∷ l) i last d h =
     (λ p. rw p is-gap)
     (λ p. by-test (leb d (b .end - b .start))
     (λ q. let k = leb-true d (b .end - b .start) q in rw (p, q) (is-found {z = b .start + d} (omega arith) (omega arith)))
-    (λ q. let k = leb-false d (b .end - b .start) q in rw (p, q) (spent-later b (search-blocks-means limit lo hi l (i .3) (b .end) (d - (b .end - b .start)) (omega arith)) k)))
+    (λ q. let k = leb-false d (b .end - b .start) q in rw (p, q) (walk-ends-later b (search-blocks-means limit lo hi l (i .3) (b .end) (d - (b .end - b .start)) (omega arith)) k)))
 
 pub end-upto : (lo hi : ℕ) (l : List Block) → Inside lo hi l → (x : ℕ) → x ≤ hi → lastEnd l x ≤ hi
 unfolding lastEnd
@@ -89,7 +89,7 @@ module _ (limit lo hi : ℕ) (l : List Block) (i : Inside lo hi l) (last d : ℕ
   pub search-blocks-left : (e m : ℕ) → searchBlocks limit hi last d l ≡ left e m → (e ≡ d - total l) × (total l < d) × (m ≡ lastEnd l last)
   search-blocks-left e m f = by (searchBlocks limit hi last d l) (search-blocks-means limit lo hi l i last d h) f
     where
-      by : (s : Step) → Spent lo hi last d l s → s ≡ left e m → (e ≡ d - total l) × (total l < d) × (m ≡ lastEnd l last)
+      by : (s : Step) → WalkEnds lo hi last d l s → s ≡ left e m → (e ≡ d - total l) × (total l < d) × (m ≡ lastEnd l last)
       by s (is-left {e = x} {m = y} a b c) f = let q : x ≡ e = cc in let r : y ≡ m = cc in (omega arith, b, omega arith)
       by s is-gap f = never (cc)
       by s (is-found a b) f = never (cc)

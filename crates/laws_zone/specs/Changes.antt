@@ -1,13 +1,13 @@
 -- Where the offset of a zone changes: at no second but those that `changesIn` lists. So `steady` says what it is named for.
 use mathlib.Core.Path.{_≡_, refl, sym, _∙_, ap}
-use mathlib.Core.Bool.{Bool, true, false, not, _&&_}
+use mathlib.Core.Bool.{Bool, true, false, _&&_}
 use mathlib.Core.List.{List, [], _∷_, _++_, map}
 use mathlib.Core.Logic.{_⊎_, inl, inr}
 use Prim.Native.Nat.{ℕ, zero, suc, _+_, _-_, _≤_, _<_}
 use native.Mathlib.Omega.{arith}
 use native.Mathlib.Decide.{decLe}
 use lib.Dec.{leb, ltb, eqb}
-use borrow.Author.Tests.{le-leb, lt-ltb, leb-true, leb-false, ltb-true, eq-eqb, eqb-true}
+use borrow.Author.Tests.{le-leb, lt-ltb, leb-true, leb-false, ltb-true, eq-eqb, eqb-true, not-false}
 use Rattle.model.specs.Basic.{run, any}
 use Rattle.model.specs.Footer.{Footer, empty, fixed, rules, ChangeRule, changeIn}
 use Rattle.model.specs.Tzif.{Zone, Change}
@@ -116,10 +116,6 @@ offset-steps o (c ∷ l) f h e =
     (λ s. inl (rw (t, s) refl)))
 
 -- ---- a zone
-
-not-false : (b : Bool) → not b ≡ false → b ≡ true
-not-false true e = refl
-not-false false e = clash true refl e
 
 pub any-none : (t : ℕ → Bool) (l : List ℕ) (u : ℕ) → any t l ≡ false → Member u l → t u ≡ false
 unfolding any

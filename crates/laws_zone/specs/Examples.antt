@@ -153,7 +153,7 @@ dublin-footer = record { summer-ends = refl; winter = refl; winter-ends = refl; 
 -- ---- daylight time all year: it ends where it starts again. The tie at each new year is daylight time's, so that no second has standard time
 
 abbrev allYear : List ℕ
-allYear = ruledBy (text "2") (text "XXX3EDT4,0/0,J365/23")
+allYear = ruledBy (text "2") (text "AAA3EDT4,0/0,J365/23")
 
 abbrev start : ChangeRule
 start = record { day = plain 0; time = 0 }

@@ -42,41 +42,41 @@ moveBy (refuses n p) = M.Refused n p
 
 -- ---- replies of two numbers whose least count is not above the most
 
-abbrev Told : Answer Reply → Type 0
-Told (gives r) = (x y : ℤ) × (r .values ≡ x ∷ y ∷ []) × (leastOf (gives r) ≤ mostOf (gives r))
-Told (refuses n p) = Unit {0}
+abbrev Answered : Answer Reply → Type 0
+Answered (gives r) = (x y : ℤ) × (r .values ≡ x ∷ y ∷ []) × (leastOf (gives r) ≤ mostOf (gives r))
+Answered (refuses n p) = Unit {0}
 
-then-told : {A : Type 0} (a : Answer A) (f : A → Answer Reply) → ((x : A) → Told (f x)) → Told (a >>= f)
-then-told (gives x) f h = h x
-then-told (refuses n p) f h = tt
+then-answered : {A : Type 0} (a : Answer A) (f : A → Answer Reply) → ((x : A) → Answered (f x)) → Answered (a >>= f)
+then-answered (gives x) f h = h x
+then-answered (refuses n p) f h = tt
 
-between-told : (s : Schedule) (a₁ a₂ b₁ b₂ : ℤ) → Told (betweenCall s a₁ a₂ b₁ b₂)
+between-answered : (s : Schedule) (a₁ a₂ b₁ b₂ : ℤ) → Answered (betweenCall s a₁ a₂ b₁ b₂)
 unfolding betweenCall duration
-between-told s a₁ a₂ b₁ b₂ =
-    then-told (instantOf a₁ a₂) _ (λ a. then-told (instantOf b₁ b₂) _
+between-answered s a₁ a₂ b₁ b₂ =
+    then-answered (instantOf a₁ a₂) _ (λ a. then-answered (instantOf b₁ b₂) _
     (λ b. (_, _, refl, needed-most (begun (max a b - min a b)) anyTime (ahead on s (min a b)) _ (max a b - min a b) 0 0 0)))
 
-moved-told : (w : Way) (s : Schedule) (t d : ℕ) → Told (moved w s t d)
+moved-answered : (w : Way) (s : Schedule) (t d : ℕ) → Answered (moved w s t d)
 unfolding moved instant
-moved-told w s t d = then-told (search w s t d) _ (λ x. (_, _, refl, needed-most (begun x) someTime (ahead w s t) _ (reach w t) 0 0 d))
+moved-answered w s t d = then-answered (search w s t d) _ (λ x. (_, _, refl, needed-most (begun x) someTime (ahead w s t) _ (reach w t) 0 0 d))
 
-choice-told : (c : Bool) (a b : Answer Reply) → Told a → Told b → Told (if c then a else b)
-choice-told true a b p q = p
-choice-told false a b p q = q
+choice-answered : (c : Bool) (a b : Answer Reply) → Answered a → Answered b → Answered (if c then a else b)
+choice-answered true a b p q = p
+choice-answered false a b p q = q
 
-move-told : (w : Way) (s : Schedule) (t₁ t₂ d₁ d₂ : ℤ) → Told (moveCall w s t₁ t₂ d₁ d₂)
+move-answered : (w : Way) (s : Schedule) (t₁ t₂ d₁ d₂ : ℤ) → Answered (moveCall w s t₁ t₂ d₁ d₂)
 unfolding moveCall
-move-told w s t₁ t₂ d₁ d₂ =
-    then-told (instantOf t₁ t₂) _ (λ t. then-told (durationOf d₁ d₂) _
-    (λ d. choice-told (d .minus) _ _ (then-told (negated d) _ (λ e. moved-told (turned w) s t (e .size))) (moved-told w s t (d .size))))
+move-answered w s t₁ t₂ d₁ d₂ =
+    then-answered (instantOf t₁ t₂) _ (λ t. then-answered (durationOf d₁ d₂) _
+    (λ d. choice-answered (d .minus) _ _ (then-answered (negated d) _ (λ e. moved-answered (turned w) s t (e .size))) (moved-answered w s t (d .size))))
 
 -- ---- such a reply's numbers are those of the answer, and its count keeps both bounds
 
-time-by : (a : Answer Reply) → Told a → TimeAs (timeBy a) a
+time-by : (a : Answer Reply) → Answered a → TimeAs (timeBy a) a
 time-by (gives r) (x, y, e, m) = (rw e, record { least = refl; most = m })
 time-by (refuses n p) h = (refl, record { least = refl; most = omega arith })
 
-move-by : (a : Answer Reply) → Told a → MoveAs (moveBy a) a
+move-by : (a : Answer Reply) → Answered a → MoveAs (moveBy a) a
 move-by (gives r) (x, y, e, m) = (rw e, record { least = refl; most = m })
 move-by (refuses n p) h = (refl, record { least = refl; most = omega arith })
 
@@ -103,13 +103,13 @@ module _ (book pack : List ℕ) where
 
   -- each is what its contract promises, numbers and count, for all pairs of numbers
   pub time-promised : (a b : Pair) → TimeAs (timeOf a b) (timeReply a b)
-  time-promised a b = time-by (timeReply a b) (then-told (build book pack) _ (λ s. between-told s (a .sec) (a .ns) (b .sec) (b .ns)))
+  time-promised a b = time-by (timeReply a b) (then-answered (build book pack) _ (λ s. between-answered s (a .sec) (a .ns) (b .sec) (b .ns)))
 
   pub add-promised : (t d : Pair) → MoveAs (addOf t d) (addReply t d)
-  add-promised t d = move-by (addReply t d) (then-told (build book pack) _ (λ s. move-told on s (t .sec) (t .ns) (d .sec) (d .ns)))
+  add-promised t d = move-by (addReply t d) (then-answered (build book pack) _ (λ s. move-answered on s (t .sec) (t .ns) (d .sec) (d .ns)))
 
   pub sub-promised : (t d : Pair) → MoveAs (subOf t d) (subReply t d)
-  sub-promised t d = move-by (subReply t d) (then-told (build book pack) _ (λ s. move-told back s (t .sec) (t .ns) (d .sec) (d .ns)))
+  sub-promised t d = move-by (subReply t d) (then-answered (build book pack) _ (λ s. move-answered back s (t .sec) (t .ns) (d .sec) (d .ns)))
 
   -- so they answer as demand 3 asks,
   pub as-promised : AsPromised timeOf addOf subOf book pack

@@ -12,6 +12,7 @@ use Rattle.model.specs.Blocks.{Block, block}
 use Rattle.model.specs.Working.{Schedule, working}
 use Rattle.model.specs.Walk.{begun, onward, listed, stretches}
 use Rattle.laws_blocks.specs.Move.{moves}
+use Rattle.laws_blocks.specs.Count672.{mostBlocks}
 use Rattle.instant.specs.Instant.{nanos, InRange}
 use Rattle.instant.specs.declared.Instant.{Instant}
 use Rattle.laws_skip.specs.WindowEnds.{Inside}
@@ -78,8 +79,8 @@ below-of lo hi (b ∷ l) h i = ((omega arith, omega arith), below-of lo hi l h (
 pub record Walking (s : Schedule) (a b : ℕ) (w : Bool) (e : List ℤ) (lo : ℕ) (k : Bool) (o : Block) (c : ℕ) (out : List ℤ) : Type 0 where
   pub from : a ≤ lo
   pub small : SmallBlock o
-  pub few : lo < b → c * week ≤ 672 * (lo - a)
-  pub most : c * week ≤ 672 * (lo - a) + 672 * week
+  pub few : lo < b → c * week ≤ mostBlocks * (lo - a)
+  pub most : c * week ≤ mostBlocks * (lo - a) + mostBlocks * week
   pub count : c + length (onFrom k o (ahead s lo b)) ≡ length (stretches s a b)
   pub long : length out ≡ length e
   pub same : stored w c (onFrom k o (ahead s lo b)) out ≡ stored w 0 (stretches s a b) e
@@ -89,7 +90,7 @@ unfolding ahead onFrom
 walking-starts s a b w e o h = record { from = omega arith; small = h; few = λ p. omega arith; most = omega arith; count = omega arith; long = refl; same = refl }
 
 module _ (s : Schedule) (a b : ℕ) (w : Bool) (e : List ℤ) (lo : ℕ) (o : Open) (out : List ℤ) (m : Walking s a b w e lo (o .known) (blockOf (o .block)) (o .count) out) (h : lo < b) (hi : ℕ) (q : hi ≡ min (lo + week) b)
-    (n : ℕ) (d : List ℕ) (p : pairs n d ≡ onward lo (working s lo hi)) (f : n ≤ 672) where
+    (n : ℕ) (d : List ℕ) (p : pairs n d ≡ onward lo (working s lo hi)) (f : n ≤ mostBlocks) where
   -- the blocks of the window
   abbrev l : List Block
   l = moves lo (pairs n d)
@@ -97,7 +98,7 @@ module _ (s : Schedule) (a b : ℕ) (w : Bool) (e : List ℤ) (lo : ℕ) (o : Op
   l-is : l ≡ working s lo hi
   l-is = ap (moves lo) p ∙ back-again lo hi (working s lo hi) (working-inside s lo hi (omega arith))
 
-  l-few : length l ≤ 672
+  l-few : length l ≤ mostBlocks
   l-few = let x = moved-long lo 0 n d in omega arith
 
   -- what is ahead, in two parts
@@ -111,7 +112,7 @@ module _ (s : Schedule) (a b : ℕ) (w : Bool) (e : List ℤ) (lo : ℕ) (o : Op
       ≡ length (ended (o .known) (blockOf (o .block)) l) + length (onFrom (anyOpen (o .known) l) (stillOpen (o .known) (blockOf (o .block)) l) (ahead s hi b))
   parts-long = ap length parts ∙ length-append (ended (o .known) (blockOf (o .block)) l) _
 
-  ends-few : length (ended (o .known) (blockOf (o .block)) l) ≤ 672
+  ends-few : length (ended (o .known) (blockOf (o .block)) l) ≤ mostBlocks
   ends-few = let u = ended-few (o .known) (blockOf (o .block)) l in let v = l-few in omega arith
 
   -- `join_window` may be called

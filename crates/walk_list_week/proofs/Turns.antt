@@ -9,6 +9,7 @@ use lib.IntN.{ℤ}
 use lib.ListN.{length, getD}
 use Rattle.model.specs.Blocks.{Block, block, merged, mergedFrom}
 use Rattle.laws_blocks.specs.Move.{moves}
+use Rattle.laws_blocks.specs.Count672.{mostBlocks}
 use Rattle.block_pairs.specs.Pairs.{part, pairs}
 use Rattle.block_pairs.proofs.Parts.{from-first, from-none}
 use Rattle.walk_list_week.specs.Stretched.{onFrom, ended, stillOpen, anyOpen, stored, SmallBlock, Below}
@@ -44,14 +45,14 @@ pub record Joining (w : Bool) (l : List Block) (e : List ℤ) (k₀ : Bool) (b�
   pub any : anyOpen k rest ≡ anyOpen k₀ l
   pub last : stillOpen k b rest ≡ stillOpen k₀ b₀ l
   pub count : c + length (ended k b rest) ≡ c₀ + length (ended k₀ b₀ l)
-  pub few : c + length rest ≤ c₀ + 672
+  pub few : c + length rest ≤ c₀ + mostBlocks
   pub small : SmallBlock b
   pub below : Below rest
   pub room : w ≡ true → 4 * (c + length (ended k b rest)) ≤ length out
   pub long : length out ≡ length e
   pub same : stored w c (ended k b rest) out ≡ stored w c₀ (ended k₀ b₀ l) e
 
-pub joining-starts : (w : Bool) (t n : ℕ) (p : List ℕ) (e : List ℤ) (k₀ : Bool) (b₀ : Block) (c₀ : ℕ) → length (moves t (pairs n p)) ≤ 672 → SmallBlock b₀ → Below (moves t (pairs n p))
+pub joining-starts : (w : Bool) (t n : ℕ) (p : List ℕ) (e : List ℤ) (k₀ : Bool) (b₀ : Block) (c₀ : ℕ) → length (moves t (pairs n p)) ≤ mostBlocks → SmallBlock b₀ → Below (moves t (pairs n p))
     → (w ≡ true → 4 * (c₀ + length (ended k₀ b₀ (moves t (pairs n p)))) ≤ length e) → Joining w (moves t (pairs n p)) e k₀ b₀ c₀ (left t n p 0) e k₀ b₀ c₀
 joining-starts w t n p e k₀ b₀ c₀ h s m r =
     rw (← left-all t n p) (record { any = refl; last = refl; count = refl; few = omega arith; small = s; below = m; room = r; long = refl; same = refl })

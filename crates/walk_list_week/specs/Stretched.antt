@@ -10,6 +10,7 @@ use Rattle.model.specs.Basic.{if_then_else_, joined}
 use Rattle.model.specs.Blocks.{Block, block, merged, mergedFrom}
 use Rattle.model.specs.Instant.{instant}
 use Rattle.laws_blocks.specs.Move.{moves}
+use Rattle.laws_blocks.specs.Count672.{mostBlocks}
 use Rattle.instant.specs.Instant.{nanos, most}
 use Rattle.instant.specs.declared.Instant.{Instant}
 use Rattle.block.specs.Counted.{blockOf}
@@ -73,11 +74,7 @@ blocksFrom lo n l = moves (nanos lo) (pairs n l)
 
 -- ---- what is asked of a window's blocks
 
--- no window has more blocks than this
-abbrev pub mostBlocks : ℕ
-mostBlocks = 672
-
--- and no listing as many stretches as this
+-- no listing has as many stretches as this
 abbrev pub mostStretches : ℕ
 mostStretches = 1000000000000
 

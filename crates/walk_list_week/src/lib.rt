@@ -15,7 +15,6 @@ ghost use Rattle.block.specs.Counted.{blockOf};
 ghost use Rattle.walk_list_week.specs.Stretched.{placed, stored, blockFrom, blocksFrom, SmallBlock, StretchReady, Joins, CanFinish, Finishes};
 use block::Block;
 use instant::Instant;
-use instant::Length;
 
 // The numbers of a stretch, two for each of its ends, and where those of its second end stand.
 pub const STRETCH_SIZE: usize = 4;
@@ -85,11 +84,7 @@ fn after(t: Instant, x: u64) -> Instant
     requires { ⌜ InRange t ⌝ }
     ensures { λ r. ⌜ nanos r ≡ x + nanos t ⌝ }
 {
-    let d = Length {
-        sec: x / instant::SECOND,
-        ns: (x % instant::SECOND) as u32,
-    };
-    instant::sum(t, d)
+    instant::sum(t, instant::from_nanoseconds(x))
 }
 
 // Block i of l, whose numbers are distances from lo.

@@ -106,11 +106,7 @@ fn further(x: Length, d: u64) -> Length
     requires { ⌜ Short x ⌝ }
     ensures { λ r. ⌜ (nanos r ≡ d + nanos x) × Exact r ⌝ }
 {
-    let y = Length {
-        sec: d / instant::SECOND,
-        ns: (d % instant::SECOND) as u32,
-    };
-    instant::sum(x, y)
+    instant::sum(x, instant::from_nanoseconds(d))
 }
 
 // Goes on through the first n blocks of a window that is w long and begins at the distance x, from the period between two distances, if there is one

@@ -5,6 +5,7 @@ ghost use Prim.Native.Nat.{_+_, _*_, _≤_};
 ghost use lib.ListN.{length, take};
 ghost use Rattle.instant.specs.Instant.{nanos, InRange};
 ghost use Rattle.model.specs.Instant.{lastSecond};
+ghost use Rattle.book.specs.Limits.{mostWork, mostHolidays};
 ghost use Rattle.book.specs.Meaning.{datesAt};
 ghost use Rattle.rule.specs.Rules.{scheduleIs, RuleFits, HolidaysFit, ScheduleFits};
 ghost use Rattle.laws_base.specs.Every.{Every};
@@ -139,7 +140,7 @@ fn holidays_room(
     a: Instant,
     b: Instant,
 ) -> u64
-    requires { ⌜ (n ≤ 8) × Every (HolidaysFit (now book) (now pack)) (take n closed) × InRange a × InRange b ⌝ }
+    requires { ⌜ (n ≤ mostHolidays) × Every (HolidaysFit (now book) (now pack)) (take n closed) × InRange a × InRange b ⌝ }
     ensures { λ r. ⌜ HolidaysRoom (now (book .entry)) (now (pack .entry)) (take n closed) back a b r ⌝ }
 {
     let mut room = UNLIMITED;
@@ -165,7 +166,7 @@ fn rules_room(
     a: Instant,
     b: Instant,
 ) -> u64
-    requires { ⌜ (n ≤ 16) × Every (RuleFits (now pack)) (take n rules) × InRange a × InRange b × (a .sec ≤ b .sec) ⌝ }
+    requires { ⌜ (n ≤ mostWork) × Every (RuleFits (now pack)) (take n rules) × InRange a × InRange b × (a .sec ≤ b .sec) ⌝ }
     ensures { λ r. ⌜ RulesRoom (now (pack .entry)) (take n rules) back a b r ⌝ }
 {
     let mut room = UNLIMITED;

@@ -29,7 +29,7 @@ use Rattle.instant.specs.declared.Instant.{Instant}
 use Rattle.block.specs.declared.Block.{Block as Item}
 use Rattle.zone_local.specs.Dates.{IsDay, held, pieceOf, during, KeepsOffset, IsIn}
 use Rattle.rule.specs.declared.Rule.{Rule as Rule′}
-use Rattle.window_dates.specs.Windows.{Window, IsLocalDates, dayBy}
+use Rattle.window_dates.specs.Windows.{Window, IsLocalDates, OffsetHolds, dayBy}
 use Rattle.window_dates.specs.declared.LocalDates.{LocalDates}
 use Rattle.rule.specs.Rules.{fileAt, ruleIs}
 use Rattle.laws_base.specs.Every.{Every}
@@ -127,7 +127,7 @@ by-offset z lo hi t o k h p q n =
 
 -- a zone's offset and the seconds that a window has with four days on either side
 pub kept-room : (f : List ℕ) (z : Zone′) (lo hi : Instant) (o : ℕ) → ZoneOk f z → Window 14 lo hi → KeepsOffset (zoneIs f z) (nanos lo) (nanos hi) o → 0 < o
-    → (o ≤ 187199) × (12654842399 ≤ lo .sec) × (lo .sec ≤ hi .sec) × (hi .sec ≤ 643761381600)
+    → OffsetHolds o lo hi
 kept-room f z lo hi o s w k h =
     let a = w .low .ns in let b = w .high .ns in let c = w .order in let l = k .low h in let u = k .high h in
     (kept-small f z lo hi o s k c h, omega arith, omega arith, omega arith)
@@ -146,8 +146,8 @@ days-kept f g z lo hi o d e s w k h p q r =
     (q ∙ last-on (zoneIs f z) (nanos hi) (dayBy o hi) j v)
     (rw r k)
 
-pub day-in : (z : Zone) (lo hi : Instant) (days : LocalDates) (d : ℕ) → IsLocalDates z lo hi days → days .first ≤ d → d ≤ days .last → IsDay d
-day-in z lo hi days d q a b = let l = q .low in let u = q .high in record { low = omega arith; high = omega arith }
+pub local-date-in : (z : Zone) (lo hi : Instant) (days : LocalDates) (d : ℕ) → IsLocalDates z lo hi days → days .first ≤ d → d ≤ days .last → IsDay d
+local-date-in z lo hi days d q a b = let l = q .low in let u = q .high in record { low = omega arith; high = omega arith }
 
 -- the same, of a zone whose file is a part of the pack
 pub kept-moved : (f g : List ℕ) (z : Zone′) (lo hi : Instant) (days : LocalDates) → f ≡ g → IsLocalDates (zoneIs g z) lo hi days → KeepsOffset (zoneIs f z) (nanos lo) (nanos hi) (days .offset)

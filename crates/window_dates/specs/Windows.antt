@@ -13,7 +13,7 @@ use Rattle.zone_local.specs.Dates.{KeepsOffset, pieceOf}
 use Rattle.rule.specs.Rules.{ruleIs, RuleFits}
 use Rattle.rule.specs.declared.Rule.{Rule}
 use Rattle.window_dates.specs.declared.LocalDates.{LocalDates}
-use Rattle.model.specs.Offset.{offsetBias}
+use Rattle.model.specs.Offset.{offsetBias, greatestOffset}
 
 -- a window of at most k days inside the range
 pub record Window (k : ℕ) (lo hi : Instant) : Type 0 where
@@ -48,7 +48,7 @@ uptoSecond = 643761381600
 
 -- the offset o, and a window with four days of the range on either side
 abbrev pub OffsetHolds : ℕ → Instant → Instant → Type 0
-OffsetHolds o lo hi = (o ≤ 187199) × (fromSecond ≤ lo .sec) × (lo .sec ≤ hi .sec) × (hi .sec ≤ uptoSecond)
+OffsetHolds o lo hi = (o ≤ greatestOffset) × (fromSecond ≤ lo .sec) × (lo .sec ≤ hi .sec) × (hi .sec ≤ uptoSecond)
 
 -- ---- a rule
 

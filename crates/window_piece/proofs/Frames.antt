@@ -10,6 +10,7 @@ use Rattle.model.specs.Basic.{run}
 use Rattle.model.specs.Blocks.{Block, block, put, clipped}
 use Rattle.model.specs.Calendar.{firstDay}
 use Rattle.model.specs.Instant.{second, day, firstSecond}
+use Rattle.model.specs.Offset.{greatestOffset}
 use Rattle.model.specs.Walk.{onward}
 use Rattle.model.specs.Working.{Rule, firstDate, lastDate, localDates, startOf, endOf, blocksOf}
 use Rattle.laws_base.specs.Test.{by-test}
@@ -68,7 +69,7 @@ clipped-by c lo hi s e lo′ hi′ s′ e′ p q r t =
     ∙ rw (p, q, r, t)
 
 module _ (days : LocalDates) (lo hi : Instant) (f : Frame) (m : IsFrame days lo hi f) (known : 0 < f .first) (early : firstSecond ≤ lo .sec) (from : firstDay ≤ days .first)
-    (small : days .offset ≤ 187199) where
+    (small : days .offset ≤ greatestOffset) where
   frame-at : (d x : ℕ) → days .first ≤ d → (midnight (f .first) (days .first) d + x) + (lo .sec - 1209600) * 1000000000 ≡ less (days .offset * second) d x
   frame-at d x h = let e = m .first-is known in omega arith
 
@@ -104,10 +105,10 @@ few-dates f z lo hi days o w q =
 pub few-count : (first last k : ℕ) → last + 1 ≤ first + k → last + 1 - first ≤ k
 few-count first last k h = omega arith
 
-pub offset-small : (f : List ℕ) (z : Zone′) (lo hi : Instant) (days : LocalDates) → ZoneOk f z → Window 14 lo hi → IsLocalDates (zoneIs f z) lo hi days → days .offset ≤ 187199
+pub offset-small : (f : List ℕ) (z : Zone′) (lo hi : Instant) (days : LocalDates) → ZoneOk f z → Window 14 lo hi → IsLocalDates (zoneIs f z) lo hi days → days .offset ≤ greatestOffset
 offset-small f z lo hi days o w q = small (days .offset) (λ h. kept-small f z lo hi (days .offset) o (q .kept) (w .order) h)
   where
-    small : (o : ℕ) → (0 < o → o ≤ 187199) → o ≤ 187199
+    small : (o : ℕ) → (0 < o → o ≤ greatestOffset) → o ≤ greatestOffset
     small zero h = omega arith
     small (suc o) h = h (omega arith)
 

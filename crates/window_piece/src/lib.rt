@@ -4,6 +4,7 @@ ghost use mathlib.Core.Path.{_≡_};
 ghost use Prim.Native.Nat.{_+_, _*_, _-_, _≤_, _<_};
 ghost use Rattle.model.specs.Blocks.{clipped};
 ghost use Rattle.model.specs.Instant.{day, lastSecond};
+ghost use Rattle.model.specs.Offset.{greatestOffset};
 ghost use Rattle.instant.specs.Instant.{nanos};
 ghost use Rattle.civil.specs.Dates.{timeIn, TimeFits};
 ghost use Rattle.zone_local.specs.Dates.{held, tillTime};
@@ -82,7 +83,7 @@ pub struct Frame {
 
 // The frame of a window; `first` is 0 where no offset is known.
 pub fn frame_of(days: LocalDates, lo: Instant, hi: Instant) -> Frame
-    requires { ⌜ Window 14 lo hi × (days .offset ≤ 187199) ⌝ }
+    requires { ⌜ Window 14 lo hi × (days .offset ≤ greatestOffset) ⌝ }
     ensures { λ r. ⌜ IsFrame days lo hi r ⌝ }
 {
     let t = days.first as u64 * instant::DAY + LEAD;

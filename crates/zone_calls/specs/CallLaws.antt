@@ -196,9 +196,9 @@ module _ (y m d : ℤ) (fy : SFits w64 y) (fm : SFits w64 m) (fd : SFits w64 d) 
     pub date-yes : {n : ℕ} → r ≡ D.Day n → dayGiven y m d ≡ gives n
     date-yes h = sym (e ∙ same-date) ∙ ap dayAnswer h
 
-pub day-in : (y m d : ℤ) {n : ℕ} → dayGiven y m d ≡ gives n → IsDay n
+pub given-day-in : (y m d : ℤ) {n : ℕ} → dayGiven y m d ≡ gives n → IsDay n
 unfolding dayGiven
-day-in y m d {n} e =
+given-day-in y m d {n} e =
     by-test (not (isBelow0 m || isBelow0 d) && isDate (yearFrom y) (natAbs m) (natAbs d))
     (λ t.
     let i = and-both (not (isBelow0 m || isBelow0 d)) (isDate (yearFrom y) (natAbs m) (natAbs d)) t in

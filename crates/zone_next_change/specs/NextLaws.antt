@@ -1,13 +1,13 @@
 -- What the next change is: the one second after u up to which the offset stays as at u and at which it is another; if there is none in the range, the
 -- offset stays to the range's end.
 use mathlib.Core.Path.{_≡_, refl, sym, _∙_, ap}
-use mathlib.Core.Bool.{Bool, true, false, not}
+use mathlib.Core.Bool.{true, false}
 use mathlib.Core.Option.{Option, none, some}
 use Prim.Native.Nat.{ℕ, zero, suc, _+_, _-_, _≤_, _<_}
 use native.Mathlib.Omega.{arith}
 use native.Mathlib.Decide.{decLt}
 use lib.Dec.{eqb}
-use borrow.Author.Tests.{eq-eqb, eqb-true}
+use borrow.Author.Tests.{eq-eqb, eqb-true, not-false}
 use Rattle.model.specs.Tzif.{Zone}
 use Rattle.model.specs.Zone.{offsetAt, isChange, steady}
 use Rattle.laws_base.specs.Test.{by-test, clash}
@@ -22,16 +22,12 @@ pub data SaysNext (off : ℕ → ℕ) (u : ℕ) : Option ℕ → Type 0 where
   -- v is after u and in the range, the offset there differs from that at u, and between u and v the offset is that of u
   changes : (v : ℕ) → u < v → v ≤ lastSecond → (off v ≡ off u → ⊥) → ((w : ℕ) → u ≤ w → w < v → off w ≡ off u) → SaysNext off u (some v)
   -- the offset is that of u to the range's end
-  stays : ((w : ℕ) → u ≤ w → w ≤ lastSecond → off w ≡ off u) → SaysNext off u none
+  never-changes : ((w : ℕ) → u ≤ w → w ≤ lastSecond → off w ≡ off u) → SaysNext off u none
 
 -- ---- the next change says so
 
 differs : (z : Zone) (u v : ℕ) → isChange z v ≡ true → offsetAt z (v - 1) ≡ offsetAt z u → offsetAt z v ≡ offsetAt z u → ⊥
 differs z u v e p q = clash false (rw (eq-eqb (offsetAt z (v - 1)) (offsetAt z v) (p ∙ sym q)) at e) refl
-
-not-false : (b : Bool) → not b ≡ false → b ≡ true
-not-false true e = refl
-not-false false e = clash true refl e
 
 unchanged : (z : Zone) (v : ℕ) → isChange z v ≡ false → offsetAt z v ≡ offsetAt z (v - 1)
 unchanged z v e = sym (eqb-true _ _ (not-false (eqb (offsetAt z (v - 1)) (offsetAt z v)) e))
@@ -49,7 +45,7 @@ module _ (z : Zone) (u : ℕ) where
 
   found : (n v : ℕ) → u < v → n ≡ lastSecond + 1 - v → Same v → SaysNext (offsetAt z) u (firstOf (isChange z) v n)
   unfolding firstOf
-  found zero v h e s = stays (λ w a b. s w a (omega arith))
+  found zero v h e s = never-changes (λ w a b. s w a (omega arith))
   found (suc n) v h e s =
       let p : offsetAt z (v - 1) ≡ offsetAt z u = s (v - 1) (omega arith) (omega arith) in
       by-test (isChange z v) (λ t. rw t (changes v h (omega arith) (differs z u v t p) s))
@@ -71,9 +67,9 @@ module _ {off : ℕ → ℕ} {u : ℕ} where
 
   pub says-once : {a b : Option ℕ} → SaysNext off u a → SaysNext off u b → a ≡ b
   says-once (changes v h m d s) (changes w i n e t) = let q : v ≡ w = omega (arith, later v w d h t, later w v e i s) in ap some q
-  says-once (changes v h m d s) (stays t) = absurd (d (t v (omega arith) m))
-  says-once (stays t) (changes v h m d s) = absurd (d (t v (omega arith) m))
-  says-once (stays t) (stays s) = refl
+  says-once (changes v h m d s) (never-changes t) = absurd (d (t v (omega arith) m))
+  says-once (never-changes t) (changes v h m d s) = absurd (d (t v (omega arith) m))
+  says-once (never-changes t) (never-changes s) = refl
 
 -- what says so is the next change
 pub is-next : (z : Zone) (u : ℕ) {a : Option ℕ} → SaysNext (offsetAt z) u a → a ≡ nextChange z u
@@ -92,10 +88,10 @@ module _ (z : Zone) {u e : ℕ} (r : Run (offsetAt z) u e) where
   run-next h d = is-next z u (changes e (r .on) h d (r .same))
 
   pub run-never : lastSecond < e → none ≡ nextChange z u
-  run-never h = is-next z u (stays (λ w a b. r .same w a (omega arith)))
+  run-never h = is-next z u (never-changes (λ w a b. r .same w a (omega arith)))
 
 pub late-never : (z : Zone) (u : ℕ) → lastSecond ≤ u → none ≡ nextChange z u
-late-never z u h = is-next z u (stays (λ w a b. let q : w ≡ u = omega arith in ap (offsetAt z) q))
+late-never z u h = is-next z u (never-changes (λ w a b. let q : w ≡ u = omega arith in ap (offsetAt z) q))
 
 -- ---- found by computing: no change up to the second before, and a change there
 
@@ -106,4 +102,4 @@ module _ (z : Zone) (f : FooterFits (z .footer)) (u : ℕ) where
       sym (is-next z u (changes v h m (differs z u v t p) (λ w a b. steady-same z f u (v - 1) s w a (omega arith))))
 
   pub steady-never : steady z u lastSecond ≡ true → nextChange z u ≡ none
-  steady-never s = sym (is-next z u (stays (λ w a b. steady-same z f u lastSecond s w a b)))
+  steady-never s = sym (is-next z u (never-changes (λ w a b. steady-same z f u lastSecond s w a b)))

@@ -1,6 +1,6 @@
 -- `window_dates::piece_of` meets its contract. Assumes nothing.
 use Rattle.instant.specs.Instant.{nanos}
-use Rattle.window_dates.proofs.Fill.{zone-moved, day-in, kept-moved, in-moved, rule-piece}
+use Rattle.window_dates.proofs.Fill.{zone-moved, local-date-in, kept-moved, in-moved, rule-piece}
 use borrow.Author.Needs.{needs}
 use Rattle.window_dates.proofs.piece_of.Statement.{statement}
 use Rattle.window_dates.proofs.piece_of.Tie as tie
@@ -11,7 +11,7 @@ part-requires c κs = search needs
 piece-by-requires : tie.Need-piece-by-requires
 piece-by-requires c κs = (
   zone-moved _ _ _ (c .part .ensures) (c .before .before .before .before .before .pre .0 .opened),
-  day-in _ _ _ _ _ (c .before .before .before .before .before .pre .2) (c .before .before .before .before .before .pre .3) (c .before .before .before .before .before .pre .4),
+  local-date-in _ _ _ _ _ (c .before .before .before .before .before .pre .2) (c .before .before .before .before .before .pre .3) (c .before .before .before .before .before .pre .4),
   c .before .before .before .before .before .pre .0 .from,
   c .before .before .before .before .before .pre .0 .to,
   kept-moved _ _ (c .before .before .before .before .before .args .r .zone) _ _ _ (c .part .ensures) (c .before .before .before .before .before .pre .2),

@@ -4,7 +4,7 @@ use Prim.Native.Nat.{_-_}
 use Rattle.instant.specs.Instant.{nanos}
 use Rattle.window_piece.proofs.Fills.{filled-as, filled-same}
 use Rattle.window_piece.proofs.Frames.{shown-inside, free-plain}
-use Rattle.window_dates.proofs.Fill.{zone-moved, day-in, kept-moved, in-moved, closed-piece}
+use Rattle.window_dates.proofs.Fill.{zone-moved, local-date-in, kept-moved, in-moved, closed-piece}
 use borrow.Author.Needs.{needs}
 use Rattle.window_holiday.proofs.free_into.Statement.{statement}
 use Rattle.window_holiday.proofs.free_into.Tie as tie
@@ -13,7 +13,7 @@ part-requires : tie.Need-part-requires
 part-requires c κs = search needs
 
 piece-by-requires : tie.Need-piece-by-requires
-piece-by-requires c κs = (zone-moved _ _ _ (c .part .ensures) (c .before .before .before .before .before .before .pre .0 .0), day-in _ _ _ _ _ (c .before .before .before .before .before .before .pre .0 .2) (c .before .before .before .before .before .before .pre .0 .4) (c .before .before .before .before .before .before .pre .0 .5), record { seconds = omega arith; nanos = omega arith }, record { seconds = omega arith; nanos = omega arith }, kept-moved _ _ (c .before .before .before .before .before .before .args .c .zone) _ _ _ (c .part .ensures) (c .before .before .before .before .before .before .pre .0 .2), in-moved _ _ (c .before .before .before .before .before .before .args .c .zone) _ _ _ _ (c .part .ensures) (c .before .before .before .before .before .before .pre .0 .1) (c .before .before .before .before .before .before .pre .0 .2) (c .before .before .before .before .before .before .pre .0 .4) (c .before .before .before .before .before .before .pre .0 .5))
+piece-by-requires c κs = (zone-moved _ _ _ (c .part .ensures) (c .before .before .before .before .before .before .pre .0 .0), local-date-in _ _ _ _ _ (c .before .before .before .before .before .before .pre .0 .2) (c .before .before .before .before .before .before .pre .0 .4) (c .before .before .before .before .before .before .pre .0 .5), record { seconds = omega arith; nanos = omega arith }, record { seconds = omega arith; nanos = omega arith }, kept-moved _ _ (c .before .before .before .before .before .before .args .c .zone) _ _ _ (c .part .ensures) (c .before .before .before .before .before .before .pre .0 .2), in-moved _ _ (c .before .before .before .before .before .before .args .c .zone) _ _ _ _ (c .part .ensures) (c .before .before .before .before .before .before .pre .0 .1) (c .before .before .before .before .before .before .pre .0 .2) (c .before .before .before .before .before .before .pre .0 .4) (c .before .before .before .before .before .before .pre .0 .5))
 
 piece-into-requires : tie.Need-piece-into-requires
 piece-into-requires c κs = (shown-inside (c .before .before .before .before .before .before .before .before .args .lo) (c .before .before .before .before .before .before .before .before .args .hi) _ _ (c .before .before .before .before .before .before .before .before .args .day) (c .before .before .before .before .before .before .before .before .pre .0 .1) (closed-piece _ _ (c .before .before .before .before .before .before .before .before .args .c .zone) (nanos (c .before .before .before .before .before .before .before .before .args .lo)) (nanos (c .before .before .before .before .before .before .before .before .args .hi)) (c .before .before .before .before .before .before .before .before .args .day) _ (c .before .before .part .ensures) (c .before .piece-by .ensures)), (c .before .before .before .before .before .before .before .before .pre .1))
