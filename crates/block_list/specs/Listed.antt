@@ -14,12 +14,12 @@ abbrev pub blockIs : Block → Block′
 blockIs b = block (b .start) (b .end)
 
 -- the first n of an array
-abbrev pub front : ℕ → List Block → List Block′
-front n l = map blockIs (take n l)
+abbrev pub firstBlocks : ℕ → List Block → List Block′
+firstBlocks n l = map blockIs (take n l)
 
 -- the blocks that are used
 abbrev pub listOf : Blocks → List Block′
-listOf b = front (b .len) (b .items)
+listOf b = firstBlocks (b .len) (b .items)
 
 -- what the code reads past the end of an array
 abbrev pub nil : Block

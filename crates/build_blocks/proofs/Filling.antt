@@ -14,7 +14,7 @@ use Rattle.laws_base.specs.Test.{by-test}
 use Rattle.instant.specs.Instant.{nanos}
 use Rattle.instant.specs.declared.Instant.{Instant}
 use Rattle.block_list.specs.declared.Block.{Block}
-use Rattle.block_list.specs.Listed.{capacity, blockIs, front}
+use Rattle.block_list.specs.Listed.{capacity, blockIs, firstBlocks}
 use Rattle.laws_base.specs.Front.{front-push, front-set}
 use Rattle.zone_local.specs.Dates.{pieceOf}
 use Rattle.window_dates.specs.Windows.{IsLocalDates, mostWindowDates}
@@ -30,13 +30,13 @@ module _ (out : List Block) (w : ℕ) (x : Block) (k : ℕ) (e : k ≡ (if ltb (
   past-count : k ≤ w + 1
   past-count = rw e (by-test (ltb (x .start) (x .end)) (λ t. rw t (omega arith)) (λ t. rw t (omega arith)))
 
-  stored : w < length out → front k (set out w x) ≡ front w out ++ heldBlock x
+  stored : w < length out → firstBlocks k (set out w x) ≡ firstBlocks w out ++ heldBlock x
   unfolding heldBlock
   stored h =
       rw e
       (by-test (ltb (x .start) (x .end))
       (λ t. rw t (front-push blockIs w out x h))
-      (λ t. rw t (front-set blockIs w out w x (omega arith) ∙ sym (append-nil (front w out)))))
+      (λ t. rw t (front-set blockIs w out w x (omega arith) ∙ sym (append-nil (firstBlocks w out)))))
 
 -- ---- the dates of a rule
 
@@ -54,7 +54,7 @@ onward-shown t on f (d ∷ l) =
 
 -- the blocks in front of w, and those that the dates from d to last show
 abbrev pub datesFrom : Rule → ℕ → ℕ → ℕ → List Block → ℕ → ℕ → List Block′
-datesFrom r lo hi last out w d = front w out ++ shown (r .on) (showing r lo hi) (run d (last + 1 - d))
+datesFrom r lo hi last out w d = firstBlocks w out ++ shown (r .on) (showing r lo hi) (run d (last + 1 - d))
 
 -- the dates from d on are to come: `whole` is what the list holds in the end, `top` how many it then has at most
 pub record Dating (r : Rule) (lo hi last : ℕ) (whole : List Block′) (top : ℕ) (out : List Block) (w d : ℕ) : Type 0 where
@@ -78,22 +78,22 @@ module _ (r : Rule) (lo hi last : ℕ) (whole : List Block′) (top : ℕ) (out 
       let p = past-count out w x k c in
       let q : w < length out = omega arith in
       record {
-        same = date-on (r .on) (showing r lo hi) d last (front w out) whole (m .same) h t (front k (set out w x)) (stored out w x k c q ∙ ap (λ (l : List Block′). front w out ++ l) e);
+        same = date-on (r .on) (showing r lo hi) d last (firstBlocks w out) whole (m .same) h t (firstBlocks k (set out w x)) (stored out w x k c q ∙ ap (λ (l : List Block′). firstBlocks w out ++ l) e);
         count = omega arith;
         long = length-set out w x ∙ m .long;
       }
 
   pub dating-off : d ≤ last → r .on d ≡ false → Dating r lo hi last whole top out w (d + 1)
-  dating-off h t = let a = m .count in record { same = date-off (r .on) (showing r lo hi) d last (front w out) whole (m .same) h t; count = omega arith; long = m .long }
+  dating-off h t = let a = m .count in record { same = date-off (r .on) (showing r lo hi) d last (firstBlocks w out) whole (m .same) h t; count = omega arith; long = m .long }
 
 -- the dates of a window are done: what the rule has in it is behind the blocks that were there
 pub dating-done : (r : Rule) (lo hi : Instant) (days : LocalDates) → IsLocalDates (r .zone) lo hi days → (out₀ : List Block) (w₀ : ℕ) (out : List Block) (w d : ℕ)
     → Dating r (nanos lo) (nanos hi) (days .last) (datesFrom r (nanos lo) (nanos hi) (days .last) out₀ w₀ (days .first)) (w₀ + (days .last + 1 - days .first)) out w d
-    → days .last < d → (front w out ≡ front w₀ out₀ ++ onward (nanos lo) (blocksOf (nanos lo) (nanos hi) r)) × (w ≤ w₀ + mostWindowDates)
+    → days .last < d → (firstBlocks w out ≡ firstBlocks w₀ out₀ ++ onward (nanos lo) (blocksOf (nanos lo) (nanos hi) r)) × (w ≤ w₀ + mostWindowDates)
 dating-done r lo hi days q out₀ w₀ out w d m h =
     let a = m .count in let f = q .few in (
-      dates-done (r .on) (showing r (nanos lo) (nanos hi)) d (days .last) (front w out) (datesFrom r (nanos lo) (nanos hi) (days .last) out₀ w₀ (days .first)) (m .same) h
-          ∙ ap (λ (l : List Block′). front w₀ out₀ ++ l)
+      dates-done (r .on) (showing r (nanos lo) (nanos hi)) d (days .last) (firstBlocks w out) (datesFrom r (nanos lo) (nanos hi) (days .last) out₀ w₀ (days .first)) (m .same) h
+          ∙ ap (λ (l : List Block′). firstBlocks w₀ out₀ ++ l)
           (onward-shown (nanos lo) (r .on) (pieceOf r (nanos lo) (nanos hi)) (run (days .first) (days .last + 1 - days .first))
           ∙ ap (onward (nanos lo)) (rule-shows r (nanos lo) (nanos hi) (days .first) (days .last) (q .first-is) (q .last-is))),
       omega arith,
@@ -114,7 +114,7 @@ module _ {A : Type 0} (lo hi : ℕ) (h : A → Rule) (n : ℕ) (rules : List A) 
 
   -- the rules from i on are to come; each shows at most 21 dates
   pub record Ruling (out : List Block) (w i : ℕ) : Type 0 where
-    pub same : front w out ++ restOf rule n rules i ≡ restOf rule n rules 0
+    pub same : firstBlocks w out ++ restOf rule n rules i ≡ restOf rule n rules 0
     pub count : w ≤ i * mostWindowDates
     pub upto : i ≤ n
     pub fits : n ≤ length rules
@@ -128,13 +128,13 @@ module _ {A : Type 0} (lo hi : ℕ) (h : A → Rule) (n : ℕ) (rules : List A) 
     pub ruling-room : (first last : ℕ) → last + 1 ≤ first + mostWindowDates → n ≤ 16 → i < n → w + (last + 1 - first) ≤ capacity
     ruling-room first last f r t = let c = m .count in omega arith
 
-    pub ruling-turn : i < n → (x : A) (out′ : List Block) (w′ : ℕ) → length out′ ≡ capacity → front w′ out′ ≡ front w out ++ rule (getD rules i x) → w′ ≤ w + mostWindowDates → Ruling out′ w′ (i + 1)
+    pub ruling-turn : i < n → (x : A) (out′ : List Block) (w′ : ℕ) → length out′ ≡ capacity → firstBlocks w′ out′ ≡ firstBlocks w out ++ rule (getD rules i x) → w′ ≤ w + mostWindowDates → Ruling out′ w′ (i + 1)
     ruling-turn t x out′ w′ l e c =
         let a = m .count in let k = m .fits in
         record {
           same = ap (λ (y : List Block′). y ++ restOf rule n rules (i + 1)) e
-              ∙ append-assoc (front w out) (rule (getD rules i x)) (restOf rule n rules (i + 1))
-              ∙ ap (λ (y : List Block′). front w out ++ y) (sym (rest-more rule n rules i x t k)) ∙ m .same;
+              ∙ append-assoc (firstBlocks w out) (rule (getD rules i x)) (restOf rule n rules (i + 1))
+              ∙ ap (λ (y : List Block′). firstBlocks w out ++ y) (sym (rest-more rule n rules i x t k)) ∙ m .same;
           count = omega arith;
           upto = omega arith;
           fits = k;
@@ -142,9 +142,9 @@ module _ {A : Type 0} (lo hi : ℕ) (h : A → Rule) (n : ℕ) (rules : List A) 
         }
 
     -- the rules are done
-    pub ruling-done : n ≤ 16 → n ≤ i → (front w out ≡ onward lo (blocksOfAll lo hi (map h (take n rules)))) × (w ≤ mostShown)
+    pub ruling-done : n ≤ 16 → n ≤ i → (firstBlocks w out ≡ onward lo (blocksOfAll lo hi (map h (take n rules)))) × (w ≤ mostShown)
     ruling-done s t =
         let a = m .upto in let c = m .count in let e : i ≡ n = omega arith in (
-          sym (append-nil (front w out)) ∙ ap (λ (y : List Block′). front w out ++ y) (sym (ap (restOf rule n rules) e ∙ rest-end rule n rules (m .fits))) ∙ m .same ∙ onward-rules lo hi h (take n rules),
+          sym (append-nil (firstBlocks w out)) ∙ ap (λ (y : List Block′). firstBlocks w out ++ y) (sym (ap (restOf rule n rules) e ∙ rest-end rule n rules (m .fits))) ∙ m .same ∙ onward-rules lo hi h (take n rules),
           omega arith,
         )

@@ -18,7 +18,7 @@ use Rattle.instant.specs.Instant.{nanos}
 use Rattle.instant.specs.declared.Instant.{Instant}
 use Rattle.block_list.specs.declared.Block.{Block}
 use Rattle.block_list.specs.declared.Blocks.{Blocks}
-use Rattle.block_list.specs.Listed.{blockIs, front, listOf, nil}
+use Rattle.block_list.specs.Listed.{blockIs, firstBlocks, listOf, nil}
 use Rattle.laws_base.specs.Front.{rest-cons, rest-none}
 use Rattle.rule.specs.Rules.{ruleIs}
 use Rattle.rule.specs.declared.Rule.{Rule as Rule′}
@@ -103,7 +103,7 @@ normal-drop m (suc i) (b ∷ l) c = normal-drop (suc (b .end)) i l (c .2)
 
 -- the blocks from i on are to come, and those of off in front of j take nothing of them
 pub record Passing (on : List Block) (n : ℕ) (off : List Block) (m i j : ℕ) : Type 0 where
-  pub same : leaves (drop i (front n on)) (drop j (front m off)) ≡ leaves (front n on) (front m off)
+  pub same : leaves (drop i (firstBlocks n on)) (drop j (firstBlocks m off)) ≡ leaves (firstBlocks n on) (firstBlocks m off)
   pub upto : i ≤ n
   pub past : j ≤ m
   pub on-fits : n ≤ length on
@@ -113,50 +113,50 @@ pub passing-starts : (on : List Block) (n : ℕ) (off : List Block) (m : ℕ) �
 passing-starts on n off m a b = record { same = refl; upto = omega arith; past = omega arith; on-fits = a; off-fits = b }
 
 module _ (on : List Block) (n : ℕ) (off : List Block) (m i j : ℕ) (c : Passing on n off m i j) where
-  pub passing-done : n ≤ i → false ≡ leaves (front n on) (front m off)
+  pub passing-done : n ≤ i → false ≡ leaves (firstBlocks n on) (firstBlocks m off)
   unfolding leaves subtract anyBlock
   passing-done h =
       let u = c .upto in let z : i ≡ n = omega arith in
-      sym (ap (λ (l : List Block′). leaves l (drop j (front m off))) (ap (λ (k : ℕ). drop k (front n on)) z ∙ rest-none blockIs n on (c .on-fits))) ∙ c .same
+      sym (ap (λ (l : List Block′). leaves l (drop j (firstBlocks m off))) (ap (λ (k : ℕ). drop k (firstBlocks n on)) z ∙ rest-none blockIs n on (c .on-fits))) ∙ c .same
 
-  module _ (h : i < n) (a : Normal (front n on)) where
+  module _ (h : i < n) (a : Normal (firstBlocks n on)) where
     -- the block at i, and those behind it
     x : Block′
     x = blockIs (getD on i nil)
 
     xs : List Block′
-    xs = drop (i + 1) (front n on)
+    xs = drop (i + 1) (firstBlocks n on)
 
-    first : drop i (front n on) ≡ x ∷ xs
+    first : drop i (firstBlocks n on) ≡ x ∷ xs
     unfolding x xs
     first = rest-cons blockIs n on i nil h (c .on-fits)
 
     chain : Normal (x ∷ xs)
-    chain = rw first at (normal-drop 0 i (front n on) a)
+    chain = rw first at (normal-drop 0 i (firstBlocks n on) a)
 
     -- nothing of off is to come
-    pub passing-free : m ≤ j → true ≡ leaves (front n on) (front m off)
+    pub passing-free : m ≤ j → true ≡ leaves (firstBlocks n on) (firstBlocks m off)
     unfolding cut anyBlock
     passing-free k =
         let u = c .past in let z : j ≡ m = omega arith in
-        let e : drop j (front m off) ≡ [] = ap (λ (q : ℕ). drop q (front m off)) z ∙ rest-none blockIs m off (c .off-fits) in
+        let e : drop j (firstBlocks m off) ≡ [] = ap (λ (q : ℕ). drop q (firstBlocks m off)) z ∙ rest-none blockIs m off (c .off-fits) in
         sym (left-first x xs [] (rw (lt-ltb (x .start) (x .end) (chain .1)))) ∙ sym (ap₂ leaves first e) ∙ c .same
 
-    module _ (k : j < m) (b : Normal (front m off)) where
+    module _ (k : j < m) (b : Normal (firstBlocks m off)) where
       y : Block′
       y = blockIs (getD off j nil)
 
       ys : List Block′
-      ys = drop (j + 1) (front m off)
+      ys = drop (j + 1) (firstBlocks m off)
 
-      first-off : drop j (front m off) ≡ y ∷ ys
+      first-off : drop j (firstBlocks m off) ≡ y ∷ ys
       unfolding y ys
       first-off = rest-cons blockIs m off j nil k (c .off-fits)
 
       chain-off : Normal (y ∷ ys)
-      chain-off = rw first-off at (normal-drop 0 j (front m off) b)
+      chain-off = rw first-off at (normal-drop 0 j (firstBlocks m off) b)
 
-      now-first : leaves (x ∷ xs) (y ∷ ys) ≡ leaves (front n on) (front m off)
+      now-first : leaves (x ∷ xs) (y ∷ ys) ≡ leaves (firstBlocks n on) (firstBlocks m off)
       now-first = sym (ap₂ leaves first first-off) ∙ c .same
 
       pub passing-past : getD off j nil .end ≤ getD on i nil .start → Passing on n off m i (j + 1)
@@ -172,12 +172,12 @@ module _ (on : List Block) (n : ℕ) (off : List Block) (m i j : ℕ) (c : Passi
           }
 
       module _ (p : getD on i nil .start < getD off j nil .end) where
-        pub passing-front : getD on i nil .start < getD off j nil .start → true ≡ leaves (front n on) (front m off)
+        pub passing-front : getD on i nil .start < getD off j nil .start → true ≡ leaves (firstBlocks n on) (firstBlocks m off)
         unfolding x xs y ys
         passing-front q = sym (left-first x xs (y ∷ ys) (in-front x (chain .1) y ys (chain-off .1) q)) ∙ now-first
 
         module _ (q : getD off j nil .start ≤ getD on i nil .start) where
-          pub passing-end : getD off j nil .end < getD on i nil .end → true ≡ leaves (front n on) (front m off)
+          pub passing-end : getD off j nil .end < getD on i nil .end → true ≡ leaves (firstBlocks n on) (firstBlocks m off)
           unfolding x xs y ys
           passing-end r = sym (left-first x xs (y ∷ ys) (at-end x (chain .1) y ys p q r (chain-off .2))) ∙ now-first
 

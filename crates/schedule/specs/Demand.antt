@@ -17,17 +17,17 @@ use Rattle.schedule.specs.declared.MoveAnswer.{MoveAnswer}
 use Rattle.schedule.specs.Answers.{timeIs, moveIs}
 
 -- what is answered for one book and one pack
-module _ (timeOf : Pair → Pair → TimeAnswer) (addOf : Pair → Pair → MoveAnswer) (subOf : Pair → Pair → MoveAnswer) where
+module _ (betweenOf : Pair → Pair → TimeAnswer) (addOf : Pair → Pair → MoveAnswer) (subOf : Pair → Pair → MoveAnswer) where
   -- as the contracts promise for all pairs of 64-bit numbers; instants and durations are such
   pub record AsPromised (book pack : List ℕ) : Type 0 where
-    pub times : (a b : Pair) → IsInstant a → IsInstant b → timeIs (timeOf a b) ≡ said (between book pack (a .sec) (a .ns) (b .sec) (b .ns))
+    pub times : (a b : Pair) → IsInstant a → IsInstant b → timeIs (betweenOf a b) ≡ said (between book pack (a .sec) (a .ns) (b .sec) (b .ns))
     pub adds : (t d : Pair) → IsInstant t → IsDuration d → moveIs (addOf t d) ≡ said (add book pack (t .sec) (t .ns) (d .sec) (d .ns))
     pub subs : (t d : Pair) → IsInstant t → IsDuration d → moveIs (subOf t d) ≡ said (sub book pack (t .sec) (t .ns) (d .sec) (d .ns))
 
   -- in numbers
   abbrev pub asAnswered : Calls
   asAnswered = record {
-    between = λ a b. timeIs (timeOf a b);
+    between = λ a b. timeIs (betweenOf a b);
     adding = λ t d. moveIs (addOf t d);
     takingOff = λ t d. moveIs (subOf t d);
   }

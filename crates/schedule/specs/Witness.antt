@@ -92,8 +92,8 @@ module _ (book pack : List ℕ) where
   subReply t d = sub book pack (t .sec) (t .ns) (d .sec) (d .ns)
 
   -- the three functions
-  abbrev pub timeOf : Pair → Pair → TimeAnswer
-  timeOf a b = timeBy (timeReply a b)
+  abbrev pub betweenOf : Pair → Pair → TimeAnswer
+  betweenOf a b = timeBy (timeReply a b)
 
   abbrev pub addOf : Pair → Pair → MoveAnswer
   addOf t d = moveBy (addReply t d)
@@ -102,7 +102,7 @@ module _ (book pack : List ℕ) where
   subOf t d = moveBy (subReply t d)
 
   -- each is what its contract promises, numbers and count, for all pairs of numbers
-  pub time-promised : (a b : Pair) → TimeAs (timeOf a b) (timeReply a b)
+  pub time-promised : (a b : Pair) → TimeAs (betweenOf a b) (timeReply a b)
   time-promised a b = time-by (timeReply a b) (then-answered (build book pack) _ (λ s. between-answered s (a .sec) (a .ns) (b .sec) (b .ns)))
 
   pub add-promised : (t d : Pair) → MoveAs (addOf t d) (addReply t d)
@@ -112,9 +112,9 @@ module _ (book pack : List ℕ) where
   sub-promised t d = move-by (subReply t d) (then-answered (build book pack) _ (λ s. move-answered back s (t .sec) (t .ns) (d .sec) (d .ns)))
 
   -- so they answer as demand 3 asks,
-  pub as-promised : AsPromised timeOf addOf subOf book pack
+  pub as-promised : AsPromised betweenOf addOf subOf book pack
   as-promised = record { times = λ a b _ _. time-promised a b .0; adds = λ t d _ _. add-promised t d .0; subs = λ t d _ _. sub-promised t d .0 }
 
   -- and it holds of them
-  pub demand-3-witness : (s : Schedule) → build book pack ≡ gives s → Every WithinDay (zonesOf book pack) → Demand3 (asAnswered timeOf addOf subOf)
-  demand-3-witness = demand-3-answers timeOf addOf subOf book pack as-promised
+  pub demand-3-witness : (s : Schedule) → build book pack ≡ gives s → Every WithinDay (zonesOf book pack) → Demand3 (asAnswered betweenOf addOf subOf)
+  demand-3-witness = demand-3-answers betweenOf addOf subOf book pack as-promised

@@ -29,8 +29,8 @@ abbrev pub listIn : List ℕ → List ℕ → Schedule → ℤ → ℤ → ℤ �
 listIn book pack s a₁ a₂ b₁ b₂ lent = listCall (scheduleIs book pack s) a₁ a₂ b₁ b₂ lent
 
 -- the answer r is that of the definitions, d, and so are the lent numbers afterwards
-abbrev pub Lists : List ℤ → List ℤ → Listing → Answer model.Listing → Type 0
-Lists before after r d = (listingIs r ≡ stretchCount d) × (after ≡ numbersAfter d before)
+abbrev pub ListsAs : List ℤ → List ℤ → Listing → Answer model.Listing → Type 0
+ListsAs before after r d = (listingIs r ≡ stretchCount d) × (after ≡ numbersAfter d before)
 
 -- ---- the walk
 

@@ -5,7 +5,7 @@ ghost use Rattle.model.specs.Calls as model;
 ghost use Rattle.model.specs.Walk.{begun};
 ghost use Rattle.instant.specs.Instant.{nanos, InRange};
 ghost use Rattle.rule.specs.Rules.{ScheduleFits};
-ghost use Rattle.schedule_listing.specs.Listings.{CanWalk, Puts, Suffices, Lists, listIn};
+ghost use Rattle.schedule_listing.specs.Listings.{CanWalk, Puts, Suffices, ListsAs, listIn};
 ghost use Rattle.window_week.specs.Room.{HasRoom};
 ghost use Rattle.window_memory.specs.Sizes.{mostRules};
 use block::Block;
@@ -127,7 +127,7 @@ pub fn list_in(
     out: &mut [i64],
 ) -> Listing
     requires { ⌜ ScheduleFits (now book) (now pack) s ⌝ }
-    ensures { λ r. ⌜ Lists (now (out .entry)) (now (out .exit)) r
+    ensures { λ r. ⌜ ListsAs (now (out .entry)) (now (out .exit)) r
         (listIn (now (book .entry)) (now (pack .entry)) s «a_sec» «a_ns» «b_sec» «b_ns» (now (out .entry))) ⌝ }
 {
     let InstantRead::At(a) = instant_signed::instant_of(a_sec, a_ns) else {
@@ -153,7 +153,7 @@ pub fn list(
     b_ns: i64,
     out: &mut [i64],
 ) -> Listing
-    ensures { λ r. ⌜ Lists (now (out .entry)) (now (out .exit)) r
+    ensures { λ r. ⌜ ListsAs (now (out .entry)) (now (out .exit)) r
         (model.list (now (book .entry)) (now (pack .entry)) «a_sec» «a_ns» «b_sec» «b_ns» (now (out .entry))) ⌝ }
 {
     let built = build::build(book, pack);
