@@ -6,10 +6,10 @@ Usage: agree_jiff.py FOLDER DIFFERENCES ZONE
 In each case's folder: real.txt (the original over jiff itself), standin.txt
 (over the stand-in), program.txt if a program was run, and real-list.txt and
 standin-list.txt for the listing. Writes every line that differs, with its
-cause, to DIFFERENCES; prints how many lines differ by each cause, and the lines
-that none explains. ZONE is the driver for zone files: explain_jiff.py says how a
-cause is found. Removes the folders of cases that agree. Ends with 1 if a line is
-not explained.
+causes, to DIFFERENCES; prints how many lines differ by the same causes and how
+many by each of them, and the lines that none explains. ZONE is the driver for
+zone files: explain_jiff.py says how a cause is found. Removes the folders of
+cases that agree. Ends with 1 if a line is not explained.
 """
 
 import os
@@ -20,7 +20,7 @@ from collections import Counter, defaultdict
 sys.dont_write_bytecode = True  # no cache beside the sources
 
 from agree import read
-from explain_jiff import Case, without_count
+from explain_jiff import SEVERAL, TOO_LONG, Case, without_count
 
 # (lines, answers of the original over jiff, answers of the other, who that is)
 PAIRS = [
@@ -35,7 +35,7 @@ NOT_EXPLAINED = "NOT EXPLAINED"
 class Totals:
     def __init__(self):
         self.lines, self.differ, self.answers = Counter(), Counter(), Counter()
-        self.causes = defaultdict(Counter)  # by who and cause: lines of each case
+        self.causes = defaultdict(Counter)  # by who and causes: lines of each case
 
     def unexplained(self):
         return sum(sum(lines.values()) for (_, cause), lines in self.causes.items() if cause == NOT_EXPLAINED)
@@ -54,7 +54,22 @@ class Totals:
                 continue
             for count, cases, cause in causes:
                 print(f"{count:8} lines in {cases} cases: {cause}")
+            self.show_each(who)
             shown = causes
+
+    def show_each(self, who):
+        """Lines by each cause: a line with several counts with each of them."""
+        found, several, long = defaultdict(Counter), 0, 0
+        for (of, causes), lines in self.causes.items():
+            if of == who:
+                each = causes.removesuffix(TOO_LONG).split(SEVERAL)
+                several += sum(lines.values()) if len(each) > 1 else 0
+                long += sum(lines.values()) if causes.endswith(TOO_LONG) else 0
+                for cause in each:
+                    found[cause].update(lines)
+        print(f"         by each cause ({several} lines have several, {long} are too long to be worked out again):")
+        for cause, lines in sorted(found.items(), key=lambda one: -sum(one[1].values())):
+            print(f"{sum(lines.values()):8} lines in {len(lines)} cases: {cause}")
 
 
 def differing(case, names):

@@ -57,7 +57,7 @@ def class_of(file, line, their, our, reason):
 
 def refused_for(zone, reason):
     """jiff checks the footer against the last transition, and against those
-    that it works out itself up to 2037."""
+    that it works out itself up to 2037, at most 301 of them."""
     if "inconsistency" not in reason:
         return f"{NO_CLASS}: {reason}"
     if not zone.times:

@@ -28,6 +28,8 @@ NO = "no 5"
 YEAR = 1_767_225_600  # 2026-01-01T00:00:00Z
 LEAP_YEAR = 1_704_067_200  # 2024-01-01T00:00:00Z
 JULY = 1_782_864_000  # 2026-07-01T00:00:00Z
+LATE = 2_145_916_800  # 2038-01-01T00:00:00Z
+EVE = 2_240_609_400  # 2040-12-31T23:30:00Z
 ENDLESS = "does not end"
 STOPS = "stops: an assertion fails"
 TITLES = {"checked": "built with assertions", "release": "built without"}
@@ -39,11 +41,19 @@ def quote(text):
 
 HOURS = quote("Hours in offsets and rule times go from 0 to 24.")
 POSIX = quote("A footer is empty or a POSIX TZ string.")
+SIGN = POSIX + "; RFC 8536, 3.3.1 has signs in version 3 alone"
+RULES = quote("A daylight name needs both its rules.")
 VERSION = quote("'2' or '3', in both headers")
 SKIPPED = quote("its first data block skipped by its own counts")
-USABLE = "01's list of what a usable file has does not ask for it"
+NAME = quote("A usable file has: .. abbreviation indices inside a non-empty table")
+NUL = NAME + "; RFC 8536, 3.2 asks writers for NUL"
+ENCODING = NAME + "; RFC 8536, 3.2 sets no encoding, 4 advises ASCII"
+LENGTH = NAME + "; RFC 8536, 4 advises three to six characters"
+UT = quote("A usable file has: .. indicator counts 0 or the type count, flags 0 or 1") + "; RFC 8536, 3.2 asks more of writers"
+AGREES = quote("A usable file has: .. then newline, footer, newline and nothing behind") + "; RFC 8536, 3.3 asks writers to agree"
 LATEST = quote("the latest of all years' changes counts")
 TIE = quote("on a tie daylight time starts")
+ALL_YEAR = TIE + "; RFC 8536, 3.3.1: in version 3 daylight time all year"
 THROUGHOUT = quote("With no transitions the footer rules throughout, or type 0.") + "; RFC 8536, 3.2"
 FOOTER = quote("from the last one on the footer, or the last type where it is empty") + "; RFC 8536, 3.2"
 BEFORE = quote("type 0 before the first transition") + "; RFC 8536, 3.2"
@@ -63,22 +73,23 @@ def zone(part, what, file, line, theirs, ours, decides):
     ROWS.append(Row(part, what, [file], line, theirs, ours, decides))
 
 
-def footed(part, text, line, theirs, ours, decides):
+def footed(part, text, line, theirs, ours, decides, what=None):
     """A footer alone, in files of version 2 and of version 3."""
     files = [zone_file(footer=text.encode(), versions=versions) for versions in (b"22", b"33")]
-    ROWS.append(Row(part, f"footer `{text}`", files, line, theirs, ours, decides))
+    ROWS.append(Row(part, what or f"footer `{text}`", files, line, theirs, ours, decides))
 
 
 def taken_footers():
     at = f"offset {YEAR}"
     footed(TAKEN, "AAA0BBB,0/25,1", at, "0", NO, HOURS)
     footed(TAKEN, "AAA0BBB,0/167:59:59,1", at, "3600", NO, HOURS)
-    footed(TAKEN, "AAA0BBB,0/-1,1", at, "3600", NO, POSIX)
-    footed(TAKEN, "AAA0BBB,0/+1,1", at, "0", NO, POSIX)
+    footed(TAKEN, "AAA0BBB,0/-1,1", at, "3600", NO, HOURS)
+    footed(TAKEN, "AAA0BBB,0/-167,1", at, "3600", NO, HOURS)
+    footed(TAKEN, "AAA0BBB,0/+1,1", at, "0", NO, SIGN)
     footed(TAKEN, "AAA0BBB,0/000,1", at, "3600", NO, POSIX)
     footed(TAKEN, "IST-2IDT,M3.4.4/26,M10.5.0", at, "7200", NO, HOURS)
     footed(TAKEN, "EET-2EEST,M3.4.4/50,M10.4.4/50", at, "7200", NO, HOURS)
-    footed(TAKEN, "<-02>2<-01>,M3.5.0/-1,M10.5.0/0", at, "-7200", NO, POSIX)
+    footed(TAKEN, "<-02>2<-01>,M3.5.0/-1,M10.5.0/0", at, "-7200", NO, HOURS)
 
 
 def taken_files():
@@ -107,26 +118,25 @@ def refused_files():
     blocks.append(("one type and two standard indicators", ((0, 2, 0, 0, 1, 4), bytes(6) + b"AAA\0\0\0")))
     for title, block in blocks:
         zone(REFUSED, f"first data block with {title}", zone_file(first=block), at, NO, "0", SKIPPED)
-    zone(REFUSED, "a name without NUL: `AAA`", zone_file(letters=b"AAA"), at, NO, "0", USABLE)
-    zone(REFUSED, "a name that is not UTF-8: FF 00", zone_file(letters=b"\xff\0"), at, NO, "0", USABLE)
-    zone(REFUSED, "a name of 256 letters, then NUL", zone_file(letters=256 * b"A" + b"\0"), at, NO, "0", USABLE)
-    zone(REFUSED, "a UT indicator of 1, no standard indicators", zone_file(uts=b"\1"), at, NO, "0", USABLE)
-    zone(REFUSED, "a UT indicator of 1, its standard indicator 0", zone_file(stds=b"\0", uts=b"\1"), at, NO, "0", USABLE)
-    zone(REFUSED, "offsets 0, then 3600 from 0 on; footer `AAA0`", offsets_file([0, 3600], [0], b"AAA0"), at, NO, "0", USABLE)
+    zone(REFUSED, "a name without NUL: `AAA`", zone_file(letters=b"AAA"), at, NO, "0", NUL)
+    zone(REFUSED, "a name that is not UTF-8: FF 00", zone_file(letters=b"\xff\0"), at, NO, "0", ENCODING)
+    zone(REFUSED, "a name of 256 letters, then NUL", zone_file(letters=256 * b"A" + b"\0"), at, NO, "0", LENGTH)
+    zone(REFUSED, "a UT indicator of 1, no standard indicators", zone_file(uts=b"\1"), at, NO, "0", UT)
+    zone(REFUSED, "a UT indicator of 1, its standard indicator 0", zone_file(stds=b"\0", uts=b"\1"), at, NO, "0", UT)
+    zone(REFUSED, "offsets 0, then 3600 from 0 on; footer `AAA0`", offsets_file([0, 3600], [0], b"AAA0"), at, NO, "0", AGREES)
     zone(REFUSED, "a transition at 0 to a daylight type of offset 0; footer `AAA0`",
-         zone_file(((0, 1, 0),), [(0, 0)], b"AAA0"), at, NO, "0", USABLE)
+         zone_file(((0, 1, 0),), [(0, 0)], b"AAA0"), at, NO, "0", AGREES)
     zone(REFUSED, "a transition at 0 to a type named AAA; footer `BBB0`", zone_file(changes=[(0, 0)], footer=b"BBB0"),
-         at, NO, "0", USABLE)
-    late = 2_145_916_800  # 2038-01-01T00:00:00Z
-    zone(REFUSED, f"offsets 0, then 7200 from {late} on (2038); footer `AAA0BBB,1,2`",
-         offsets_file([0, 7200], [late], b"AAA0BBB,1,2"), at, NO, "0", USABLE)
-    zone(REFUSED, "footer of 256 letters A and `0`", zone_file(footer=256 * b"A" + b"0"), at, NO, "0", POSIX)
-    footed(REFUSED, "AAA-2<+01>-1,0/0,J365/23", at, NO, "3600", TIE)
+         at, NO, "0", AGREES)
+    zone(REFUSED, f"offsets 0, then 7200 from {LATE} on (2038); footer `AAA0BBB,1,2`",
+         offsets_file([0, 7200], [LATE], b"AAA0BBB,1,2"), at, NO, "0", AGREES)
+    footed(REFUSED, 256 * "A" + "0", at, NO, "0", POSIX, "footer of 256 letters A and `0`")
+    footed(REFUSED, "AAA-2<+01>-1,0/0,J365/23", at, NO, "3600", ALL_YEAR)
 
 
 def footer_answers():
     footed(OTHER, "AAA0BBB,0/0,0/1", f"offset {YEAR}", "0", "3600", TIE)
-    footed(OTHER, "AAA3EDT4,0/0,J365/23", f"offset {YEAR}", "-10800", "-14400", TIE)
+    footed(OTHER, "AAA3EDT4,0/0,J365/23", f"offset {YEAR}", "-10800", "-14400", ALL_YEAR)
     footed(OTHER, "AAA-1BBB,0/0,1/0", f"offset {YEAR - 3600}", "3600", "7200", LATEST)
     footed(OTHER, "AAA-1BBB,0/0,1/0", f"change {YEAR - 7200}", str(YEAR), str(YEAR - 3600), LATEST)
     footed(OTHER, "AAA0BBB,1/0,365/0", f"offset {YEAR - 1}", "3600", "0", LATEST)
@@ -164,6 +174,8 @@ def table_answers():
 def nanosecond_answers():
     half = "offset -1 500000000"
     zone(OTHER, "offsets 0, then 3600 from 0 on", offsets_file([0, 3600], [0]), half, "3600", "0", ROUNDED)
+    zone(OTHER, "offsets 0, then 3600 from 0 on, then 0 from 3600 on", offsets_file([0, 3600, 0], [0, 3600]),
+         "change -1 500000000", "3600", "0", ROUNDED)
 
 
 def range_answers():
@@ -190,22 +202,29 @@ def change_answers():
 
 def alike():
     at = f"offset {YEAR}"
-    for text in ("EST005", "EST5:3", "<A_A>0", "<AA>0", "AA0", ":AAA0", "AAA24:60", "AAA--1", "AAA0BBB"):
+    for text in ("EST005", "EST5:3", "<A_A>0", "<AA>0", "AA0", ":AAA0", "AAA24:60", "AAA--1"):
         footed(ALIKE, text, at, NO, NO, POSIX)
+    footed(ALIKE, "AAA0BBB", at, NO, NO, RULES)
     for text in ("AAA0BBB,0001,1", "AAA0BBB,0,366", "AAA0BBB,J0,1", "AAA0BBB,M1.01.0,1", "AAA0BBB,0/1:2,1"):
         footed(ALIKE, text, at, NO, NO, POSIX)
-    for text in ("AAA25", "AAA0BBB,0/168,1"):
+    for text in ("AAA25", "AAA0BBB,0/168,1", "AAA0BBB,0/-168,1"):
         footed(ALIKE, text, at, NO, NO, HOURS)
     for text, offset in (("<+01>-1", "3600"), ("<A-1>1", "-3600"), ("AAA+1", "-3600")):
         footed(ALIKE, text, at, offset, offset, POSIX)
     for text, offset in (("AAA24:59:59", "-89999"), ("AAA-24:59:59BBB,0,1", "93599"), ("AAA0BBB,0/24:59:59,1", "0")):
         footed(ALIKE, text, at, offset, offset, HOURS)
+    footed(ALIKE, "AAA3EDT4,0/0,J365/23", f"offset {JULY}", "-14400", "-14400", ALL_YEAR)
+    permanent, letters = "AAA-2<+01>-1,0/0,J365/23", b"AAA\0+01\0"
+    zone(ALIKE, f"a transition at {LATE} (2038) to a daylight type of offset 3600 named +01; footer `{permanent}`",
+         zone_file(((0, 0, 0), (3600, 1, 4)), [(LATE, 1)], permanent.encode(), letters=letters),
+         f"offset {EVE}", "3600", "3600", ALL_YEAR)
     bounds = quote("offsets from -93,599 to 93,599 s")
     for offset in (93_599, -93_599):
         zone(ALIKE, f"offset {offset}", offsets_file([offset]), at, str(offset), str(offset), bounds)
     for offset in (93_600, -93_600):
         zone(ALIKE, f"offset {offset}", offsets_file([offset]), at, NO, NO, bounds)
-    zone(ALIKE, "a UT indicator of 0, no standard indicators", zone_file(uts=b"\0"), at, "0", "0", USABLE)
+    zone(ALIKE, "a UT indicator of 0, no standard indicators", zone_file(uts=b"\0"), at, "0", "0",
+         quote("indicator counts 0 or the type count"))
     zone(ALIKE, "footer `BBB1` without transitions, a type named AAA", zone_file(footer=b"BBB1"), at, "-3600", "-3600", THROUGHOUT)
 
 

@@ -28,6 +28,8 @@ HEADER = 44  # bytes of a zone file's header
 AHEAD = 60  # dates to either side that are asked about together: walks go on to them
 KEPT = 200_000  # answers kept of a zone
 MOST_WINDOWS = 2_000  # that are worked out for a line
+SEVERAL = "; "  # between the causes of a line
+TOO_LONG = " (the line is too long for jiff's answer to be worked out again)"
 
 
 @functools.lru_cache(maxsize=100_000)
@@ -444,9 +446,9 @@ class Case:
         paper, jiff, causes = self.both(line, listing)
         if paper != without_count(line, other) or not causes or None in causes:
             return None
-        told = "; ".join(sorted(causes))
+        told = SEVERAL.join(sorted(causes))
         if jiff is None:
-            return told + " (the line is too long for jiff's answer to be worked out again)"
+            return told + TOO_LONG
         return told if jiff == without_count(line, real) else None
 
     def close(self):

@@ -1,10 +1,11 @@
 """Asks implementations about a zone file, for the comparison with jiff.
 
-Questions are the lines of jiff/src/zone.rs: `offset SEC`, `change SEC` and
-`local YEAR MONTH DAY SECOND`. Answers of all are brought to one form:
+Questions are the lines of jiff/src/zone.rs: `offset SEC [NS]`, `change SEC
+[NS]` and `local YEAR MONTH DAY SECOND`. Answers of all are brought to one form:
 
   offset   the offset
-  change   the second of the first change after an instant, or `none`
+  change   the second of the first change after an instant, and its nanoseconds
+           where jiff's has some, or `none`
   local    second and nanoseconds of the instant; beyond the range the first or
            the last instant, as the original and document 01 have it
 
@@ -79,6 +80,8 @@ class Jiff:
         if answer == "beyond":
             return FIRST_SHOWN if int(line.split()[1]) < 0 else LAST_SHOWN
         if answer.startswith("ok "):
+            if line.startswith("change") and line.count(" ") == 2:
+                return answer[3:].removesuffix(" 0")
             return answer[3:] + (" 0" if line.startswith("local") else "")
         return answer
 

@@ -9,9 +9,10 @@ ZONE is the program `zone` that jiff/build.sh builds. `database` asks about
 every different zone file below DIR (/usr/share/zoneinfo if not told
 otherwise), `made` about COUNT files made from SEED that are meant to be taken
 by both, `taken` of COUNT files below DIR with a byte changed, dropped or added
-and of COUNT footers put together from good and bad parts (as
-tools/zone_survey.py makes them) only whether they are taken. Ours is second.py's reading of document 01; PROGRAM is test_zone_calls
-as `rt check test_zone_calls` builds it, and must answer each line as second.py
+and of COUNT footers put together from good and bad parts, each in version 2
+and in version 3 (as tools/zone_survey.py makes them), only whether they are
+taken. Ours is second.py's reading of document 01; PROGRAM is test_zone_calls as
+`rt check test_zone_calls` builds it, and must answer each line as second.py
 does. Lines lie about every change (a second before, at and after it, and the
 local times about both of its readings), four times a year from 1900 to 2200,
 and at both ends of the range.
@@ -203,7 +204,7 @@ def taken(comparison, folder, count):
     """Which files and footers jiff takes and document 01 refuses, and the other
     way round."""
     files = [(name, file) for name, file in zone_files(folder) if not name.startswith(LEAP_FOLDER)]
-    cases = [*zone_survey.damaged(files, count), *zone_survey.footed(count)]
+    cases = [*zone_survey.damaged(files, count), *zone_survey.footed(count), *zone_survey.footed(count, "3")]
     for name, file in cases:
         line = [f"offset {second.new_year(TAKEN_YEAR) * DAY}"]
         their, our = comparison.jiff.ask(file, line)[0], comparison.second.ask(file, line)[0]

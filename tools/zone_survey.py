@@ -160,12 +160,12 @@ def a_footer(rng):
     return line + (rng.choice([b" ", b",", b"/", b"x", b"\0"]) if rng.random() < 0.02 else b"")
 
 
-def footed(n):
-    """files without a table, whose footers are good or bad"""
+def footed(n, version="2"):
+    """files without a table, whose footers are good or bad: the same ones in every version"""
     rng = random.Random(2)
-    head = b"TZif2" + bytes(15) + struct.pack(">6I", 0, 0, 0, 0, 1, 4) + struct.pack(">iBB", 0, 0, 0) + b"ABC\0"
+    head = b"TZif" + version.encode() + bytes(15) + struct.pack(">6I", 0, 0, 0, 0, 1, 4) + struct.pack(">iBB", 0, 0, 0) + b"ABC\0"
     for k in range(n):
-        yield f"footer/{k}", head + head + b"\n" + a_footer(rng) + b"\n"
+        yield f"footer of version {version}/{k}", head + head + b"\n" + a_footer(rng) + b"\n"
 
 
 def packs_of(files):
