@@ -10,12 +10,15 @@ use Rattle.model.specs.Instant.{second, day, week, firstInstant, lastInstant, f
 use Rattle.model.specs.Working.{Rule, Holidays, Schedule}
 use Rattle.model.specs.Skip.{ruleSteady, noneNear, repeats}
 use Rattle.laws_skip.specs.Runs.{repeatsTo}
-use Rattle.instant.specs.Instant.{nanos}
+use Rattle.instant.specs.Instant.{nanos, InRange}
 use Rattle.instant.specs.declared.Instant.{Instant}
 use Rattle.rule.specs.declared.Rule.{Rule as Item}
 use Rattle.rule.specs.declared.HolidayDates.{HolidayDates}
 use Rattle.rule.specs.declared.Schedule.{Schedule as Code}
-use Rattle.rule.specs.Rules.{ruleIs, holidaysIs, scheduleIs}
+use Rattle.rule.specs.Rules.{ruleIs, holidaysIs, scheduleIs, RuleFits, HolidaysFit}
+use Rattle.laws_base.specs.Every.{Every}
+use Rattle.book.specs.Limits.{mostWork, mostHolidays}
+use lib.ListN.{take}
 use Rattle.zone_steady.specs.Steady.{SteadyRoom, low, high}
 use Rattle.model.specs.Offset.{offsetBias, greatestOffset}
 
@@ -91,6 +94,14 @@ pub record DateBehind (d first lo room : ℕ) : Type 0 where
 -- before a date of the record h is among the dates of the span from a to b
 abbrev pub HolidayRoom : List ℕ → List ℕ → HolidayDates → Bool → Instant → Instant → ℕ → Type 0
 HolidayRoom book pack h back a b r = SteadyRoom (λ e. noneWithin back (nanos a) (nanos b) e (holidaysIs book pack h)) r
+
+-- the first n of the holiday records that a book may have, and a span of the range
+abbrev pub HolidaysAsked : List ℕ → List ℕ → List HolidayDates → ℕ → Instant → Instant → Type 0
+HolidaysAsked book pack closed n a b = (n ≤ mostHolidays) × Every (HolidaysFit book pack) (take n closed) × InRange a × InRange b
+
+-- the first n of the rules that a book may have, and a span of the range
+abbrev pub RulesAsked : List ℕ → List Item → ℕ → Instant → Instant → Type 0
+RulesAsked pack rules n a b = (n ≤ mostWork) × Every (RuleFits pack) (take n rules) × InRange a × InRange b × (a .sec ≤ b .sec)
 
 -- before a date of one of the records l is among them
 abbrev pub HolidaysRoom : List ℕ → List ℕ → List HolidayDates → Bool → Instant → Instant → ℕ → Type 0

@@ -5,11 +5,9 @@ ghost use Prim.Native.Nat.{_+_, _*_, _≤_};
 ghost use lib.ListN.{length, take};
 ghost use Rattle.instant.specs.Instant.{nanos, InRange};
 ghost use Rattle.model.specs.Instant.{lastSecond};
-ghost use Rattle.book.specs.Limits.{mostWork, mostHolidays};
 ghost use Rattle.book.specs.Meaning.{datesAt};
-ghost use Rattle.rule.specs.Rules.{scheduleIs, RuleFits, HolidaysFit, ScheduleFits};
-ghost use Rattle.laws_base.specs.Every.{Every};
-ghost use Rattle.walk_skip.specs.Repeating.{isMet, noDate, Nearest, DateAhead, DateBehind, Repeating, HolidayRoom, HolidaysRoom, RulesRoom, RangeRoom, BorderRoom};
+ghost use Rattle.rule.specs.Rules.{scheduleIs, HolidaysFit, ScheduleFits};
+ghost use Rattle.walk_skip.specs.Repeating.{isMet, noDate, Nearest, DateAhead, DateBehind, Repeating, HolidayRoom, HolidaysAsked, HolidaysRoom, RulesAsked, RulesRoom, RangeRoom, BorderRoom};
 use instant::Instant;
 use rule::HolidayDates;
 use rule::Rule;
@@ -140,7 +138,7 @@ fn holidays_room(
     a: Instant,
     b: Instant,
 ) -> u64
-    requires { ⌜ (n ≤ mostHolidays) × Every (HolidaysFit (now book) (now pack)) (take n closed) × InRange a × InRange b ⌝ }
+    requires { ⌜ HolidaysAsked (now book) (now pack) closed n a b ⌝ }
     ensures { λ r. ⌜ HolidaysRoom (now (book .entry)) (now (pack .entry)) (take n closed) back a b r ⌝ }
 {
     let mut room = UNLIMITED;
@@ -166,7 +164,7 @@ fn rules_room(
     a: Instant,
     b: Instant,
 ) -> u64
-    requires { ⌜ (n ≤ mostWork) × Every (RuleFits (now pack)) (take n rules) × InRange a × InRange b × (a .sec ≤ b .sec) ⌝ }
+    requires { ⌜ RulesAsked (now pack) rules n a b ⌝ }
     ensures { λ r. ⌜ RulesRoom (now (pack .entry)) (take n rules) back a b r ⌝ }
 {
     let mut room = UNLIMITED;
