@@ -33,13 +33,13 @@ pub data Clamped (r : ℕ) : ℕ → Type 0 where
   late : lastInstant < r → Clamped r lastInstant
 
 module _ (z : Zone) (s : Sound z) where
-  pub off-low : (t : ℕ) → second ≤ offsetNanos z t
+  pub offset-low : (t : ℕ) → second ≤ offsetNanos z t
   unfolding offsetNanos
-  off-low t = let h = s .low (t / second) in omega arith
+  offset-low t = let h = s .low (t / second) in omega arith
 
-  pub off-high : (t : ℕ) → offsetNanos z t ≤ greatestOffset * second
+  pub offset-high : (t : ℕ) → offsetNanos z t ≤ greatestOffset * second
   unfolding offsetNanos
-  off-high t = let h = s .high (t / second) in omega arith
+  offset-high t = let h = s .high (t / second) in omega arith
 
   -- a local time takes that time less an offset of the zone
   pub raw-takes : (d time : ℕ) → firstDay ≤ d → (w : ℕ) × (dawn ≤ w) × (raw z d time + offsetAt z w * second ≡ d * day + time + bias)
@@ -70,7 +70,7 @@ module _ (z : Zone) (s : Sound z) where
   unfolding raw resolve
   in-range d time a b c =
       let k = raw-some d time a in let e = k .1 in
-      let h = off-high (k .0) in let l = off-low (k .0) in
+      let h = offset-high (k .0) in let l = offset-low (k .0) in
       by-test (leb firstInstant (raw z d time))
       (λ p. by-test (leb (raw z d time) lastInstant)
       (λ q. rw (p, q) (kept (leb-true firstInstant (raw z d time) p) (leb-true (raw z d time) lastInstant q)))
@@ -91,7 +91,7 @@ module _ (z : Zone) (s : Sound z) where
   pub first-from : (lo : ℕ) → firstInstant ≤ lo → firstDay ≤ firstDate z lo
   unfolding firstDate
   first-from lo h =
-      let q = day-is lo in let a = off-low lo in
+      let q = day-is lo in let a = offset-low lo in
       by-test (leb (firstDay + 2) (localDay z lo))
       (λ p. rw p (omega (arith, leb-true (firstDay + 2) (localDay z lo) p)))
       (λ p. rw p (omega arith))
@@ -99,7 +99,7 @@ module _ (z : Zone) (s : Sound z) where
   pub last-upto : (hi : ℕ) → hi ≤ lastInstant → lastDate z hi ≤ lastDay
   unfolding lastDate
   last-upto hi h =
-      let q = day-is hi in let a = off-high hi in
+      let q = day-is hi in let a = offset-high hi in
       by-test (ltb (localDay z hi) lastDay)
       (λ p. rw p (omega (arith, ltb-true (localDay z hi) lastDay p)))
       (λ p. rw p (omega arith))

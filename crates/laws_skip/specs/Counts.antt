@@ -19,7 +19,7 @@ use Rattle.laws_blocks.specs.Count672.{mostBlocks, left-length}
 use Rattle.laws_base.specs.Every.{Every, every-apart}
 use Rattle.laws_demand3.specs.Windows.{RuleOk, OfRules, offRules, all-nonempty}
 use Rattle.laws_skip.specs.Steady.{}
-use Rattle.laws_demand3.specs.Local.{off-low, off-high, day-is, first-near, last-near}
+use Rattle.laws_demand3.specs.Local.{offset-low, offset-high, day-is, first-near, last-near}
 
 -- ---- dates
 
@@ -28,7 +28,7 @@ module _ (z : Zone) (s : Sound z) where
   days-apart : (lo hi k : ℕ) → hi ≤ lo + k * day → localDay z hi ≤ localDay z lo + (k + 3)
   days-apart lo hi k h =
       let a = day-is z s lo in let b = day-is z s hi in
-      let c = off-low z s lo in let d = off-high z s hi in
+      let c = offset-low z s lo in let d = offset-high z s hi in
       omega arith
 
   -- the dates of a window of at most k days

@@ -18,7 +18,7 @@ use Rattle.laws_zone.specs.Changes.{any-none, none-any, same-steady}
 use Rattle.laws_zone.specs.Sound.{Sound}
 use Rattle.laws_base.specs.Every.{Every, every-apart, every-both}
 use Rattle.laws_demand3.specs.Windows.{RuleOk, OfRules}
-use Rattle.laws_demand3.specs.Local.{off-low, off-high, day-is, first-near, first-upto, last-near, last-from}
+use Rattle.laws_demand3.specs.Local.{offset-low, offset-high, day-is, first-near, first-upto, last-near, last-from}
 use Rattle.laws_skip.specs.Steady.{}
 
 -- the borders from t to u, whole weeks apart
@@ -48,7 +48,7 @@ module _ (z : Zone) (s : Sound z) where
   days-on : (t u : ℕ) → t + week ≤ u → localDay z t + 4 ≤ localDay z u
   days-on t u h =
       let a = day-is z s t in let b = day-is z s u in
-      let c = off-high z s t in let d = off-low z s u in
+      let c = offset-high z s t in let d = offset-low z s u in
       omega arith
 
   first-on : (t u : ℕ) → Apart t u → firstDate z t ≤ firstDate z u

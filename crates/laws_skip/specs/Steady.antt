@@ -26,7 +26,7 @@ use Rattle.laws_zone.specs.Sound.{Sound}
 use Rattle.laws_blocks.specs.Move.{moves, moves-append, clipped-moved, union-moved, subtract-moved}
 use Rattle.laws_base.specs.Every.{Every, every-apart}
 use Rattle.laws_demand3.specs.Windows.{RuleOk, OfRules}
-use Rattle.laws_demand3.specs.Local.{bias, offsetNanos, raw, Clamped, kept, early, late, off-low, off-high, raw-some, raw-least, in-range, same-off, day-is, first-from, last-upto, first-upto, last-from}
+use Rattle.laws_demand3.specs.Local.{bias, offsetNanos, raw, Clamped, kept, early, late, offset-low, offset-high, raw-some, raw-least, in-range, same-off, day-is, first-from, last-upto, first-upto, last-from}
 
 -- ---- clipped blocks
 
@@ -59,8 +59,8 @@ module _ (z : Zone) (s : Sound z) (S E o : ℕ) (low : firstInstant ≤ S) (up :
     where
       known : (x y : ℕ) → Clamped x y → x + offsetNanos z x ≡ d * day + time + bias → x ≤ d * day + time + bias - o → Dec (S ≤ x) → Alike lo y (d * day + time + bias - o)
       known x y (kept p q) h k (yes v) = inl (let n = same x v (omega arith) in omega arith)
-      known x y (kept p q) h k (no v) = inr (let n = off-high z s x in omega arith)
-      known x y (early p) h k v = inr (let n = off-high z s x in omega arith)
+      known x y (kept p q) h k (no v) = inr (let n = offset-high z s x in omega arith)
+      known x y (early p) h k v = inr (let n = offset-high z s x in omega arith)
       known x y (late p) h k v = absurd (omega arith)
 
 -- the end's time of day, counted from the start's date
@@ -226,24 +226,24 @@ module _ (r : Rule) (ok : RuleOk r) (S E : ℕ) (low : firstInstant ≤ S) (up :
   ends-early : (d : ℕ) → firstDay ≤ d → d ≤ lastDay → d < firstDate (r .zone) S → endOf r d ≤ lo
   unfolding endOf
   ends-early d h k f =
-      let g = first-before d f in let oh = off-high (r .zone) (ok .sound) S in
+      let g = first-before d f in let oh = offset-high (r .zone) (ok .sound) S in
       by-test (ltb (r .from) (r .to))
       (λ p. rw p (upto d (omega arith) h k))
       (λ p. rw (p, lt-ltb d lastDay (omega arith)) (upto (d + 1) (omega arith) (omega arith) (omega arith)))
     where
       upto : (c : ℕ) → c ≤ d + 1 → firstDay ≤ c → c ≤ lastDay → resolve (r .zone) c (r .to) ≤ lo
       upto c x y v =
-          let g = first-before d f in let oh = off-high (r .zone) (ok .sound) S in let th = ok .to-day in
+          let g = first-before d f in let oh = offset-high (r .zone) (ok .sound) S in let th = ok .to-day in
           let w = raw-some (r .zone) (ok .sound) c (r .to) y in
-          let w1 = w .1 in let wl = off-low (r .zone) (ok .sound) (w .0) in
+          let w1 = w .1 in let wl = offset-low (r .zone) (ok .sound) (w .0) in
           below (raw (r .zone) c (r .to)) (resolve (r .zone) c (r .to)) (in-range (r .zone) (ok .sound) c (r .to) y v th) (omega arith)
 
   starts-late : (d : ℕ) → firstDay ≤ d → d ≤ lastDay → lastDate (r .zone) E < d → hi ≤ startOf r d
   unfolding startOf
   starts-late d h k f =
-      let g = last-behind d f in let ol = off-low (r .zone) (ok .sound) E in
+      let g = last-behind d f in let ol = offset-low (r .zone) (ok .sound) E in
       let w = raw-some (r .zone) (ok .sound) d (r .from) h in
-      let w1 = w .1 in let wh = off-high (r .zone) (ok .sound) (w .0) in
+      let w1 = w .1 in let wh = offset-high (r .zone) (ok .sound) (w .0) in
       above (raw (r .zone) d (r .from)) (resolve (r .zone) d (r .from)) (in-range (r .zone) (ok .sound) d (r .from) h k (ok .from-day)) (omega arith)
 
   date-none : (d : ℕ) → firstDay ≤ d → d ≤ lastDay → (d < firstDate (r .zone) S) ⊎ (lastDate (r .zone) E < d) → pieceOn r lo hi d ≡ []
@@ -291,7 +291,7 @@ module _ (S E : ℕ) (low : firstInstant ≤ S) (up : E ≤ lastInstant) where
       let z = r .zone in
       let sd = ok .0 .sound in
       ap₂ _++_
-      (rule-week r (ok .0) S E (offsetNanos z S) low up (λ u p q. same-off z sd S E low (k .0) u p q) (off-low z sd S) (off-high z sd S) (w .0) lo hi a h b)
+      (rule-week r (ok .0) S E (offsetNanos z S) low up (λ u p q. same-off z sd S E low (k .0) u p q) (offset-low z sd S) (offset-high z sd S) (w .0) lo hi a h b)
       (rules-week lo hi a h b l (ok .1) (w .1) (k .1))
       ∙ sym (moves-append week (blocksOf lo hi r) (blocksOfAll lo hi l))
 

@@ -20,28 +20,28 @@ use Rattle.laws_zone.specs.Sound.{firstLocal}
 
 -- ---- the meaning, of any offsets
 
-module _ (off : ℕ → ℕ) where
+module _ (offset : ℕ → ℕ) where
   -- the second u reads l
   abbrev pub Reads : ℕ → ℕ → Type 0
-  Reads l u = u + off u ≡ l
+  Reads l u = u + offset u ≡ l
 
   -- the change at e jumps over l
   pub record Jumps (l e : ℕ) : Type 0 where
-    pub from : e + off (e - 1) ≤ l
-    pub to : l < e + off e
+    pub from : e + offset (e - 1) ≤ l
+    pub to : l < e + offset e
 
   -- the least second that reads l; or, where none does, l less the offset before the least jump over it
   pub data Resolves (l : ℕ) : ℕ → Type 0 where
     read : {u : ℕ} → Reads l u → ((v : ℕ) → v < u → Reads l v → ⊥) → Resolves l u
-    jump : {d : ℕ} (e : ℕ) → d + off (e - 1) ≡ l → ((v : ℕ) → Reads l v → ⊥) → Jumps l e → ((f : ℕ) → f < e → Jumps l f → ⊥) → Resolves l d
+    jump : {d : ℕ} (e : ℕ) → d + offset (e - 1) ≡ l → ((v : ℕ) → Reads l v → ⊥) → Jumps l e → ((f : ℕ) → f < e → Jumps l f → ⊥) → Resolves l d
 
   -- always the local time less an offset of the zone
-  pub by-offset : {l d : ℕ} → Resolves l d → (w : ℕ) × (d + off w ≡ l)
+  pub by-offset : {l d : ℕ} → Resolves l d → (w : ℕ) × (d + offset w ≡ l)
   by-offset (read {u} r n) = (u, r)
   by-offset (jump e q n j m) = (e - 1, q)
 
   -- .. that it has shortly before it
-  pub by-near-offset : {l d : ℕ} → ((u : ℕ) → off u ≤ greatestOffset) → Resolves l d → (w : ℕ) × (l ≤ w + greatestOffset) × (d + off w ≡ l)
+  pub by-near-offset : {l d : ℕ} → ((u : ℕ) → offset u ≤ greatestOffset) → Resolves l d → (w : ℕ) × (l ≤ w + greatestOffset) × (d + offset w ≡ l)
   by-near-offset high (read {u} r n) = (u, omega (arith, r, high u), r)
   by-near-offset high (jump e q n j m) = (e - 1, omega (arith, j .to, high e), q)
 
@@ -67,19 +67,19 @@ module _ (off : ℕ → ℕ) where
   one-answer {l} (read r n) (read s m) = least (Reads l) r s n m
   one-answer (read {u} r n) (jump e q m j o) = absurd (m u r)
   one-answer (jump e q m j o) (read {u} r n) = absurd (m u r)
-  one-answer {l} (jump e q n j m) (jump f r o k p) = let s : e ≡ f = least (Jumps l) j k m p in omega (arith, q, r, ap (λ (x : ℕ). off (x - 1)) s)
+  one-answer {l} (jump e q n j m) (jump f r o k p) = let s : e ≡ f = least (Jumps l) j k m p in omega (arith, q, r, ap (λ (x : ℕ). offset (x - 1)) s)
 
   -- where the clock passes l and no second reads it, a change jumps over it
-  jumped : (l a n : ℕ) → ((v : ℕ) → Reads l v → ⊥) → a + off a ≤ l → l < a + n + off (a + n) → (e : ℕ) × Jumps l e
-  jumped l a zero g h k = let s : a + 0 ≡ a = omega arith in absurd (omega (arith, ap off s))
-  jumped l a (suc n) g h k = go (decLe (a + n + off (a + n)) l) (λ q. jumped l a n g h q)
+  jumped : (l a n : ℕ) → ((v : ℕ) → Reads l v → ⊥) → a + offset a ≤ l → l < a + n + offset (a + n) → (e : ℕ) × Jumps l e
+  jumped l a zero g h k = let s : a + 0 ≡ a = omega arith in absurd (omega (arith, ap offset s))
+  jumped l a (suc n) g h k = go (decLe (a + n + offset (a + n)) l) (λ q. jumped l a n g h q)
     where
-      go : Dec (a + n + off (a + n) ≤ l) → (l < a + n + off (a + n) → (e : ℕ) × Jumps l e) → (e : ℕ) × Jumps l e
+      go : Dec (a + n + offset (a + n) ≤ l) → (l < a + n + offset (a + n) → (e : ℕ) × Jumps l e) → (e : ℕ) × Jumps l e
       go (no p) f = f (omega arith)
-      go (yes p) f = short (decLt (a + n + off (a + n)) l)
+      go (yes p) f = short (decLt (a + n + offset (a + n)) l)
         where
-          short : Dec (a + n + off (a + n) < l) → (e : ℕ) × Jumps l e
-          short (yes q) = let s : a + suc n - 1 ≡ a + n = omega arith in (a + suc n, record { from = omega (arith, ap off s); to = k })
+          short : Dec (a + n + offset (a + n) < l) → (e : ℕ) × Jumps l e
+          short (yes q) = let s : a + suc n - 1 ≡ a + n = omega arith in (a + suc n, record { from = omega (arith, ap offset s); to = k })
           short (no q) = absurd (g (a + n) (omega arith))
 
 -- ---- the definition

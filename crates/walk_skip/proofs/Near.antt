@@ -14,7 +14,7 @@ use Rattle.laws_base.specs.Test.{by-test, clash}
 use Rattle.laws_base.specs.Members.{any-in}
 use Rattle.laws_zone.specs.Changes.{any-none}
 use Rattle.laws_zone.specs.Sound.{Sound}
-use Rattle.laws_demand3.specs.Local.{off-low, off-high, day-is, first-from, last-upto, first-near, last-near}
+use Rattle.laws_demand3.specs.Local.{offset-low, offset-high, day-is, first-from, last-upto, first-near, last-near}
 use Rattle.book.specs.Meaning.{dayAt, datesAt}
 use Rattle.laws_zone.specs.Zones.{fits-sound}
 use Rattle.rule.specs.Rules.{fileAt, holidaysIs, HolidaysFit}
@@ -128,7 +128,7 @@ module _ (h : Holidays) (s : Sound (h .zone)) (l : List ℕ) (ed : h .dates ≡ 
   module _ (d hi : ℕ) (eh : hi ≡ b / second) (near : Nearest false first l d) (small : d ≤ 4294967295) {r : ℕ} (k : DateAhead d last hi r) where
     last-beyond : (e : ℕ) → 0 < e → e < r → lastDate (h .zone) (b + e * second) < d
     last-beyond e p q =
-        let i = k .more e p q in let x = last-near (h .zone) s (b + e * second) in let y = day-is (h .zone) s (b + e * second) in let z = off-high (h .zone) s (b + e * second) in
+        let i = k .more e p q in let x = last-near (h .zone) s (b + e * second) in let y = day-is (h .zone) s (b + e * second) in let z = offset-high (h .zone) s (b + e * second) in
         omega arith
 
     sees : (e : ℕ) → lastDate (h .zone) (b + e * second) < 4294967295 → noneWithin false a b e h ≡ not (leb d (lastDate (h .zone) (b + e * second)))
@@ -153,7 +153,7 @@ module _ (h : Holidays) (s : Sound (h .zone)) (l : List ℕ) (ed : h .dates ≡ 
   module _ (d lo : ℕ) (eh : lo ≡ a / second) (near : Nearest true last l d) {r : ℕ} (k : DateBehind d first lo r) where
     first-beyond : (e : ℕ) → 0 < e → e < r → d < firstDate (h .zone) (a - e * second)
     first-beyond e p q =
-        let i = k .more e p q in let x = first-near (h .zone) s (a - e * second) in let y = day-is (h .zone) s (a - e * second) in let z = off-low (h .zone) s (a - e * second) in
+        let i = k .more e p q in let x = first-near (h .zone) s (a - e * second) in let y = day-is (h .zone) s (a - e * second) in let z = offset-low (h .zone) s (a - e * second) in
         omega arith
 
     sees-back : (e : ℕ) → 0 < firstDate (h .zone) (a - e * second) → noneWithin true a b e h ≡ not (leb (firstDate (h .zone) (a - e * second)) d)

@@ -38,44 +38,44 @@ in-run-no u o e x h =
     by-test (leb (u + o) x) (λ a. inr (leb-true (u + o) x a, ltb-false (x - o) e (rw a at h))) (λ a. inl (leb-false (u + o) x a))
 
 -- past the first jump, at u, with the run there
-module _ {off : ℕ → ℕ} {x u d o e : ℕ} {b : Bool} (p : Past off x u d) (s : o ≡ off u) (r : Run off u e) (q : b ≡ inRun u o e x) where
-  pub after-found : b ≡ true → Resolves off x (x - o)
+module _ {offset : ℕ → ℕ} {x u d o e : ℕ} {b : Bool} (p : Past offset x u d) (s : o ≡ offset u) (r : Run offset u e) (q : b ≡ inRun u o e x) where
+  pub after-found : b ≡ true → Resolves offset x (x - o)
   after-found y =
       let h = in-run-yes u o e x (sym q ∙ y) in
       rw s (past-found r x p (omega arith) (omega arith))
 
-  pub after-next : b ≡ false → Past off x e d
+  pub after-next : b ≡ false → Past offset x e d
   after-next y = past-next r x p (go (in-run-no u o e x (sym q ∙ y)))
     where
-      go : (x < u + o) ⊎ ((u + o ≤ x) × (e ≤ x - o)) → (x < u + off u) ⊎ (e + off u ≤ x)
+      go : (x < u + o) ⊎ ((u + o ≤ x) × (e ≤ x - o)) → (x < u + offset u) ⊎ (e + offset u ≤ x)
       go (inl a) = inl (omega arith)
       go (inr a) = inr (omega arith)
 
 -- where the search of `second_of` is: before any reading and any jump, in a run of the offset o that ends at e
-pub record At (off : ℕ → ℕ) (x o e : ℕ) : Type 0 where
+pub record At (offset : ℕ → ℕ) (x o e : ℕ) : Type 0 where
   pub u : ℕ
-  pub low : Low off x u
-  pub same : o ≡ off u
-  pub run : Run off u e
+  pub low : Low offset x u
+  pub same : o ≡ offset u
+  pub run : Run offset u e
 
-pub at-start : (off : ℕ → ℕ) (g : ℕ) → ((u : ℕ) → off u ≤ g) → {x o e : ℕ} → g ≤ x → o ≡ off (x - g) → Run off (x - g) e → At off x o e
-at-start off g high {x} h s r = record { u = x - g; low = low-start off x g high h; same = s; run = r }
+pub at-start : (offset : ℕ → ℕ) (g : ℕ) → ((u : ℕ) → offset u ≤ g) → {x o e : ℕ} → g ≤ x → o ≡ offset (x - g) → Run offset (x - g) e → At offset x o e
+at-start offset g high {x} h s r = record { u = x - g; low = low-start offset x g high h; same = s; run = r }
 
-module _ {off : ℕ → ℕ} {x o e : ℕ} (a : At off x o e) where
-  pub at-off : o ≤ x
-  at-off = omega (arith, a .same, a .low .low)
+module _ {offset : ℕ → ℕ} {x o e : ℕ} (a : At offset x o e) where
+  pub at-offset : o ≤ x
+  at-offset = omega (arith, a .same, a .low .low)
 
-  pub at-found : x - o < e → Resolves off x (x - o)
+  pub at-found : x - o < e → Resolves offset x (x - o)
   at-found k = rw (a .same) (low-found (a .run) x (a .low) (omega (arith, a .same, a .low .low)))
 
-  module _ {q : ℕ} (k : e ≤ x - o) (s : q ≡ off e) where
-    up : e + off (a .u) ≤ x
+  module _ {q : ℕ} (k : e ≤ x - o) (s : q ≡ offset e) where
+    up : e + offset (a .u) ≤ x
     up = omega (arith, a .same, a .low .low)
 
-    pub at-next : {f : ℕ} → Run off e f → e + q ≤ x → At off x q f
+    pub at-next : {f : ℕ} → Run offset e f → e + q ≤ x → At offset x q f
     at-next r h = record { u = e; low = low-next (a .run) x (a .low) up (omega (arith, s)); same = s; run = r }
 
-    pub at-jump : x < e + q → Past off x e (x - o)
+    pub at-jump : x < e + q → Past offset x e (x - o)
     at-jump h = rw (a .same) (low-jump (a .run) x (a .low) up (omega (arith, s)))
 
 -- ---- the run at a second

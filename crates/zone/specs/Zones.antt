@@ -76,9 +76,9 @@ abbrev pub RunAfter : List ℕ → Zone → ℕ → ℕ → OffsetUntil → Type
 RunAfter f z k u r = IsOffset (zoneOffset f z) u r × (nextCount (z .table) k ≡ countAt f (z .table) (r .until))
 
 -- no offset is below the one bound or above the other, and no bound above what a zone may have
-pub record ZoneBounds (off : ℕ → ℕ) (b : OffsetBounds) : Type 0 where
-  pub least : (u : ℕ) → b .least ≤ off u
-  pub greatest : (u : ℕ) → off u ≤ b .greatest
+pub record ZoneBounds (offset : ℕ → ℕ) (b : OffsetBounds) : Type 0 where
+  pub least : (u : ℕ) → b .least ≤ offset u
+  pub greatest : (u : ℕ) → offset u ≤ b .greatest
   pub most : b .greatest ≤ greatestOffset
 
 -- an open zone is searched for a local second, with bounds of its offsets

@@ -167,21 +167,21 @@ fn second_by_runs(f: &[u8], z: Zone, x: u64, bounds: OffsetBounds) -> u64
     let from = x - bounds.greatest;
     let n = zone_tzif::count_at(f, table, from);
     let r = run_after(f, z, n, from);
-    let mut off = r.offset as u64;
+    let mut offset = r.offset as u64;
     let mut until = r.until;
     let mut k = count_on(table, n);
-    while until <= x - off {
+    while until <= x - offset {
         let q = run_after(f, z, k, until);
         let o = q.offset as u64;
         if until + o <= x {
-            off = o;
+            offset = o;
             until = q.until;
             k = count_on(table, k);
         } else {
-            return read_after(f, z, x, bounds, until, k, x - off);
+            return read_after(f, z, x, bounds, until, k, x - offset);
         }
     }
-    x - off
+    x - offset
 }
 
 // The second of the local second x: the earliest that reads so, or by the earliest jump over it. Most often no change is near.
@@ -190,9 +190,9 @@ pub fn second_of(f: &[u8], z: Zone, x: u64) -> u64
     ensures { λ r. ⌜ r ≡ model.secondOf (zoneIs (now (f .entry)) z) x ⌝ }
 {
     let r = run_at(f, z, x - zone_offset::GREATEST_64);
-    let off = r.offset as u64;
-    if x - off < r.until {
-        return x - off;
+    let offset = r.offset as u64;
+    if x - offset < r.until {
+        return x - offset;
     }
     second_by_runs(f, z, x, bounds_of(f, z))
 }

@@ -46,11 +46,11 @@ pub record Near (change : ℕ → ℕ) (u last next : ℕ) : Type 0 where
 
 -- r has the offset at u, and a second up to which it stays
 abbrev pub IsOffset : (ℕ → ℕ) → ℕ → OffsetUntil → Type 0
-IsOffset off u r = (r .offset ≡ off u) × Run off u (r .until)
+IsOffset offset u r = (r .offset ≡ offset u) × Run offset u (r .until)
 
 -- where n lies behind u, o is the offset at u and up to n
 abbrev pub Sure : (ℕ → ℕ) → ℕ → ℕ → ℕ → Type 0
-Sure off u o n = u < n → (o ≡ off u) × Run off u n
+Sure offset u o n = u < n → (o ≡ offset u) × Run offset u n
 
 -- what follows for u from two changes of one year, the first at p and the second at q: the offset o up to n. Between the two it is `inner`,
 -- before and behind them `outer`, as far as 349 days show it

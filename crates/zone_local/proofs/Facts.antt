@@ -17,7 +17,7 @@ use Rattle.laws_base.specs.Test.{by-test}
 use Rattle.laws_zone.specs.Sound.{Sound}
 use Rattle.laws_zone.specs.Zones.{fits-sound}
 use Rattle.laws_zone.specs.Runs.{Run}
-use Rattle.laws_demand3.specs.Local.{offsetNanos, off-high}
+use Rattle.laws_demand3.specs.Local.{offsetNanos, offset-high}
 use Rattle.laws_skip.specs.Steady.{less, till, const-date}
 use Rattle.instant.specs.Instant.{nanos, InRange}
 use Rattle.instant.specs.declared.Instant.{Instant}
@@ -136,7 +136,7 @@ kept-run z lo hi e o i j p q r s t =
 pub kept-small : (f : List ℕ) (z : Zone′) (lo hi : Instant) (o : ℕ) → ZoneOk f z → KeepsOffset (zoneIs f z) (nanos lo) (nanos hi) o → nanos lo ≤ nanos hi → 0 < o → o ≤ greatestOffset
 kept-small f z lo hi o k q l h =
     let e = q .same h (nanos lo) (omega arith) (omega arith) in
-    let b = off-high (zoneIs f z) (fits-sound (zoneIs f z) (k .fits)) (nanos lo) in
+    let b = offset-high (zoneIs f z) (fits-sound (zoneIs f z) (k .fits)) (nanos lo) in
     omega arith
 
 pub plain-start : (o d fs fn base : ℕ) → o ≤ greatestOffset → firstDay ≤ d → base ≡ d * daySeconds + offsetBias - o → (base + fs) * second + fn ≡ less (o * second) d (fs * second + fn)

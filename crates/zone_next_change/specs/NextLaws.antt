@@ -18,11 +18,11 @@ use Rattle.model.specs.NextChange.{firstOf, nextChange}
 use Rattle.model.specs.Instant.{lastSecond}
 
 -- what an answer says of the offsets `off`
-pub data SaysNext (off : ℕ → ℕ) (u : ℕ) : Option ℕ → Type 0 where
+pub data SaysNext (offset : ℕ → ℕ) (u : ℕ) : Option ℕ → Type 0 where
   -- v is after u and in the range, the offset there differs from that at u, and between u and v the offset is that of u
-  changes : (v : ℕ) → u < v → v ≤ lastSecond → (off v ≡ off u → ⊥) → ((w : ℕ) → u ≤ w → w < v → off w ≡ off u) → SaysNext off u (some v)
+  changes : (v : ℕ) → u < v → v ≤ lastSecond → (offset v ≡ offset u → ⊥) → ((w : ℕ) → u ≤ w → w < v → offset w ≡ offset u) → SaysNext offset u (some v)
   -- the offset is that of u to the range's end
-  never-changes : ((w : ℕ) → u ≤ w → w ≤ lastSecond → off w ≡ off u) → SaysNext off u none
+  never-changes : ((w : ℕ) → u ≤ w → w ≤ lastSecond → offset w ≡ offset u) → SaysNext offset u none
 
 -- ---- the next change says so
 
@@ -57,15 +57,15 @@ module _ (z : Zone) (u : ℕ) where
 
 -- ---- and nothing else does
 
-module _ {off : ℕ → ℕ} {u : ℕ} where
-  later : (v w : ℕ) → (off v ≡ off u → ⊥) → u < v → ((x : ℕ) → u ≤ x → x < w → off x ≡ off u) → w ≤ v
+module _ {offset : ℕ → ℕ} {u : ℕ} where
+  later : (v w : ℕ) → (offset v ≡ offset u → ⊥) → u < v → ((x : ℕ) → u ≤ x → x < w → offset x ≡ offset u) → w ≤ v
   later v w d h s = go (decLt v w)
     where
       go : Dec (v < w) → w ≤ v
       go (yes k) = absurd (d (s v (omega arith) k))
       go (no k) = omega arith
 
-  pub says-once : {a b : Option ℕ} → SaysNext off u a → SaysNext off u b → a ≡ b
+  pub says-once : {a b : Option ℕ} → SaysNext offset u a → SaysNext offset u b → a ≡ b
   says-once (changes v h m d s) (changes w i n e t) = let q : v ≡ w = omega (arith, later v w d h t, later w v e i s) in ap some q
   says-once (changes v h m d s) (never-changes t) = absurd (d (t v (omega arith) m))
   says-once (never-changes t) (changes v h m d s) = absurd (d (t v (omega arith) m))

@@ -167,10 +167,10 @@ back-stays z {lo} {hi} {s} b h k = record {
 }
 
 -- one run back joined to another
-pub back-on : {off : ℕ → ℕ} {u s r : ℕ} → Back off u s → 0 < s → Back off (s - 1) r → off (s - 1) ≡ off u → Back off u r
-back-on {off} {u} {s} {r} b h c q = record { to = omega (arith, b .to, c .to); same = λ v x y. go v x y (decLt v s) }
+pub back-on : {offset : ℕ → ℕ} {u s r : ℕ} → Back offset u s → 0 < s → Back offset (s - 1) r → offset (s - 1) ≡ offset u → Back offset u r
+back-on {offset} {u} {s} {r} b h c q = record { to = omega (arith, b .to, c .to); same = λ v x y. go v x y (decLt v s) }
   where
-    go : (v : ℕ) → r ≤ v → v ≤ u → Dec (v < s) → off v ≡ off u
+    go : (v : ℕ) → r ≤ v → v ≤ u → Dec (v < s) → offset v ≡ offset u
     go v x y (yes l) = c .same v x (omega arith) ∙ q
     go v x y (no l) = b .same v (omega arith) y
 

@@ -19,17 +19,17 @@ pub record SteadyRoom (test : ℕ → Bool) (room : ℕ) : Type 0 where
   pub each : (e : ℕ) → e < room → test e ≡ true
 
 -- a run back: one offset from s up to u
-pub record Back (off : ℕ → ℕ) (u s : ℕ) : Type 0 where
+pub record Back (offset : ℕ → ℕ) (u s : ℕ) : Type 0 where
   pub to : s ≤ u
-  pub same : (v : ℕ) → s ≤ v → v ≤ u → off v ≡ off u
+  pub same : (v : ℕ) → s ≤ v → v ≤ u → offset v ≡ offset u
 
 -- r has the offset at u, and a second from which it stays
 abbrev pub IsOffsetSince : (ℕ → ℕ) → ℕ → OffsetSince → Type 0
-IsOffsetSince off u r = (r .offset ≡ off u) × Back off u (r .since)
+IsOffsetSince offset u r = (r .offset ≡ offset u) × Back offset u (r .since)
 
 -- the same, and that second is not before `from`
 abbrev pub IsOffsetFrom : (ℕ → ℕ) → ℕ → ℕ → OffsetSince → Type 0
-IsOffsetFrom off u from r = (r .offset ≡ off u) × Back off u (r .since) × (from ≤ r .since)
+IsOffsetFrom offset u from r = (r .offset ≡ offset u) × Back offset u (r .since) × (from ≤ r .since)
 
 -- an open zone is asked for a span of the calendar's years
 abbrev pub AskedSpan : List ℕ → Zone → ℕ → ℕ → Type 0

@@ -124,21 +124,21 @@ rising-is key (a ∷ b ∷ l) i h =
     rw (less (suc (length l)), ea, eb, r) (by-test (ltb a b) (λ q. rw q) (λ q. rw q))
 
 -- the changes, by index
-changes-are : (time off : ℕ → ℕ) (offs ts ks : List ℕ) (i : ℕ) → length ks ≡ length ts
+changes-are : (time offset : ℕ → ℕ) (offs ts ks : List ℕ) (i : ℕ) → length ks ≡ length ts
     → ((j : ℕ) → j < length ts → getD ts j 0 - (2 ^ 63 - epoch) ≡ time (i + j))
-    → ((j : ℕ) → j < length ts → getD offs (getD ks j 0) 0 ≡ off (suc (i + j)))
-    → changesOf offs ts ks ≡ changesFrom time off i (length ts)
+    → ((j : ℕ) → j < length ts → getD offs (getD ks j 0) 0 ≡ offset (suc (i + j)))
+    → changesOf offs ts ks ≡ changesFrom time offset i (length ts)
 unfolding changesOf changesFrom
-changes-are time off offs [] ks i e p q = refl
-changes-are time off offs (t ∷ ts) [] i e p q = absurd (omega arith)
-changes-are time off offs (t ∷ ts) (k ∷ ks) i e p q =
+changes-are time offset offs [] ks i e p q = refl
+changes-are time offset offs (t ∷ ts) [] i e p q = absurd (omega arith)
+changes-are time offset offs (t ∷ ts) (k ∷ ks) i e p q =
     let z : i + 0 ≡ i = omega arith in
     let a : t - (2 ^ 63 - epoch) ≡ time i = p 0 (omega arith) ∙ ap time z in
-    let b : getD offs k 0 ≡ off (suc i) = q 0 (omega arith) ∙ ap (λ (m : ℕ). off (suc m)) z in
-    let r : changesOf offs ts ks ≡ changesFrom time off (suc i) (length ts) =
-    changes-are time off offs ts ks (suc i) (omega arith)
+    let b : getD offs k 0 ≡ offset (suc i) = q 0 (omega arith) ∙ ap (λ (m : ℕ). offset (suc m)) z in
+    let r : changesOf offs ts ks ≡ changesFrom time offset (suc i) (length ts) =
+    changes-are time offset offs ts ks (suc i) (omega arith)
     (λ j l. p (suc j) (suc-le-suc l) ∙ ap time (omega arith))
-    (λ j l. q (suc j) (suc-le-suc l) ∙ ap (λ (m : ℕ). off (suc m)) (omega arith)) in
+    (λ j l. q (suc j) (suc-le-suc l) ∙ ap (λ (m : ℕ). offset (suc m)) (omega arith)) in
     rw (a, b, r)
 
 -- a block that starts at b and has room

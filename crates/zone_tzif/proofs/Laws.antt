@@ -167,7 +167,7 @@ module _ (f : List ℕ) where
 -- ---- the table at a second
 
 -- for any times and offsets: c changes are at or before u, the next one is not
-module _ (time off : ℕ → ℕ) (foot : Footer) (u : ℕ) where
+module _ (time offset : ℕ → ℕ) (foot : Footer) (u : ℕ) where
   record Split (i n c : ℕ) : Type 0 where
     from : i ≤ c
     to : c ≤ i + n
@@ -175,7 +175,7 @@ module _ (time off : ℕ → ℕ) (foot : Footer) (u : ℕ) where
     next : c < i + n → u < time c
 
   split-offset : (n i c : ℕ) → Split i n c →
-      offsetFrom (off i) (changesFrom time off i n) foot u ≡ (if ltb c (i + n) then off c else ruledAt foot (off c) u)
+      offsetFrom (offset i) (changesFrom time offset i n) foot u ≡ (if ltb c (i + n) then offset c else ruledAt foot (offset c) u)
   unfolding offsetFrom changesFrom
   split-offset zero i c s =
       let e : c ≡ i = omega arith in

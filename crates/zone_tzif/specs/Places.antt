@@ -67,8 +67,8 @@ offsetAfter f l (suc i) = typeOffset (be32 f (typesAt (l .times) (l .count) + ty
 
 -- n changes from the one of index i on, whose times and offsets are given
 unfoldable pub changesFrom : (ℕ → ℕ) → (ℕ → ℕ) → ℕ → ℕ → List Change
-changesFrom time off i zero = []
-changesFrom time off i (suc n) = record { time = time i; offset = off (suc i) } ∷ changesFrom time off (suc i) n
+changesFrom time offset i zero = []
+changesFrom time offset i (suc n) = record { time = time i; offset = offset (suc i) } ∷ changesFrom time offset (suc i) n
 
 -- the table's changes
 abbrev pub changesAt : List ℕ → Layout → List Change

@@ -7,15 +7,15 @@ use Rattle.model.specs.Zone.{offsetAt}
 use Rattle.laws_zone.specs.Zones.{offset-fits}
 use Rattle.zone_tzif.specs.Opened.{countAt}
 use Rattle.zone.specs.Zones.{zoneIs}
-use Rattle.zone.proofs.Steps.{At, at-start, at-off, at-found, at-next, at-jump}
+use Rattle.zone.proofs.Steps.{At, at-start, at-offset, at-found, at-next, at-jump}
 use Rattle.zone.proofs.second_by_runs.Statement.{statement}
 use Rattle.zone.proofs.second_by_runs.Tie as tie
 
 abbrev Inv-loop : tie.InvT-loop
-Inv-loop f z x bounds table from n off₀ until₀ k₀ off until k = At (offsetAt (zoneIs f z)) x off until × (k ≡ countAt f (z .table) until)
+Inv-loop f z x bounds table from n offset₀ until₀ k₀ offset until k = At (offsetAt (zoneIs f z)) x offset until × (k ≡ countAt f (z .table) until)
 
 abbrev μ-loop : tie.MeasureT-loop
-μ-loop f z x bounds table from n off₀ until₀ k₀ off until k = x + 1 - until
+μ-loop f z x bounds table from n offset₀ until₀ k₀ offset until k = x + 1 - until
 
 sub-from : tie.Need-sub-from Inv-loop μ-loop
 sub-from c = omega (arith, (c .before .before .before .pre .bounds .most), (c .before .before .before .pre .from))
@@ -26,8 +26,8 @@ count-at-requires c κs = (c .before .before .before .pre .ok .table)
 run-after-requires : tie.Need-run-after-requires Inv-loop μ-loop
 run-after-requires c κs = (((c .before .before .before .before .pre .ok), omega (arith, (c .before .before .before .before .pre .to))), (c .count-at .ensures .0))
 
-cast-off : tie.Need-cast-off Inv-loop μ-loop
-cast-off c = search needs
+cast-offset : tie.Need-cast-offset Inv-loop μ-loop
+cast-offset c = search needs
 
 count-on-requires : tie.Need-count-on-requires Inv-loop μ-loop
 count-on-requires c κs = search needs
@@ -36,7 +36,7 @@ loop-holds : tie.Need-loop-holds Inv-loop μ-loop
 loop-holds c = (at-start _ _ (c .before .before .before .before .before .before .before .pre .bounds .greatest) (omega (arith, (c .before .before .before .before .before .before .before .pre .bounds .most), (c .before .before .before .before .before .before .before .pre .from))) (c .before .before .run-after .ensures .0 .0) (c .before .before .run-after .ensures .0 .1), (c .count-on .ensures) ∙ (c .before .before .run-after .ensures .1))
 
 sub-loop : tie.Need-sub-loop Inv-loop μ-loop
-sub-loop c = omega (arith, at-off (c .loop .inv .0))
+sub-loop c = omega (arith, at-offset (c .loop .inv .0))
 
 run-after-requires-2 : tie.Need-run-after-requires-2 Inv-loop μ-loop
 run-after-requires-2 c κs = (((c .before .before .before .before .before .before .before .before .before .pre .ok), omega (arith, (c .before .before .before .before .before .before .before .before .before .pre .to))), (c .before .loop .inv .1))
@@ -57,7 +57,7 @@ loop-again : tie.Need-loop-again Inv-loop μ-loop
 loop-again c = (at-next (c .before .before .before .before .before .loop .inv .0) (omega arith) (c .before .before .before .run-after2 .ensures .0 .0) (c .before .before .before .run-after2 .ensures .0 .1) (omega arith), (c .count-on2 .ensures) ∙ (c .before .before .before .run-after2 .ensures .1))
 
 sub-read-after : tie.Need-sub-read-after Inv-loop μ-loop
-sub-read-after c = omega (arith, at-off (c .before .before .before .before .loop .inv .0))
+sub-read-after c = omega (arith, at-offset (c .before .before .before .before .loop .inv .0))
 
 read-after-requires : tie.Need-read-after-requires Inv-loop μ-loop
 read-after-requires c κs = ((c .before .before .before .before .before .before .before .before .before .before .before .before .pre), at-jump (c .before .before .before .before .loop .inv .0) (omega arith) (c .before .before .run-after2 .ensures .0 .0) (omega arith), (c .before .before .before .before .loop .inv .1))
@@ -66,7 +66,7 @@ returns : tie.Need-returns Inv-loop μ-loop
 returns c = (c .read-after .ensures)
 
 sub-result : tie.Need-sub-result Inv-loop μ-loop
-sub-result c = omega (arith, at-off (c .before .loop .inv .0))
+sub-result c = omega (arith, at-offset (c .before .loop .inv .0))
 
 returns-2 : tie.Need-returns-2 Inv-loop μ-loop
 returns-2 c = at-found (c .before .loop .inv .0) (omega arith)
@@ -80,7 +80,7 @@ second-by-runs-spec =
     sub-from
     count-at-requires
     run-after-requires
-    cast-off
+    cast-offset
     count-on-requires
     loop-holds
     sub-loop

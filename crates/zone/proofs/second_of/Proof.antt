@@ -3,7 +3,7 @@ use native.Mathlib.Omega.{arith}
 use borrow.Author.Needs.{needs}
 use Rattle.laws_zone.specs.Zones.{offset-fits, second-resolves}
 use Rattle.laws_zone.specs.Resolve.{one-answer}
-use Rattle.zone.proofs.Steps.{at-start, at-off, at-found}
+use Rattle.zone.proofs.Steps.{at-start, at-offset, at-found}
 use Rattle.zone.proofs.second_of.Statement.{statement}
 use Rattle.zone.proofs.second_of.Tie as tie
 
@@ -13,14 +13,14 @@ sub-run-at c = omega arith
 run-at-requires : tie.Need-run-at-requires
 run-at-requires c κs = ((c .before .pre .0), omega arith)
 
-cast-off : tie.Need-cast-off
-cast-off c = search needs
+cast-offset : tie.Need-cast-offset
+cast-offset c = search needs
 
 sub-if1 : tie.Need-sub-if1
-sub-if1 c = omega (arith, at-off (at-start _ _ (λ u. offset-fits _ (c .before .before .before .pre .0 .fits) u .1) (omega arith) (c .before .run-at .ensures .0) (c .before .run-at .ensures .1)))
+sub-if1 c = omega (arith, at-offset (at-start _ _ (λ u. offset-fits _ (c .before .before .before .pre .0 .fits) u .1) (omega arith) (c .before .run-at .ensures .0) (c .before .run-at .ensures .1)))
 
 sub-result : tie.Need-sub-result
-sub-result c = omega (arith, at-off (at-start _ _ (λ u. offset-fits _ (c .before .before .before .before .before .pre .0 .fits) u .1) (omega arith) (c .before .before .before .run-at .ensures .0) (c .before .before .before .run-at .ensures .1)))
+sub-result c = omega (arith, at-offset (at-start _ _ (λ u. offset-fits _ (c .before .before .before .before .before .pre .0 .fits) u .1) (omega arith) (c .before .before .before .run-at .ensures .0) (c .before .before .before .run-at .ensures .1)))
 
 returns : tie.Need-returns
 returns c = one-answer _ (at-found (at-start _ _ (λ u. offset-fits _ (c .before .before .before .before .before .pre .0 .fits) u .1) (omega arith) (c .before .before .before .run-at .ensures .0) (c .before .before .before .run-at .ensures .1)) (omega arith)) (second-resolves _ (c .before .before .before .before .before .pre .0 .fits) _ (omega arith))
@@ -40,7 +40,7 @@ second-of-spec =
     (tie.spec
     sub-run-at
     run-at-requires
-    cast-off
+    cast-offset
     sub-if1
     sub-result
     returns
