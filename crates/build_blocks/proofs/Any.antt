@@ -6,7 +6,7 @@ use Prim.Native.Nat.{ℕ, _+_, _-_, _≤_, _<_}
 use native.Mathlib.Omega.{arith}
 use lib.Dec.{ltb}
 use lib.ListN.{length, take, getD}
-use Rattle.model.specs.Basic.{run, joined}
+use Rattle.model.specs.Basic.{run}
 use Rattle.model.specs.Blocks.{Block as Block′}
 use Rattle.model.specs.Walk.{onward}
 use Rattle.model.specs.Working.{Rule, blocksOf, blocksOfAll}
@@ -17,7 +17,7 @@ use Rattle.block_list.specs.declared.Block.{Block}
 use Rattle.zone_local.specs.Dates.{pieceOf}
 use Rattle.window_dates.specs.Windows.{IsLocalDates}
 use Rattle.window_dates.specs.declared.LocalDates.{LocalDates}
-use Rattle.window_dates.proofs.Fill.{shown, date-on, date-off, dates-done, restOf, rest-more, rest-end}
+use Rattle.window_dates.proofs.Fill.{shown, date-on, date-off, dates-done, restOf, rest-more, rest-end, rules-are}
 use Rattle.window_piece.proofs.Frames.{rule-shows}
 use Rattle.build_blocks.specs.Shown.{heldBlock, anyBlock}
 
@@ -95,11 +95,6 @@ module _ {A : Type 0} (lo hi : ℕ) (h : A → Rule) where
   abbrev has : A → List Block′
   has a = blocksOf lo hi (h a)
 
-  has-all : (l : List A) → joined (map has l) ≡ blocksOfAll lo hi (map h l)
-  unfolding joined
-  has-all [] = refl
-  has-all (a ∷ l) = ap (λ (x : List Block′). has a ++ x) (has-all l)
-
   module _ (n : ℕ) (rules : List A) where
     -- the rules in front of i show nothing
     pub record RulesPassed (i : ℕ) : Type 0 where
@@ -113,7 +108,7 @@ module _ {A : Type 0} (lo hi : ℕ) (h : A → Rule) where
     module _ (i : ℕ) (m : RulesPassed i) where
       pub rule-shows-any : i < n → (x : A) → anyBlock (has (getD rules i x)) ≡ true → true ≡ anyBlock (blocksOfAll lo hi (map h (take n rules)))
       rule-shows-any t x e =
-          sym (ap anyBlock (sym (has-all (take n rules)) ∙ sym (m .same) ∙ rest-more has n rules i x t (m .fits)) ∙ any-append (has (getD rules i x)) (restOf has n rules (i + 1)) ∙ rw e)
+          sym (ap anyBlock (sym (rules-are lo hi h (take n rules)) ∙ sym (m .same) ∙ rest-more has n rules i x t (m .fits)) ∙ any-append (has (getD rules i x)) (restOf has n rules (i + 1)) ∙ rw e)
 
       pub rule-passed : i < n → (x : A) → anyBlock (has (getD rules i x)) ≡ false → RulesPassed (i + 1)
       rule-passed t x e =
@@ -127,4 +122,4 @@ module _ {A : Type 0} (lo hi : ℕ) (h : A → Rule) where
       unfolding anyBlock
       rules-passed t =
           let u = m .upto in let z : i ≡ n = omega arith in
-          sym (ap anyBlock (sym (has-all (take n rules)) ∙ sym (m .same) ∙ ap (restOf has n rules) z ∙ rest-end has n rules (m .fits)))
+          sym (ap anyBlock (sym (rules-are lo hi h (take n rules)) ∙ sym (m .same) ∙ ap (restOf has n rules) z ∙ rest-end has n rules (m .fits)))

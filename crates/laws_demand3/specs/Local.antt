@@ -78,9 +78,9 @@ module _ (z : Zone) (s : Sound z) where
       (λ p. let v = leb-false firstInstant (raw z d time) p in rw (p, lt-ltb d dayOfYearZero (omega arith)) (early v))
 
   -- a span without change has one offset
-  pub same-off : (a b : ℕ) → firstInstant ≤ a → steady z (a / second) (b / second) ≡ true → (u : ℕ) → a ≤ u → u ≤ b → offsetNanos z u ≡ offsetNanos z a
+  pub same-offset : (a b : ℕ) → firstInstant ≤ a → steady z (a / second) (b / second) ≡ true → (u : ℕ) → a ≤ u → u ≤ b → offsetNanos z u ≡ offsetNanos z a
   unfolding offsetNanos
-  same-off a b h e u p q = ap (λ k. k * second) (s .same (a / second) (b / second) (omega arith) e (u / second) (omega arith) (omega arith))
+  same-offset a b h e u p q = ap (λ k. k * second) (s .same (a / second) (b / second) (omega arith) e (u / second) (omega arith) (omega arith))
 
   -- ---- the local date at an instant
 

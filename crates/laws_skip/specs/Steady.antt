@@ -26,7 +26,7 @@ use Rattle.laws_zone.specs.Sound.{Sound}
 use Rattle.laws_blocks.specs.Move.{moves, moves-append, clipped-moved, union-moved, subtract-moved}
 use Rattle.laws_base.specs.Every.{Every, every-apart}
 use Rattle.laws_demand3.specs.Windows.{RuleOk, OfRules}
-use Rattle.laws_demand3.specs.Local.{bias, offsetNanos, raw, Clamped, kept, early, late, offset-low, offset-high, raw-some, raw-least, in-range, same-off, day-is, first-from, last-upto, first-upto, last-from}
+use Rattle.laws_demand3.specs.Local.{bias, offsetNanos, raw, Clamped, kept, early, late, offset-low, offset-high, raw-some, raw-least, in-range, same-offset, day-is, first-from, last-upto, first-upto, last-from}
 
 -- ---- clipped blocks
 
@@ -291,7 +291,7 @@ module _ (S E : ℕ) (low : firstInstant ≤ S) (up : E ≤ lastInstant) where
       let z = r .zone in
       let sd = ok .0 .sound in
       ap₂ _++_
-      (rule-week r (ok .0) S E (offsetNanos z S) low up (λ u p q. same-off z sd S E low (k .0) u p q) (offset-low z sd S) (offset-high z sd S) (w .0) lo hi a h b)
+      (rule-week r (ok .0) S E (offsetNanos z S) low up (λ u p q. same-offset z sd S E low (k .0) u p q) (offset-low z sd S) (offset-high z sd S) (w .0) lo hi a h b)
       (rules-week lo hi a h b l (ok .1) (w .1) (k .1))
       ∙ sym (moves-append week (blocksOf lo hi r) (blocksOfAll lo hi l))
 

@@ -15,7 +15,7 @@ use Rattle.model.specs.Tzif.{Zone}
 use Rattle.model.specs.Instant.{second}
 use Rattle.model.specs.Zone.{offsetAt}
 use Rattle.zone_local.proofs.Facts.{local-is, first-back, last-on, kept-small}
-use Rattle.model.specs.Working.{Rule, localDay, firstDate, lastDate, startOf, endOf}
+use Rattle.model.specs.Working.{Rule, localDay, firstDate, lastDate, startOf, endOf, blocksOf, blocksOfAll}
 use Rattle.laws_base.specs.Test.{by-test}
 use Rattle.laws_zone.specs.Sound.{Sound}
 use Rattle.laws_zone.specs.Zones.{fits-sound}
@@ -90,6 +90,14 @@ module _ {A : Type 0} (g : A → List Block) where
   rest-end n l k =
       let h : length (take n l) ≤ n = omega (arith, length-take-le n l k) in
       ap (λ (t : List A). joined (map g t)) (drop-of-length-le (take n l) h)
+
+pub maps : {A B C : Type 0} (f : B → C) (g : A → B) (l : List A) → map (λ (a : A). f (g a)) l ≡ map f (map g l)
+maps f g [] = refl
+maps f g (a ∷ l) = ap (λ t. f (g a) ∷ t) (maps f g l)
+
+-- what a list of records has in the window [lo, hi)
+pub rules-are : (lo hi : ℕ) {A : Type 0} (h : A → Rule) (l : List A) → joined (map (λ (a : A). blocksOf lo hi (h a)) l) ≡ blocksOfAll lo hi (map h l)
+rules-are lo hi h l = ap joined (maps (blocksOf lo hi) h l)
 
 -- ---- rules and holiday records of the code
 

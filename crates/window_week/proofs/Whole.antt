@@ -1,10 +1,9 @@
 -- From the filled lists to the working time of the window, and its sum. Assumes nothing.
-use mathlib.Core.Path.{_≡_, refl, sym, _∙_, ap, ap₂}
-use mathlib.Core.List.{List, [], _∷_, _++_, map, append-nil}
+use mathlib.Core.Path.{_≡_, sym, _∙_, ap, ap₂}
+use mathlib.Core.List.{List, [], _∷_, _++_, map}
 use mathlib.Core.Logic.{inl, inr}
 use Prim.Native.Nat.{ℕ, _+_, _*_, _-_, _≤_, _<_}
 use native.Mathlib.Omega.{arith}
-use lib.ListN.{length, take}
 use Rattle.model.specs.Basic.{joined}
 use Rattle.model.specs.Blocks.{Block, union, subtract, total}
 use Rattle.model.specs.Instant.{day}
@@ -19,6 +18,7 @@ use Rattle.rule.specs.declared.HolidayDates.{HolidayDates}
 use Rattle.rule.specs.Rules.{ruleIs, holidaysIs}
 use Rattle.window_dates.proofs.Whole.{off-is}
 use Rattle.block_pairs.specs.Pairs.{part, pairs}
+use Rattle.window_dates.proofs.Fill.{maps, rules-are}
 use Rattle.window_piece.specs.Filled.{Filled}
 use Rattle.window_piece.proofs.Frames.{rule-apart}
 use Rattle.window_piece.proofs.Laws.{Apart, apart-both, apart-onward, union-onto, onward-append, union-onward, subtract-onward, total-onward, onward-nonempty}
@@ -41,15 +41,7 @@ union-apart lo l a =
 
 -- ---- the lists
 
-maps : {A B C : Type 0} (f : B → C) (g : A → B) (l : List A) → map (λ (a : A). f (g a)) l ≡ map f (map g l)
-maps f g [] = refl
-maps f g (a ∷ l) = ap (λ t. f (g a) ∷ t) (maps f g l)
-
 module _ (lo hi : ℕ) where
-  -- what a list of records has in the window
-  pub rules-are : {A : Type 0} (h : A → Rule) (l : List A) → joined (map (λ (a : A). blocksOf lo hi (h a)) l) ≡ blocksOfAll lo hi (map h l)
-  rules-are h l = ap joined (maps (blocksOf lo hi) h l)
-
   -- from nothing
   pub filled-first : (l₀ : List ℕ) (b : List Block) (k : ℕ) (l : List ℕ) (n : ℕ) → Filled lo l₀ 0 b k l n → Apart lo b → pairs n l ≡ onward lo (union b)
   unfolding part

@@ -6,9 +6,9 @@ use lib.ListN.{length, getD, length-set}
 use mathlib.Core.Path.{_≡_, refl, sym, _∙_, ap, ap₂}
 use lib.ListN.{length-map, take}
 use Rattle.instant.specs.Instant.{nanos}
-use Rattle.window_week.proofs.Whole.{ruleBlocks, rule-from, closedBlocks, closed-from, closed-are, rules-are, none-normal, window-is}
+use Rattle.window_week.proofs.Whole.{ruleBlocks, rule-from, closedBlocks, closed-from, closed-are, none-normal, window-is}
 use Rattle.window_piece.proofs.Fills.{Ruling, ruling-starts, ruling-ready, ruling-roomy, ruling-turn, ruling-done}
-use Rattle.window_dates.proofs.Fill.{}
+use Rattle.window_dates.proofs.Fill.{rules-are}
 use Rattle.rule.specs.Rules.{ruleIs, scheduleIs, RuleFits, HolidaysFit}
 use Rattle.window_week.proofs.working_into.Statement.{statement}
 use Rattle.window_week.proofs.working_into.Tie as tie

@@ -1,5 +1,6 @@
 -- `zone_tzif_block::times_rise` meets its contract.
 use native.Mathlib.Nat.{sub-zero}
+use native.Mathlib.Omega.{arith}
 use Prim.Native.Nat.{_≤_, _-_}
 use mathlib.Core.Path.{_≡_}
 use Rattle.big_endian.proofs.Walk.{all-none, rise-no, rise-yes, all-end}
@@ -35,13 +36,13 @@ key-at-requires-2 : tie.Need-key-at-requires-2 Inv-loop μ-loop
 key-at-requires-2 c κs = search needs
 
 returns-2 : tie.Need-returns-2 Inv-loop μ-loop
-returns-2 c = search rise-no
+returns-2 c = rise-no (keyAt _ _) (c .before .before .loop-test .taken) (c .before .before .before .loop .inv .2) (c .before .before .before .loop .inv .1) (c .before .key-at2 .ensures) (omega (arith, (c .if2 .taken)))
 
 loop-less : tie.Need-loop-less Inv-loop μ-loop
 loop-less c = search needs
 
 loop-again : tie.Need-loop-again Inv-loop μ-loop
-loop-again c = (search needs, (c .before .key-at2 .ensures), search rise-yes)
+loop-again c = (search needs, (c .before .key-at2 .ensures), rise-yes (keyAt _ _) (c .before .before .loop-test .taken) (c .before .before .before .loop .inv .2) (c .before .before .before .loop .inv .1) (c .before .key-at2 .ensures) (omega (arith, (c .if2 .left))))
 
 returns-3 : tie.Need-returns-3 Inv-loop μ-loop
 returns-3 c = search all-end
