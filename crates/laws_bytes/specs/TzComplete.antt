@@ -9,13 +9,13 @@ use native.Mathlib.Nat.{le-of-suc-le-suc, not-suc-le-zero}
 use native.Mathlib.Omega.{arith}
 use lib.Dec.{eqb}
 use lib.ListN.{length, length-append}
-use borrow.Author.Tests.{eqb-true, le-leb, ne-eqb}
+use borrow.Author.Tests.{eqb-true, eq-eqb, le-leb, ne-eqb}
 use Rattle.model.specs.Basic.{isIn, all}
 use Rattle.model.specs.Footer as F
-use Rattle.model.specs.Footer.{Day, ChangeRule, Footer, fixed, rules, after, _>>=_, only, has, byte, atEnd, isDigit, isLetter, spanned, digits, isNameByte, name, offset, clock, monthText, dayText, changeRuleText, daylightText, footerText, parsed, footerOf}
+use Rattle.model.specs.Footer.{Day, ChangeRule, Footer, fixed, rules, after, _>>=_, only, has, byte, atEnd, isDigit, isLetter, spanned, digits, isNameByte, name, sign, offset, clock, signedTime, ruleTime, monthText, dayText, changeRuleText, daylightText, footerText, parsed, footerOf}
 use Rattle.model.specs.Lines.{decimalFrom}
 use Rattle.laws_base.specs.Test.{by-test, by-either, or-true, clash, in-bounds, within, all-head}
-use Rattle.laws_bytes.specs.TzGrammar.{Decimal, more, Number, number, Sixty, sixty, Clock, hours, minutes, seconds, Letter, upper, lower, Quoted, letter, plus, minus, Word, three, longer, Name, bare, quoted, Offset, unsigned, west, east, DateText, dateJ, dateN, dateM, RuleText, untimed, timed, DaylightText, hour, written, TzString, standard, daylight}
+use Rattle.laws_bytes.specs.TzGrammar.{Decimal, more, Number, number, Sixty, sixty, Clock, hours, minutes, seconds, Letter, upper, lower, Quoted, letter, plus, minus, Word, three, longer, Name, bare, quoted, Sign, unsigned, positive, negative, Offset, west, east, DateText, dateJ, dateN, dateM, TimeText, posix, later, earlier, RuleText, untimed, timed, DaylightText, hour, written, TzString, standard, daylight}
 use Rattle.laws_bytes.specs.TzSound.{some-digit, single, letter-of, tz-sound}
 
 -- the rest of a text, at its end or at a byte that fails the test
@@ -107,7 +107,7 @@ free-digit r h =
 free-colon : (r : List ℕ) → Free r → Stops (λ x. eqb x 58) r
 free-colon r h = stops-too (isIn 48 58) (λ x. eqb x 58) (λ c e. rw (eqb-true c 58 e)) r h
 
-clock-gives : {t : ℕ} (w r : List ℕ) → Clock w t → Free r → clock (w ++ r) ≡ some (t, r)
+clock-gives : {k hi t : ℕ} (w r : List ℕ) → Clock k hi w t → Free r → clock k hi (w ++ r) ≡ some (t, r)
 unfolding clock Ends
 clock-gives w r (hours g) h = rw (number-gives w r g (inl (free-digit r h)), has-no 58 r (free-colon r h))
 clock-gives w r (minutes {s = s} {t = t} g i) h =
@@ -183,26 +183,38 @@ number-first : {k lo hi n : ℕ} (u : ℕ → Bool) → ((c : ℕ) → isDigit c
 number-first u f [] r (number d h l x) = absurd (omega (arith, some-digit d))
 number-first u f (c ∷ w) r (number d h l x) = f c (all-head isDigit c w (decimal-digits d) .0)
 
-clock-first : {t : ℕ} (u : ℕ → Bool) → ((c : ℕ) → isDigit c ≡ true → u c ≡ false) → (w r : List ℕ) → Clock w t → Stops u (w ++ r)
+clock-first : {k hi t : ℕ} (u : ℕ → Bool) → ((c : ℕ) → isDigit c ≡ true → u c ≡ false) → (w r : List ℕ) → Clock k hi w t → Stops u (w ++ r)
 clock-first u f w r (hours g) = number-first u f w r g
 clock-first u f w r (minutes {s = s} {t = t} g i) = rw (append-assoc s (58 ∷ t) r) (number-first u f s (58 ∷ (t ++ r)) g)
 clock-first u f w r (seconds {s = s} {t = t} {u = v} g i j) = rw (append-assoc (s ++ 58 ∷ t) (58 ∷ v) r, append-assoc s (58 ∷ t) (58 ∷ (v ++ r))) (number-first u f s (58 ∷ (t ++ 58 ∷ (v ++ r))) g)
 
 offset-first : {o : ℕ} (u : ℕ → Bool) → ((c : ℕ) → isDigit c ≡ true → u c ≡ false) → u 43 ≡ false → u 45 ≡ false → (w r : List ℕ) → Offset w o → Stops u (w ++ r)
-offset-first u f p m w r (unsigned g) = clock-first u f w r g
-offset-first u f p m w r (west g) = p
-offset-first u f p m w r (east g) = m
+offset-first u f p m w r (west unsigned g) = clock-first u f w r g
+offset-first u f p m w r (west positive g) = p
+offset-first u f p m w r (east negative g) = m
 
 -- a digit is no byte outside 48 to 57
 not-digit : (m : ℕ) → isDigit m ≡ false → (c : ℕ) → isDigit c ≡ true → eqb c m ≡ false
 not-digit m h c e = by-test (eqb c m) (λ p. let q = eqb-true c m p in clash (isDigit c) e (rw q h)) (λ p. p)
 
+-- a sign with a clock behind it
+sign-gives : {k hi t : ℕ} {minus : Bool} (a w r : List ℕ) → Sign a minus → Clock k hi w t → sign (a ++ (w ++ r)) ≡ some (minus, w ++ r)
+unfolding sign
+sign-gives a w r unsigned g =
+    rw (has-no 45 (w ++ r) (clock-first (λ x. eqb x 45) (not-digit 45 refl) w r g), has-no 43 (w ++ r) (clock-first (λ x. eqb x 43) (not-digit 43 refl) w r g))
+sign-gives a w r positive g = refl
+sign-gives a w r negative g = refl
+
 offset-gives : {o : ℕ} (w r : List ℕ) → Offset w o → Free r → offset (w ++ r) ≡ some (o, r)
 unfolding offset
-offset-gives w r (unsigned g) h =
-    rw (has-no 45 (w ++ r) (clock-first (λ x. eqb x 45) (not-digit 45 refl) w r g), has-no 43 (w ++ r) (clock-first (λ x. eqb x 43) (not-digit 43 refl) w r g), clock-gives w r g h)
-offset-gives w r (west {s = s} g) h = rw (clock-gives s r g h)
-offset-gives w r (east {s = s} g) h = rw (clock-gives s r g h)
+offset-gives w r (west {a = a} {s = s} x g) h = rw (append-assoc a s r, sign-gives a s r x g, clock-gives s r g h)
+offset-gives w r (east {a = a} {s = s} x g) h = rw (append-assoc a s r, sign-gives a s r x g, clock-gives s r g h)
+
+time-gives : {version t : ℕ} (w r : List ℕ) → TimeText version w t → Free r → ruleTime version (w ++ r) ≡ some (t, r)
+unfolding ruleTime signedTime
+time-gives {version} w r (posix n g) h = rw (ne-eqb version 51 n, clock-gives w r g h)
+time-gives {version} w r (later {a = a} {s = s} e x g) h = rw (eq-eqb version 51 e, append-assoc a s r, sign-gives a s r x g, clock-gives s r g h)
+time-gives {version} w r (earlier {a = a} {s = s} e x g) h = rw (eq-eqb version 51 e, append-assoc a s r, sign-gives a s r x g, clock-gives s r g h)
 
 date-gives : {d : Day} (w r : List ℕ) → DateText w d → Stops isDigit r → dayText (w ++ r) ≡ some (d, r)
 unfolding dayText monthText Ends
@@ -223,21 +235,21 @@ data Comma : List ℕ → Type 0 where
   end : Comma []
   comma : (s : List ℕ) → Comma (44 ∷ s)
 
-rule-gives : {x : ChangeRule} (w r : List ℕ) → RuleText w x → Comma r → changeRuleText (w ++ r) ≡ some (x, r)
+rule-gives : {version : ℕ} {x : ChangeRule} (w r : List ℕ) → RuleText version w x → Comma r → changeRuleText version (w ++ r) ≡ some (x, r)
 unfolding changeRuleText
 rule-gives w r (untimed g) end = rw (date-gives w [] g tt)
 rule-gives w r (untimed g) (comma s) = rw (date-gives w (44 ∷ s) g refl)
-rule-gives w r (timed {s = s} {t = t} g i) end = rw (append-assoc s (47 ∷ t) [], date-gives s (47 ∷ (t ++ [])) g refl, clock-gives t [] i tt)
-rule-gives w r (timed {s = s} {t = t} g i) (comma q) = rw (append-assoc s (47 ∷ t) (44 ∷ q), date-gives s (47 ∷ (t ++ 44 ∷ q)) g refl, clock-gives t (44 ∷ q) i refl)
+rule-gives w r (timed {s = s} {t = t} g i) end = rw (append-assoc s (47 ∷ t) [], date-gives s (47 ∷ (t ++ [])) g refl, time-gives t [] i tt)
+rule-gives w r (timed {s = s} {t = t} g i) (comma q) = rw (append-assoc s (47 ∷ t) (44 ∷ q), date-gives s (47 ∷ (t ++ 44 ∷ q)) g refl, time-gives t (44 ∷ q) i refl)
 
 -- ---- footers
 
-rule-last : {x : ChangeRule} (w : List ℕ) → RuleText w x → changeRuleText w ≡ some (x, [])
+rule-last : {version : ℕ} {x : ChangeRule} (w : List ℕ) → RuleText version w x → changeRuleText version w ≡ some (x, [])
 rule-last w g = rw append-nil at (rule-gives w [] g end)
 
 -- behind the daylight offset and its comma: both rules
-rules-give : {start end : ChangeRule} (x y : List ℕ) (std dst : ℕ) → RuleText x start → RuleText y end →
-    after (changeRuleText (x ++ 44 ∷ y)) (λ start. byte 44 >>= λ _. changeRuleText >>= λ end. atEnd >>= λ done. only done (rules std dst start end)) ≡ some (rules std dst start end, [])
+rules-give : {version : ℕ} {start end : ChangeRule} (x y : List ℕ) (std dst : ℕ) → RuleText version x start → RuleText version y end →
+    after (changeRuleText version (x ++ 44 ∷ y)) (λ start. byte 44 >>= λ _. changeRuleText version >>= λ end. atEnd >>= λ done. only done (rules std dst start end)) ≡ some (rules std dst start end, [])
 rules-give x y std dst g h = rw (rule-gives x (44 ∷ y) g (comma y), rule-last y h)
 
 -- an offset begins with no letter and no comma
@@ -248,11 +260,11 @@ digit-no-letter c e =
 offset-no-letter : {o : ℕ} (w r : List ℕ) → Offset w o → Stops isLetter (w ++ r)
 offset-no-letter w r g = offset-first isLetter digit-no-letter refl refl w r g
 
-ahead-gives : {dst : ℕ} {start end : ChangeRule} (std : ℕ) (b t x y : List ℕ) → Name b → DaylightText std t dst → RuleText x start → RuleText y end →
-    daylightText std (b ++ (t ++ 44 ∷ (x ++ 44 ∷ y))) ≡ some (rules std dst start end, [])
+ahead-gives : {version dst : ℕ} {start end : ChangeRule} (std : ℕ) (b t x y : List ℕ) → Name b → DaylightText std t dst → RuleText version x start → RuleText version y end →
+    daylightText version std (b ++ (t ++ 44 ∷ (x ++ 44 ∷ y))) ≡ some (rules std dst start end, [])
 unfolding daylightText
 ahead-gives std b t x y n hour g h = rw (name-gives b (44 ∷ (x ++ 44 ∷ y)) n refl) (rules-give x y std (std + 3600) g h)
-ahead-gives {dst} std b t x y n (written o) g h =
+ahead-gives {version} {dst} std b t x y n (written o) g h =
     let z : List ℕ = 44 ∷ (x ++ 44 ∷ y) in
     rw (name-gives b (t ++ z) n (offset-no-letter t z o), has-no 44 (t ++ z) (offset-first (λ c. eqb c 44) (not-digit 44 refl) refl refl t z o), offset-gives t z o refl)
     (rules-give x y std dst g h)
@@ -271,43 +283,43 @@ name-more b r (bare (longer p q)) = refl
 name-more b r (quoted p) = refl
 
 -- a text that is read is not empty
-from-text : (s : List ℕ) (f : Footer) → footerText s ≡ some (f, []) → footerOf s ≡ some f
+from-text : (version : ℕ) (s : List ℕ) (f : Footer) → footerText version s ≡ some (f, []) → footerOf version s ≡ some f
 unfolding footerOf footerText name spanned
-from-text [] f e = absurd (Option·none-ne-some (f, []) e)
-from-text (c ∷ s) f e = ap parsed e
+from-text version [] f e = absurd (Option·none-ne-some (f, []) e)
+from-text version (c ∷ s) f e = ap parsed e
 
-standard-gives : {std : ℕ} (a s : List ℕ) → Name a → Offset s std → footerText (a ++ s) ≡ some (fixed std, [])
+standard-gives : {std : ℕ} (version : ℕ) (a s : List ℕ) → Name a → Offset s std → footerText version (a ++ s) ≡ some (fixed std, [])
 unfolding footerText
-standard-gives a s n o =
+standard-gives version a s n o =
     rw (name-gives a s n (rw append-nil at (offset-no-letter s [] o)), rw append-nil at (offset-gives s [] o tt))
 
-daylight-gives : {std dst : ℕ} {start end : ChangeRule} (a s b t x y : List ℕ) → Name a → Offset s std → Name b → DaylightText std t dst → RuleText x start → RuleText y end →
-    footerText (a ++ s ++ b ++ t ++ 44 ∷ x ++ 44 ∷ y) ≡ some (rules std dst start end, [])
+daylight-gives : {version std dst : ℕ} {start end : ChangeRule} (a s b t x y : List ℕ) → Name a → Offset s std → Name b → DaylightText std t dst → RuleText version x start → RuleText version y end →
+    footerText version (a ++ s ++ b ++ t ++ 44 ∷ x ++ 44 ∷ y) ≡ some (rules std dst start end, [])
 unfolding footerText
-daylight-gives {std} a s b t x y n o m d g h =
+daylight-gives {version} {std} a s b t x y n o m d g h =
     let z = b ++ (t ++ 44 ∷ (x ++ 44 ∷ y)) in
     let e : a ++ s ++ b ++ t ++ 44 ∷ x ++ 44 ∷ y ≡ a ++ (s ++ z) = simp append-assoc in
     rw (e, name-gives a (s ++ z) n (offset-no-letter s z o), offset-gives s z o (name-free b (t ++ 44 ∷ (x ++ 44 ∷ y)) m), name-more b (t ++ 44 ∷ (x ++ 44 ∷ y)) m)
     (ahead-gives std b t x y m d g h)
 
 -- where the grammar derives a text with a value, `footerOf` gives it
-pub tz-complete : (s : List ℕ) (f : Footer) → TzString s f → footerOf s ≡ some f
+pub tz-complete : (version : ℕ) (s : List ℕ) (f : Footer) → TzString version s f → footerOf version s ≡ some f
 unfolding footerOf
-tz-complete s f TzString.nothing = refl
-tz-complete s f (standard {a = a} {s = o} n g) = from-text (a ++ o) f (standard-gives a o n g)
-tz-complete s f (daylight {a = a} {s = o} {b = b} {t = t} {x = x} {y = y} n g m d i j) =
-    from-text (a ++ o ++ b ++ t ++ 44 ∷ x ++ 44 ∷ y) f (daylight-gives a o b t x y n g m d i j)
+tz-complete version s f TzString.nothing = refl
+tz-complete version s f (standard {a = a} {s = o} n g) = from-text version (a ++ o) f (standard-gives version a o n g)
+tz-complete version s f (daylight {a = a} {s = o} {b = b} {t = t} {x = x} {y = y} n g m d i j) =
+    from-text version (a ++ o ++ b ++ t ++ 44 ∷ x ++ 44 ∷ y) f (daylight-gives a o b t x y n g m d i j)
 
 -- so a text has one value at most, and none exactly where the grammar derives nothing of it
-pub tz-one : (s : List ℕ) (f g : Footer) → TzString s f → TzString s g → f ≡ g
-tz-one s f g p q = Option·some-injective f g (sym (tz-complete s f p) ∙ tz-complete s g q)
+pub tz-one : (version : ℕ) (s : List ℕ) (f g : Footer) → TzString version s f → TzString version s g → f ≡ g
+tz-one version s f g p q = Option·some-injective f g (sym (tz-complete version s f p) ∙ tz-complete version s g q)
 
-pub none-underived : (s : List ℕ) → footerOf s ≡ none → (f : Footer) → ¬ TzString s f
-none-underived s e f p = Option·none-ne-some f (sym e ∙ tz-complete s f p)
+pub none-underived : (version : ℕ) (s : List ℕ) → footerOf version s ≡ none → (f : Footer) → ¬ TzString version s f
+none-underived version s e f p = Option·none-ne-some f (sym e ∙ tz-complete version s f p)
 
-pub underived-none : (s : List ℕ) → ((f : Footer) → ¬ TzString s f) → footerOf s ≡ none
-underived-none s h = go (footerOf s) refl
+pub underived-none : (version : ℕ) (s : List ℕ) → ((f : Footer) → ¬ TzString version s f) → footerOf version s ≡ none
+underived-none version s h = go (footerOf version s) refl
   where
-    go : (o : Option Footer) → footerOf s ≡ o → o ≡ none
+    go : (o : Option Footer) → footerOf version s ≡ o → o ≡ none
     go none e = refl
-    go (some f) e = absurd (h f (tz-sound s f e))
+    go (some f) e = absurd (h f (tz-sound version s f e))

@@ -4,16 +4,18 @@ use mathlib.Core.Bool.{Bool, true, false, _||_}
 use mathlib.Core.Option.{Option, none, some, Option·none-ne-some, Option·some-injective}
 use mathlib.Core.List.{List, [], _∷_, _++_, append-nil, append-assoc}
 use Prim.Native.Nat.{ℕ, zero, suc, _+_, _*_, _-_, _≤_}
+use Prim.Native.Char.{code}
 use native.Mathlib.Nat.{zero-add, zero-mul}
 use native.Mathlib.Omega.{arith}
 use lib.Dec.{leb, eqb}
 use lib.ListN.{length, length-append}
-use borrow.Author.Tests.{leb-true, eqb-true}
-use Rattle.model.specs.Basic.{isIn, all}
+use borrow.Author.Tests.{leb-true, eqb-true, eqb-false}
+use Rattle.model.specs.Basic.{if_then_else_, isIn, all}
+use Rattle.model.specs.Offset.{offsetBias}
 use Rattle.model.specs.Footer as F
-use Rattle.model.specs.Footer.{ChangeRule, Footer, fixed, rules, Parser, after, _>>=_, pure, only, has, byte, atEnd, isDigit, isLetter, spanned, digits, isNameByte, name, offset, clock, monthText, dayText, changeRuleText, daylightText, footerText, parsed, footerOf}
+use Rattle.model.specs.Footer.{ChangeRule, Footer, fixed, rules, Parser, after, _>>=_, pure, only, has, byte, atEnd, isDigit, isLetter, spanned, digits, isNameByte, name, sign, offset, clock, timeBias, mostHours, mostRuleHours, signedTime, ruleTime, monthText, dayText, changeRuleText, daylightText, footerText, parsed, footerOf}
 use Rattle.laws_base.specs.Test.{by-test, by-either, or-true, clash, in-bounds, all-head}
-use Rattle.laws_bytes.specs.TzGrammar.{Decimal, more, Number, number, Sixty, sixty, Clock, hours, minutes, seconds, Letter, upper, lower, Quoted, letter, plus, minus, Word, three, longer, Name, bare, quoted, Offset, unsigned, west, east, DateText, dateJ, dateN, dateM, RuleText, untimed, timed, hour, written, TzString, standard, daylight}
+use Rattle.laws_bytes.specs.TzGrammar.{Decimal, more, Number, number, Sixty, sixty, Clock, hours, minutes, seconds, Letter, upper, lower, Quoted, letter, plus, minus, Word, three, longer, Name, bare, quoted, Sign, unsigned, positive, negative, Offset, west, east, DateText, dateJ, dateN, dateM, TimeText, posix, later, earlier, RuleText, untimed, timed, hour, written, TzString, standard, daylight}
 
 -- the parser's answer to the text s: none, or the value of the front of it, and the rest
 data Reads {A : Type 0} (G : List ℕ → A → Type 0) (s : List ℕ) : Option (A × List ℕ) → Type 0 where
@@ -123,16 +125,16 @@ sixty-read s =
     step (F.number 1 0 9 r) (number-read 0 0 9 r) (λ b v t f h.
     reads (w ++ v) t (join w v t e f) (two-digits g h)))
 
-clock-read : (s : List ℕ) → Reads Clock s (clock s)
+clock-read : (k hi : ℕ) (s : List ℕ) → Reads (Clock (suc k) hi) s (clock (suc k) hi s)
 unfolding clock
-clock-read s =
-    step (F.number 2 0 24 s) (number-read 1 0 24 s) (λ h w r e g.
+clock-read k hi s =
+    step (F.number (suc k) 0 hi s) (number-read k 0 hi s) (λ h w r e g.
     marked 58 r _
-    (λ q m. step (F.sixty q) (sixty-read q) (λ n v t f k.
+    (λ q m. step (F.sixty q) (sixty-read q) (λ n v t f o.
     marked 58 t _
     (λ p l. step (F.sixty p) (sixty-read p) (λ x u z i j.
-    reads (w ++ 58 ∷ v ++ 58 ∷ u) z (join-by 58 (w ++ 58 ∷ v) u z (join-by 58 w v t e m f) l i) (seconds g k j)))
-    (reads (w ++ 58 ∷ v) t (join-by 58 w v t e m f) (minutes g k))))
+    reads (w ++ 58 ∷ v ++ 58 ∷ u) z (join-by 58 (w ++ 58 ∷ v) u z (join-by 58 w v t e m f) l i) (seconds g o j)))
+    (reads (w ++ 58 ∷ v) t (join-by 58 w v t e m f) (minutes g o))))
     (reads w r e (hours g)))
 
 -- ---- names
@@ -222,14 +224,47 @@ name-read s =
 
 -- ---- offsets, dates and times
 
+sign-read : (s : List ℕ) → Reads Sign s (sign s)
+unfolding sign
+sign-read s =
+    marked 45 s _
+    (λ r m. reads (45 ∷ []) r m negative)
+    (marked 43 s _
+    (λ r m. reads (43 ∷ []) r m positive)
+    (reads [] s refl unsigned))
+
+-- a clock behind a sign
+signed-read : (G : List ℕ → ℕ → Type 0) (value : Bool → ℕ → ℕ) (k hi : ℕ) →
+    ((minus : Bool) (a w : List ℕ) (t : ℕ) → Sign a minus → Clock (suc k) hi w t → G (a ++ w) (value minus t)) →
+    (s : List ℕ) → Reads G s ((sign >>= λ minus. clock (suc k) hi >>= λ t. pure (value minus t)) s)
+signed-read G value k hi f s =
+    step (sign s) (sign-read s) (λ minus a r e g.
+    step (clock (suc k) hi r) (clock-read k hi r) (λ t w q d h.
+    reads (a ++ w) q (join a w q e d) (f minus a w t g h)))
+
 offset-read : (s : List ℕ) → Reads Offset s (offset s)
 unfolding offset
-offset-read s =
-    marked 45 s _
-    (λ r m. step (clock r) (clock-read r) (λ t w q e g. reads (45 ∷ w) q (m ∙ ap (λ (l : List ℕ). 45 ∷ l) e) (east g)))
-    (marked 43 s _
-    (λ r m. step (clock r) (clock-read r) (λ t w q e g. reads (43 ∷ w) q (m ∙ ap (λ (l : List ℕ). 43 ∷ l) e) (west g)))
-    (step (clock s) (clock-read s) (λ t w q e g. reads w q e (unsigned g))))
+offset-read = signed-read Offset (λ minus t. if minus then offsetBias + t else offsetBias - t) 1 mostHours by-sign
+  where
+    by-sign : (minus : Bool) (a w : List ℕ) (t : ℕ) → Sign a minus → Clock 2 mostHours w t → Offset (a ++ w) (if minus then offsetBias + t else offsetBias - t)
+    by-sign true a w t g h = east g h
+    by-sign false a w t g h = west g h
+
+-- the time of a change, in each version
+signed-time : (version : ℕ) → version ≡ code "3" → (s : List ℕ) → Reads (TimeText version) s (signedTime s)
+unfolding signedTime
+signed-time version e = signed-read (TimeText version) (λ minus t. if minus then timeBias - t else timeBias + t) 2 mostRuleHours by-sign
+  where
+    by-sign : (minus : Bool) (a w : List ℕ) (t : ℕ) → Sign a minus → Clock 3 mostRuleHours w t → TimeText version (a ++ w) (if minus then timeBias - t else timeBias + t)
+    by-sign true a w t g h = earlier e g h
+    by-sign false a w t g h = later e g h
+
+time-read : (version : ℕ) (s : List ℕ) → Reads (TimeText version) s (ruleTime version s)
+unfolding ruleTime
+time-read version s =
+    by-test (eqb version 51)
+    (λ e. rw e (signed-time version (eqb-true version 51 e) s))
+    (λ e. rw e (step (clock 2 mostHours s) (clock-read 1 mostHours s) (λ t w r d g. reads w r d (posix (eqb-false version 51 e) g))))
 
 month-read : (s t : List ℕ) → s ≡ 77 ∷ t → Reads DateText s (monthText t)
 unfolding monthText
@@ -252,12 +287,12 @@ day-read s =
     (λ r m. step (F.number 3 1 365 r) (number-read 2 1 365 r) (λ n w q e g. reads (74 ∷ w) q (m ∙ ap (λ (l : List ℕ). 74 ∷ l) e) (dateJ g)))
     (step (F.number 3 0 365 s) (number-read 2 0 365 s) (λ n w q e g. reads w q e (dateN g))))
 
-rule-read : (s : List ℕ) → Reads RuleText s (changeRuleText s)
+rule-read : (version : ℕ) (s : List ℕ) → Reads (RuleText version) s (changeRuleText version s)
 unfolding changeRuleText
-rule-read s =
+rule-read version s =
     step (dayText s) (day-read s) (λ d w r e g.
     marked 47 r _
-    (λ q m. step (clock q) (clock-read q) (λ n v t f h. reads (w ++ 47 ∷ v) t (join-by 47 w v t e m f) (timed g h)))
+    (λ q m. step (ruleTime version q) (time-read version q) (λ n v t f h. reads (w ++ 47 ∷ v) t (join-by 47 w v t e m f) (timed g h)))
     (reads w r e (untimed g)))
 
 -- ---- footers
@@ -268,24 +303,24 @@ at-end [] f h k = h refl
 at-end (c ∷ t) f h k = k
 
 -- a footer's value; the text is read to its end
-abbrev Whole : List ℕ → List ℕ → Footer → Type 0
-Whole s w f = TzString s f
+abbrev Whole : ℕ → List ℕ → List ℕ → Footer → Type 0
+Whole version s w f = TzString version s f
 
-whole : (s : List ℕ) (f : Footer) → TzString s f → Reads (Whole s) s (some (f, []))
-whole s f g = reads s [] (sym (append-nil s)) g
+whole : (version : ℕ) (s : List ℕ) (f : Footer) → TzString version s f → Reads (Whole version s) s (some (f, []))
+whole version s f g = reads s [] (sym (append-nil s)) g
 
 -- both rules, behind u and a comma
-rules-read : (s u r : List ℕ) (std dst : ℕ) → s ≡ u ++ 44 ∷ r →
-    ((x y : List ℕ) (start end : ChangeRule) → RuleText x start → RuleText y end → TzString (u ++ 44 ∷ x ++ 44 ∷ y) (rules std dst start end)) →
-    Reads (Whole s) s (after (changeRuleText r) (λ start. byte 44 >>= λ _. changeRuleText >>= λ end. atEnd >>= λ done. only done (rules std dst start end)))
-rules-read s u r std dst e k =
-    step (changeRuleText r) (rule-read r) (λ start x q f g.
+rules-read : (version : ℕ) (s u r : List ℕ) (std dst : ℕ) → s ≡ u ++ 44 ∷ r →
+    ((x y : List ℕ) (start end : ChangeRule) → RuleText version x start → RuleText version y end → TzString version (u ++ 44 ∷ x ++ 44 ∷ y) (rules std dst start end)) →
+    Reads (Whole version s) s (after (changeRuleText version r) (λ start. byte 44 >>= λ _. changeRuleText version >>= λ end. atEnd >>= λ done. only done (rules std dst start end)))
+rules-read version s u r std dst e k =
+    step (changeRuleText version r) (rule-read version r) (λ start x q f g.
     needs 44 q _ (λ p m.
-    step (changeRuleText p) (rule-read p) (λ end y t i h.
+    step (changeRuleText version p) (rule-read version p) (λ end y t i h.
     at-end t _
     (λ z.
     let j : s ≡ u ++ 44 ∷ x ++ 44 ∷ y ++ t = join-by 44 (u ++ 44 ∷ x) y t (join-by 44 u x q e refl f) m i in
-    whole s (rules std dst start end) (rw (j, z, append-nil) (k x y start end g h)))
+    whole version s (rules std dst start end) (rw (j, z, append-nil) (k x y start end g h)))
     fails)))
 
 -- a written daylight offset and the comma behind it
@@ -294,34 +329,34 @@ written-read s =
     step (offset s) (offset-read s) (λ o t r e g.
     needs 44 r _ (λ q m. reads (t ++ 44 ∷ []) q (join t (44 ∷ []) q e m) (t, refl, g)))
 
-daylight-read : (s a o t : List ℕ) (std : ℕ) → s ≡ a ++ o ++ t → Name a → Offset o std → Reads (Whole s) s (daylightText std t)
+daylight-read : (version : ℕ) (s a o t : List ℕ) (std : ℕ) → s ≡ a ++ o ++ t → Name a → Offset o std → Reads (Whole version s) s (daylightText version std t)
 unfolding daylightText Named
-daylight-read s a o t std e g h =
+daylight-read version s a o t std e g h =
     step (name t) (name-read t) (λ _ b r f k.
     let i : s ≡ a ++ o ++ b ++ r = join (a ++ o) b r e f in
     marked 44 r _
-    (λ q m. rules-read s (a ++ o ++ b) q std (std + 3600) (i ∙ ap (λ (l : List ℕ). a ++ o ++ b ++ l) m) (λ _ _ _ _ x y. rw append-nil at (daylight g h k hour x y)))
+    (λ q m. rules-read version s (a ++ o ++ b) q std (std + 3600) (i ∙ ap (λ (l : List ℕ). a ++ o ++ b ++ l) m) (λ _ _ _ _ x y. rw append-nil at (daylight g h k hour x y)))
     (step _ (written-read r) (λ dst w q m p.
-    rules-read s (a ++ o ++ b ++ p .0) q std dst
+    rules-read version s (a ++ o ++ b ++ p .0) q std dst
     (join (a ++ o ++ b) (p .0) (44 ∷ q) i (m ∙ ap (λ (l : List ℕ). l ++ q) (p .1) ∙ append-assoc (p .0) (44 ∷ []) q))
     (λ _ _ _ _ x y. daylight g h k (written (p .2)) x y))))
 
-text-read : (s : List ℕ) → Reads (Whole s) s (footerText s)
+text-read : (version : ℕ) (s : List ℕ) → Reads (Whole version s) s (footerText version s)
 unfolding footerText Named
-text-read s =
+text-read version s =
     step (name s) (name-read s) (λ _ a r e g.
     step (offset r) (offset-read r) (λ std o t f h.
     let i : s ≡ a ++ o ++ t = join a o t e f in
     at-end t _
-    (λ z. whole s (fixed std) (rw (i, z, append-nil) (standard g h)))
-    (daylight-read s a o t std i g h)))
+    (λ z. whole version s (fixed std) (rw (i, z, append-nil) (standard g h)))
+    (daylight-read version s a o t std i g h)))
 
-value-of : (s : List ℕ) (f : Footer) (o : Option (Footer × List ℕ)) → Reads (Whole s) s o → parsed o ≡ some f → TzString s f
-value-of s f none h e = absurd (Option·none-ne-some f e)
-value-of s f (some x) (reads w r p g) e = rw (Option·some-injective _ _ e) at g
+value-of : (version : ℕ) (s : List ℕ) (f : Footer) (o : Option (Footer × List ℕ)) → Reads (Whole version s) s o → parsed o ≡ some f → TzString version s f
+value-of version s f none h e = absurd (Option·none-ne-some f e)
+value-of version s f (some x) (reads w r p g) e = rw (Option·some-injective _ _ e) at g
 
 -- where `footerOf` gives a value, the grammar derives the text with it
-pub tz-sound : (s : List ℕ) (f : Footer) → footerOf s ≡ some f → TzString s f
+pub tz-sound : (version : ℕ) (s : List ℕ) (f : Footer) → footerOf version s ≡ some f → TzString version s f
 unfolding footerOf
-tz-sound [] f e = rw (← Option·some-injective _ _ e) TzString.nothing
-tz-sound (c ∷ s) f e = value-of (c ∷ s) f (footerText (c ∷ s)) (text-read (c ∷ s)) e
+tz-sound version [] f e = rw (← Option·some-injective _ _ e) TzString.nothing
+tz-sound version (c ∷ s) f e = value-of version (c ∷ s) f (footerText version (c ∷ s)) (text-read version (c ∷ s)) e

@@ -5,11 +5,12 @@ use mathlib.Core.Path.{_≡_, refl}
 use mathlib.Core.Option.{Option, none, some}
 use mathlib.Core.List.{List, [], _∷_, _++_}
 use Prim.Native.Nat.{ℕ, _+_, _*_, _-_, _≤_}
+use Prim.Native.Char.{code}
 use native.Mathlib.Omega.{arith}
 use Rattle.model.specs.Basic.{_>>=_}
 use Rattle.model.specs.Bytes.{hex, text}
 use Rattle.model.specs.Calendar.{isLeap, dayNumber}
-use Rattle.model.specs.Footer.{ChangeRule, julian, plain, fixed, rules, dayIn, changeIn}
+use Rattle.model.specs.Footer.{Footer, ChangeRule, julian, plain, empty, fixed, rules, timeBias, footerOf, dayIn, changeIn}
 use Rattle.model.specs.Tzif.{Zone, Change, zoneOf}
 use Rattle.model.specs.Offset.{offsetBias}
 use Rattle.model.specs.Zone.{latest, offsetFrom, offsetAt, secondOf}
@@ -94,29 +95,27 @@ pub honolulu-file : Honolulu
 unfolding everything
 honolulu-file = record { zone = refl; gap = refl; repeat = refl }
 
--- ---- a file of version 3 with an empty first block and one transition in 2038, after the truncated file for Asia/Jerusalem in RFC 8536, appendix B. Its
--- footer is that of the zone's file in Debian's package of the tz database, 2025b
+-- ---- a file with an empty first block and one transition in 2038, after the truncated file for Asia/Jerusalem in RFC 8536, appendix B, which has
+-- version 3. Its footer is that of the zone's file in Debian's package of the tz database, 2025b
 
 abbrev jerusalem : List ℕ → List ℕ
-jerusalem time =
-    text "TZif3" ++ hex 39 0 ++ text "TZif3" ++ hex 15 0 ++ hex 24 0x00000001_00000001_00000000_00000001_00000001_00000004
+jerusalem version =
+    text "TZif" ++ version ++ hex 39 0 ++ text "TZif" ++ version ++ hex 15 0 ++ hex 24 0x00000001_00000001_00000000_00000001_00000001_00000004
     ++ hex 15 0x000000007FE81780_00_00001C20_00_00
     ++ text "IST\0"
     ++ hex 2 0x01_01
-    ++ text "\nIST-2IDT,M3.4.4/"
-    ++ time
-    ++ text ",M10.5.0\n"
+    ++ text "\nIST-2IDT,M3.4.4/26,M10.5.0\n"
 
 pub record Jerusalem : Type 0 where
-  -- document 01: "Hours in offsets and rule times go from 0 to 24." So the file, whose daylight time starts at hour 26, is not usable ..
-  pub beyond : zoneOf (jerusalem (text "26")) ≡ none
-  -- .. for that hour alone. The fourth Thursday of March 2040 is the 22nd
-  pub winter : offset (jerusalem (text "24")) (at 2040 3 22 21 59 59) ≡ some (east 120)
-  pub summer : offset (jerusalem (text "24")) (at 2040 3 22 22 0 0) ≡ some (east 180)
+  -- daylight time starts at 02:00 on the day after the fourth Thursday of March, which is the 22nd in 2040
+  pub winter : offset (jerusalem (text "3")) (at 2040 3 22 23 59 59) ≡ some (east 120)
+  pub summer : offset (jerusalem (text "3")) (at 2040 3 23 0 0 0) ≡ some (east 180)
+  -- "version '2' .. stay[s] at 0 to 24"
+  pub version-2 : zoneOf (jerusalem (text "2")) ≡ none
 
 pub jerusalem-file : Jerusalem
 unfolding everything
-jerusalem-file = record { beyond = refl; winter = refl; summer = refl }
+jerusalem-file = record { winter = refl; summer = refl; version-2 = refl }
 
 -- ---- after RFC 5545, section 3.3.5: a local time that does not occur, and one that occurs twice
 
@@ -156,10 +155,10 @@ abbrev allYear : List ℕ
 allYear = ruledBy (text "2") (text "AAA3EDT4,0/0,J365/23")
 
 abbrev start : ChangeRule
-start = record { day = plain 0; time = 0 }
+start = record { day = plain 0; time = timeBias }
 
 abbrev end : ChangeRule
-end = record { day = julian 365; time = 82800 }
+end = record { day = julian 365; time = timeBias + 82800 }
 
 abbrev allYearZone : Zone
 allYearZone = record { initial = east 0; changes = []; footer = rules (west 180) (west 240) start end }
@@ -185,3 +184,101 @@ never-ended u =
 pub all-year : (u : ℕ) → offsetAt allYearZone u ≡ west 240
 unfolding offsetAt offsetFrom
 all-year u = daylight (west 180) (west 240) start end (east 0) u (never-ended u)
+
+-- ---- a rule time before midnight: America/Nuuk, by the footer of its file in Debian's package of the tz database, 2025b. Daylight time starts on the
+-- eve of the last Sunday of March, at 23:00 by a clock two hours behind Greenwich
+
+abbrev nuuk : List ℕ → List ℕ
+nuuk version = ruledBy version (text "<-02>2<-01>,M3.5.0/-1,M10.5.0/0")
+
+pub record Nuuk : Type 0 where
+  pub winter : offset (nuuk (text "3")) (at 2026 3 29 0 59 59) ≡ some (west 120)
+  pub summer : offset (nuuk (text "3")) (at 2026 3 29 1 0 0) ≡ some (west 60)
+  pub summer-ends : offset (nuuk (text "3")) (at 2026 10 25 0 59 59) ≡ some (west 60)
+  pub winter-again : offset (nuuk (text "3")) (at 2026 10 25 1 0 0) ≡ some (west 120)
+  -- on 28 March the clock goes from 23:00 to midnight
+  pub gap : read (nuuk (text "3")) (at 2026 3 28 23 30 0) ≡ some (at 2026 3 29 1 30 0)
+  pub version-2 : zoneOf (nuuk (text "2")) ≡ none
+
+pub nuuk-footer : Nuuk
+unfolding everything
+nuuk-footer = record { winter = refl; summer = refl; summer-ends = refl; winter-again = refl; gap = refl; version-2 = refl }
+
+-- ---- rule times: the second of 1 January, with a week added, at which daylight time starts by the footer AAA0BBB,0/time,1
+
+abbrev startTime : Footer → Option ℕ
+startTime empty = none
+startTime (fixed o) = none
+startTime (rules std dst start end) = some (start .time)
+
+abbrev timeOf : ℕ → List ℕ → Option ℕ
+timeOf version time = footerOf version (text "AAA0BBB,0/" ++ time ++ text ",1") >>= startTime
+
+abbrev in-2 : List ℕ → Option ℕ
+in-2 = timeOf (code "2")
+
+abbrev in-3 : List ℕ → Option ℕ
+in-3 = timeOf (code "3")
+
+pub record RuleTimes : Type 0 where
+  pub latest-3 : in-3 (text "167:59:59") ≡ some (timeBias + 604799)
+  pub earliest-3 : in-3 (text "-167:59:59") ≡ some (timeBias - 604799)
+  pub too-late-3 : in-3 (text "168") ≡ none
+  pub too-early-3 : in-3 (text "-168") ≡ none
+  -- the sign covers the whole time
+  pub half-hour : in-3 (text "-0:30") ≡ some (timeBias - 1800)
+  pub plus : in-3 (text "+1") ≡ some (timeBias + 3600)
+  pub three-digits : in-3 (text "002") ≡ some (timeBias + 7200)
+  pub four-digits : in-3 (text "0002") ≡ none
+  pub sign-alone : in-3 (text "-") ≡ none
+  pub two-signs : in-3 (text "--1") ≡ none
+  pub latest-2 : in-2 (text "24:59:59") ≡ some (timeBias + 89999)
+  pub too-late-2 : in-2 (text "25") ≡ none
+  pub minus-2 : in-2 (text "-1") ≡ none
+  pub plus-2 : in-2 (text "+1") ≡ none
+  pub three-digits-2 : in-2 (text "002") ≡ none
+  -- offsets stay as they are
+  pub offset-hours : footerOf (code "3") (text "AAA25") ≡ none
+  pub offset-digits : footerOf (code "3") (text "AAA024") ≡ none
+
+pub rule-times : RuleTimes
+unfolding everything
+rule-times = record {
+  latest-3 = refl;
+  earliest-3 = refl;
+  too-late-3 = refl;
+  too-early-3 = refl;
+  half-hour = refl;
+  plus = refl;
+  three-digits = refl;
+  four-digits = refl;
+  sign-alone = refl;
+  two-signs = refl;
+  latest-2 = refl;
+  too-late-2 = refl;
+  minus-2 = refl;
+  plus-2 = refl;
+  three-digits-2 = refl;
+  offset-hours = refl;
+  offset-digits = refl;
+}
+
+-- ---- changes that leave their year: `latest` needs the first and the last of the years that it looks at
+
+-- day 365 and 167:59:59: the change of 2025 comes on 7 January 2026, that of 2024 on 6 January 2025
+abbrev late : ChangeRule
+late = record { day = plain 365; time = timeBias + 604799 }
+
+-- day 0 and -167:59:59: the change of 2027 comes on 25 December 2026
+abbrev early : ChangeRule
+early = record { day = plain 0; time = timeBias - 604799 }
+
+pub record YearsNeeded : Type 0 where
+  pub two-before : latest (changeIn (east 0) late) (at 2026 1 7 23 59 58) ≡ at 2025 1 6 23 59 59
+  pub one-before : latest (changeIn (east 0) late) (at 2026 1 7 23 59 59) ≡ at 2026 1 7 23 59 59
+  pub of-the-year : latest (changeIn (east 0) early) (at 2026 12 25 0 0 0) ≡ at 2025 12 25 0 0 1
+  pub one-after : latest (changeIn (east 0) early) (at 2026 12 25 0 0 1) ≡ at 2026 12 25 0 0 1
+
+pub years-needed : YearsNeeded
+unfolding everything
+years-needed = record { two-before = refl; one-before = refl; of-the-year = refl; one-after = refl }

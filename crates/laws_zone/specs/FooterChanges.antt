@@ -11,7 +11,7 @@ use lib.Dec.{leb, ltb, leb→le}
 use borrow.Author.Tests.{le-leb, lt-leb}
 use Rattle.model.specs.Basic.{run, maximum, filter, if_then_else_}
 use Rattle.model.specs.Calendar.{isLeap, daysBeforeYear, daysBeforeMonth, daysInMonth, dayNumber, weekday}
-use Rattle.model.specs.Footer.{Day, month, julian, plain, ChangeRule, rules, dayIn, changeIn, latestClock}
+use Rattle.model.specs.Footer.{Day, month, julian, plain, ChangeRule, rules, dayIn, changeIn, timeBias, latestTime}
 use Rattle.model.specs.Zone.{latest, yearAt, ruledAt}
 use Rattle.laws_base.specs.Test.{by-test, by-either, test-of}
 use Rattle.laws_base.specs.Members.{Member, filter-passes, filter-keeps, in-map, in-run, max-above, max-below}
@@ -29,7 +29,7 @@ DayFits (plain n) = n ≤ 365
 
 pub record ChangeRuleFits (r : ChangeRule) : Type 0 where
   pub day-fits : DayFits (r .day)
-  pub time-fits : r .time ≤ latestClock
+  pub time-fits : r .time ≤ latestTime
 
 -- ---- the day of a change in a year
 
@@ -162,11 +162,11 @@ module _ (change : ℕ → ℕ) (u : ℕ) where
 -- ---- the change of a year
 
 module _ (o : ℕ) (r : ChangeRule) (ho : o ≤ greatestOffset) (f : ChangeRuleFits r) where
-  change-hi : (y : ℕ) → changeIn o r y ≤ daysBeforeYear y * daySeconds + 32238000
+  change-hi : (y : ℕ) → changeIn o r y ≤ daysBeforeYear y * daySeconds + 32752800
   unfolding changeIn
   change-hi y = omega (arith, day-hi y (r .day) (f .day-fits))
 
-  change-lo : (y : ℕ) → daysBeforeYear y * daySeconds ≤ changeIn o r y + 792000
+  change-lo : (y : ℕ) → daysBeforeYear y * daySeconds ≤ changeIn o r y + 1303200
   unfolding changeIn
   change-lo y = omega (arith, day-lo y (r .day) (f .day-fits))
 
@@ -180,7 +180,7 @@ module _ (o : ℕ) (r : ChangeRule) (ho : o ≤ greatestOffset) (f : ChangeRuleF
   change-varies y z h = omega (arith, day-varies y z (r .day) (f .day-fits), day-lo z (r .day) (f .day-fits), dby-lo z)
 
   -- when it comes, the clock that it ends shows its time on its day
-  pub change-reads : (y : ℕ) → 1 ≤ y → changeIn o r y + o ≡ dayIn y (r .day) * daySeconds + r .time + offsetBias
+  pub change-reads : (y : ℕ) → 1 ≤ y → changeIn o r y + o + timeBias ≡ dayIn y (r .day) * daySeconds + r .time + offsetBias
   unfolding changeIn
   change-reads y h = omega (arith, day-lo y (r .day) (f .day-fits), dby-lo y)
 

@@ -11,7 +11,7 @@ use borrow.Author.Tests.{leb-true, ltb-true}
 use Rattle.model.specs.Basic.{isIn, all}
 use Rattle.model.specs.Bytes.{words, pieces, lifted}
 use Rattle.model.specs.Footer.{Footer, empty, fixed, rules, changeIn, footerOf}
-use Rattle.model.specs.Tzif.{Header, headerOf, sizeOf, offsetIn, typeOk, rising, countsOk, zeroOr, Table, Zone, Change, changesOf, lineOf, tableIn, tableOf, zoneOf, mostTypes, mostTransitions, typeSize, headerSize}
+use Rattle.model.specs.Tzif.{Header, versionOf, headerOf, sizeOf, offsetIn, typeOk, rising, countsOk, zeroOr, Table, Zone, Change, changesOf, lineOf, tableIn, tableOf, zoneOf, mostTypes, mostTransitions, typeSize, headerSize}
 use Rattle.model.specs.Offset.{greatestOffset}
 use Rattle.model.specs.Zone.{utc, latest, ruledAt, offsetFrom, offsetAt, secondOf}
 use Rattle.laws_base.specs.Test.{by-test, and-both, in-bounds, all-head}
@@ -136,7 +136,7 @@ file-fits : (f : List ℕ) → Made ZoneFits (zoneOf f)
 unfolding zoneOf
 file-fits f =
     next (tableOf f) (table-fits f) (λ t h.
-    next (footerOf (t .line)) (made (footerOf (t .line)) (footer-fits (t .line))) (λ foot k.
+    next (footerOf (versionOf f) (t .line)) (made (footerOf (versionOf f) (t .line)) (footer-fits (versionOf f) (t .line))) (λ foot k.
     value (record { initial-fits = h .initial-fits; changes-fit = h .changes-fit; footer-fits = k })))
 
 pub zone-fits : (f : List ℕ) (z : Zone) → zoneOf f ≡ some z → ZoneFits z

@@ -1,13 +1,14 @@
 -- A footer: empty or a POSIX TZ string. RFC 8536 section 3.3 and POSIX.1 section 8.3 (TZ); document 01: "A daylight name needs both its
--- rules. Hours in offsets and rule times go from 0 to 24."
--- Offsets are seconds east of Greenwich plus 93,600.
+-- rules. Hours in offsets and rule times go from 0 to 24." Document 02: "For version '3' RFC 8536 lets the hours of rule times run from -167 to 167,
+-- signed. Take that range, in one to three digits; version '2' and all offsets stay at 0 to 24."
+-- Offsets are seconds east of Greenwich plus 93,600. The version is the byte of the file's header.
 use mathlib.Core.Bool.{Bool, true, false, not, _&&_, _||_}
 use mathlib.Core.Option.{Option, none, some}
 use mathlib.Core.List.{List, [], _∷_}
 use Prim.Native.Nat.{ℕ, zero, suc, _+_, _*_, _-_, _%_}
 use lib.Dec.{leb, ltb, eqb}
 use Rattle.model.specs.Basic.{if_then_else_, isIn}
-use Rattle.model.specs.Instant.{daySeconds}
+use Rattle.model.specs.Instant.{daySeconds, weekSeconds}
 use Rattle.model.specs.Offset.{offsetBias}
 use Rattle.model.specs.Calendar.{isLeap, daysBeforeYear, daysInMonth, dayNumber, weekday}
 use Prim.Native.Char.{code}
@@ -19,7 +20,11 @@ pub data Day : Type 0 where
   julian : ℕ → Day
   plain : ℕ → Day
 
--- a change: its day, and its second of that day by the clock that it ends
+-- what is added to the time of a change, which may lie before its day: a week
+abbrev pub timeBias : ℕ
+timeBias = weekSeconds
+
+-- a change: its day, and its second of that day by the clock that it ends, with a week added
 pub record ChangeRule : Type 0 where
   pub day : Day
   pub time : ℕ
@@ -30,9 +35,21 @@ pub data Footer : Type 0 where
   -- standard offset, daylight offset, start and end of daylight time
   rules : ℕ → ℕ → ChangeRule → ChangeRule → Footer
 
--- the latest time that a footer may write, 24:59:59, in seconds
-abbrev pub latestClock : ℕ
-latestClock = 89999
+-- "version '2' and all offsets stay at 0 to 24"
+abbrev pub mostHours : ℕ
+mostHours = 24
+
+-- "For version '3' .. from -167 to 167"
+abbrev pub mostRuleHours : ℕ
+mostRuleHours = 167
+
+-- the latest time of the hour h, 59 minutes and 59 seconds later
+abbrev pub latestClock : ℕ → ℕ
+latestClock h = h * 3600 + 3599
+
+-- the latest time of a change, 167:59:59 with a week added
+abbrev pub latestTime : ℕ
+latestTime = timeBias + latestClock mostRuleHours
 
 -- ---- the grammar. A parser takes what it reads from the front of the text and hands on the rest
 
@@ -92,10 +109,10 @@ number k lo hi (c ∷ s) = if isDigit c then ((digits k 0 >>= λ n. only (isIn l
 unfoldable pub sixty : Parser ℕ
 sixty = number 1 0 5 >>= λ a. number 1 0 9 >>= λ b. pure (a * 10 + b)
 
--- hh, hh:mm or hh:mm:ss, in seconds
-unfoldable pub clock : Parser ℕ
-clock = do
-  h ← number 2 0 24
+-- hh, hh:mm or hh:mm:ss, in seconds: hours of 1 to k digits, up to hi
+unfoldable pub clock : ℕ → ℕ → Parser ℕ
+clock k hi = do
+  h ← number k 0 hi
   m ← has (code ":")
   if not m then pure (h * 3600) else (do
     n ← sixty
@@ -116,13 +133,30 @@ name = do
   ok ← only (leb 3 n) true
   if quoted then byte (code ">") else pure ok
 
+-- a sign, which may be missing: whether it is a -
+unfoldable pub sign : Parser Bool
+sign = do
+  minus ← has (code "-")
+  plus ← (if minus then pure false else has (code "+"))
+  pure minus
+
 -- an offset: POSIX counts west of Greenwich
 unfoldable pub offset : Parser ℕ
 offset = do
-  east ← has (code "-")
-  plus ← (if east then pure false else has (code "+"))
-  t ← clock
+  east ← sign
+  t ← clock 2 mostHours
   pure (if east then offsetBias + t else offsetBias - t)
+
+-- "signed .. in one to three digits"; the sign is that of minutes and seconds too
+unfoldable pub signedTime : Parser ℕ
+signedTime = do
+  before ← sign
+  t ← clock 3 mostRuleHours
+  pure (if before then timeBias - t else timeBias + t)
+
+-- the time of a change
+unfoldable pub ruleTime : ℕ → Parser ℕ
+ruleTime version = if eqb version (code "3") then signedTime else (clock 2 mostHours >>= λ t. pure (timeBias + t))
 
 -- behind the M: month, week and weekday
 unfoldable pub monthText : Parser Day
@@ -142,39 +176,39 @@ dayText = do
     if j then (number 3 1 365 >>= λ n. pure (julian n)) else (number 3 0 365 >>= λ n. pure (plain n)))
 
 -- "/time" is 02:00:00 where it isn't written
-unfoldable pub changeRuleText : Parser ChangeRule
-changeRuleText = do
+unfoldable pub changeRuleText : ℕ → Parser ChangeRule
+changeRuleText version = do
   d ← dayText
   timed ← has (code "/")
-  t ← (if timed then clock else pure 7200)
+  t ← (if timed then ruleTime version else pure (timeBias + 7200))
   pure (record { day = d; time = t })
 
 -- behind the standard offset. The daylight offset is one hour ahead where it isn't written
-unfoldable pub daylightText : ℕ → Parser Footer
-daylightText std = do
+unfoldable pub daylightText : ℕ → ℕ → Parser Footer
+daylightText version std = do
   _ ← name
   short ← has (code ",")
   dst ← (if short then pure (std + 3600) else (offset >>= λ o. byte (code ",") >>= λ _. pure o))
-  start ← changeRuleText
+  start ← changeRuleText version
   _ ← byte (code ",")
-  end ← changeRuleText
+  end ← changeRuleText version
   done ← atEnd
   only done (rules std dst start end)
 
-unfoldable pub footerText : Parser Footer
-footerText = do
+unfoldable pub footerText : ℕ → Parser Footer
+footerText version = do
   _ ← name
   std ← offset
   done ← atEnd
-  if done then pure (fixed std) else daylightText std
+  if done then pure (fixed std) else daylightText version std
 
 abbrev pub parsed : {A : Type 0} → Option (A × List ℕ) → Option A
 parsed none = none
 parsed (some r) = some (r .0)
 
-unfoldable pub footerOf : List ℕ → Option Footer
-footerOf [] = some empty
-footerOf (c ∷ s) = parsed (footerText (c ∷ s))
+unfoldable pub footerOf : ℕ → List ℕ → Option Footer
+footerOf version [] = some empty
+footerOf version (c ∷ s) = parsed (footerText version (c ∷ s))
 
 -- ---- the changes of a year
 
@@ -189,8 +223,8 @@ dayIn y (plain n) = daysBeforeYear y + n
 
 -- the second at which the change comes in the year y, by a clock that shows the given offset
 unfoldable pub changeIn : ℕ → ChangeRule → ℕ → ℕ
-changeIn o r y = dayIn y (r .day) * daySeconds + r .time + offsetBias - o
+changeIn o r y = dayIn y (r .day) * daySeconds + r .time + offsetBias - (timeBias + o)
 
 unfoldable pub footers : Unit {0}
-unfolding spanned digits number sixty clock isNameByte name offset monthText dayText changeRuleText daylightText footerText footerOf dayIn changeIn
+unfolding spanned digits number sixty clock isNameByte name sign offset signedTime ruleTime monthText dayText changeRuleText daylightText footerText footerOf dayIn changeIn
 footers = tt

@@ -40,11 +40,15 @@ pub record Header : Type 0 where
   pub types : ℕ
   pub chars : ℕ
 
+-- the version's byte of a header
+abbrev pub versionOf : List ℕ → ℕ
+versionOf f = getD f 4 0
+
 -- RFC 8536 section 3.1: "TZif", the version, fifteen bytes, six counts. Document 01: "'2' or '3'"
 unfoldable pub headerOf : List ℕ → Option Header
 headerOf f =
     let n = words 4 6 (drop 20 f) in
-    let v = getD f 4 0 in
+    let v = versionOf f in
     given (leb headerSize (length f) && (eqb (be 4 f) magic && isIn 50 51 v)) (record {
       version = v;
       uts = getD n 0 0;
@@ -137,9 +141,9 @@ tableOf f =
 abbrev pub zoneWith : Table → Footer → Zone
 zoneWith t foot = record { initial = t .initial; changes = t .changes; footer = foot }
 
--- a usable file's zone: its table, and the footer that its line spells
+-- a usable file's zone: its table, and the footer that its line spells in the file's version
 unfoldable pub zoneOf : List ℕ → Option Zone
-zoneOf f = tableOf f >>= λ t. footerOf (t .line) >>= λ foot. some (zoneWith t foot)
+zoneOf f = tableOf f >>= λ t. footerOf (versionOf f) (t .line) >>= λ foot. some (zoneWith t foot)
 
 unfoldable pub tzif : Unit {0}
 unfolding headerOf rising typeOk countsOk changesOf lineOf tableIn tableOf zoneOf

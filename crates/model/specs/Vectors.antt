@@ -209,3 +209,34 @@ pub half-count :
     ≡ text "no 1 0\n"
 unfolding everything
 half-count = refl
+
+-- change request 1 of document 02: a rule time of -1 hours, <-02>2<-01>,M3.5.0/-1,M10.5.0/0, in a file of the given version. Work is from Monday to
+-- Friday, 09:00 to 17:00
+abbrev nuuk-book : List ℕ
+nuuk-book =
+    hex 32 0x0000000200000014000000060000001A0000001300044E75756B01001F00007E
+    ++ hex 13 0x90000000000000EF1000000000
+
+abbrev nuuk-header : List ℕ → List ℕ
+nuuk-header version = text "TZif" ++ version ++ hex 15 0 ++ hex 24 0x00000000_00000000_00000000_00000000_00000001_00000004 ++ hex 6 0 ++ text "UTC\0"
+
+abbrev nuuk-zones : List ℕ → List ℕ
+nuuk-zones version =
+    hex 12 0x00000001_0000000C_00000092 ++ hex 1 4 ++ text "Nuuk" ++ nuuk-header version ++ nuuk-header version
+    ++ text "\n<-02>2<-01>,M3.5.0/-1,M10.5.0/0\n"
+
+-- about the changes at 2026-03-29T01:00Z and 2026-10-25T01:00Z
+pub nuuk :
+    program bothBounds (some nuuk-book) (some (nuuk-zones (text "3")))
+    (text "previous 1774746000 0\nnext 1774746000 0\nprevious 1792890000 0\nnext 1792890000 0\n")
+    ≡ text "ok 1774609200 0 1774638000 0\nok 1774864800 0 1774893600 0\nok 1792749600 0 1792778400 0\nok 1793012400 0 1793041200 0\n"
+unfolding everything
+nuuk = refl
+
+-- in version 2 the default zone's record, at 20, names a file that is not usable
+pub nuuk-version-2 :
+    program bothBounds (some nuuk-book) (some (nuuk-zones (text "2")))
+    (text "next 1774746000 0\n")
+    ≡ text "no 5 20\n"
+unfolding everything
+nuuk-version-2 = refl

@@ -5,7 +5,7 @@ use mathlib.Core.List.{List}
 use Prim.Native.Nat.{ℕ}
 use native.Mathlib.Omega.{arith}
 use Rattle.model.specs.Footer as model
-use Rattle.model.specs.Tzif.{zoneOf}
+use Rattle.model.specs.Tzif.{versionOf, zoneOf}
 use Rattle.model.specs.Zone.{utc}
 use Rattle.laws_zone.specs.Zones.{ZoneFits, zone-fits}
 use Rattle.zone_tzif.specs.declared.Layout.{Layout}
@@ -40,12 +40,12 @@ module _ (f : List ℕ) (l : Layout) (e : readOf f ≡ T.Table l) where
   whole : (foot : Footer) → zoneOf f ≡ some (zoneIs f (zone l foot)) → Opens f (R.Opened (zone l foot))
   whole foot q = (sym q, fine-zone (record { table = opened f l e; fits = zone-fits f (zoneIs f (zone l foot)) q }))
 
-  pub open-is : (foot : Footer) {s : List ℕ} (r : ZoneRead) → s ≡ lineAt f l → footerIs foot ≡ model.footerOf s → r ≡ ruled l foot → Opens f r
+  pub open-is : (foot : Footer) {v : ℕ} {s : List ℕ} (r : ZoneRead) → v ≡ versionOf f → s ≡ lineAt f l → footerIs foot ≡ model.footerOf v s → r ≡ ruled l foot → Opens f r
   unfolding ruled
-  open-is Empty r p q d = let z = zone-read f l e in rw d (whole Empty (z ∙ rw (← p, ← q)))
-  open-is (Fixed o) r p q d = let z = zone-read f l e in rw d (whole (Fixed o) (z ∙ rw (← p, ← q)))
-  open-is (Rules a b s t) r p q d = let z = zone-read f l e in rw d (whole (Rules a b s t) (z ∙ rw (← p, ← q)))
-  open-is Broken r p q d = let z = zone-read f l e in rw d (sym (z ∙ rw (← p, ← q)), refused)
+  open-is Empty r n p q d = let z = zone-read f l e in rw d (whole Empty (z ∙ rw (← n, ← p, ← q)))
+  open-is (Fixed o) r n p q d = let z = zone-read f l e in rw d (whole (Fixed o) (z ∙ rw (← n, ← p, ← q)))
+  open-is (Rules a b s t) r n p q d = let z = zone-read f l e in rw d (whole (Rules a b s t) (z ∙ rw (← n, ← p, ← q)))
+  open-is Broken r n p q d = let z = zone-read f l e in rw d (sym (z ∙ rw (← n, ← p, ← q)), refused)
 
 utc-fits : ZoneFits utc
 utc-fits = record { initial-fits = (omega arith, omega arith); changes-fit = tt; footer-fits = tt }

@@ -55,7 +55,8 @@ pub fn open(f: &[u8]) -> ZoneRead
     };
     let at = table.line;
     let len = table.len;
-    let footer = zone_footer::parse(big_endian::part(f, at, len));
+    let version = big_endian::small_at(f, zone_tzif::VERSION_AT);
+    let footer = zone_footer::parse(big_endian::part(f, at, len), version);
     joined(table, footer)
 }
 

@@ -6,7 +6,7 @@ use native.Mathlib.Omega.{arith}
 use borrow.Author.Tests.{lt-ltb, le-ltb, lt-leb, le-leb}
 use Rattle.model.specs.Calendar.{isLeap, daysBeforeYear, daysBeforeMonth, daysInMonth, dayNumber, weekday}
 use Rattle.model.specs.Footer as model
-use Rattle.model.specs.Footer.{dayIn, changeIn}
+use Rattle.model.specs.Footer.{dayIn, changeIn, timeBias}
 use Rattle.model.specs.Zone.{yearAt}
 use Rattle.laws_base.specs.Claim.{le, if, allBelow, at-each}
 use Rattle.laws_calendar.specs.Years.{dby-hi}
@@ -100,6 +100,6 @@ pub plain-is : (y n : ℕ) {b : ℕ} → b ≡ daysBeforeYear y → b + n ≡ da
 unfolding dayIn
 plain-is y n e = rw e
 
-pub change-is : (o y : ℕ) (t : model.ChangeRule) {r k : ℕ} → k ≡ dayIn y (t .day) → r ≡ k * daySeconds + t .time + offsetBias - o → r ≡ changeIn o t y
+pub change-is : (o y : ℕ) (t : model.ChangeRule) {r k : ℕ} → k ≡ dayIn y (t .day) → r ≡ k * daySeconds + t .time + offsetBias - (timeBias + o) → r ≡ changeIn o t y
 unfolding changeIn
 change-is o y t q p = p ∙ rw q

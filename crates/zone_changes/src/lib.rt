@@ -90,7 +90,7 @@ pub fn change_in(offset: u32, rule: ChangeRule, year: u32) -> u64
     let time = rule.time;
     number::difference(
         day_in(day, year) as u64 * instant::DAY + time as u64 + zone_offset::BIAS_64,
-        offset as u64,
+        zone_footer::TIME_BIAS_64 + offset as u64,
     )
 }
 

@@ -48,5 +48,5 @@ changeRuleFrom s (When t a) = some (changeRuleIs t, drop a s)
 changeRuleFrom s Wrong = none
 
 -- a part of the model's grammar that the code reads in a function of its own: the two changes, up to the end
-unfoldable pub rulesText : ℕ → ℕ → model.Parser model.Footer
-rulesText std dst = model._>>=_ model.changeRuleText (λ start. model._>>=_ (model.byte 44) (λ _. model._>>=_ model.changeRuleText (λ end. model._>>=_ model.atEnd (λ done. model.only done (model.rules std dst start end)))))
+unfoldable pub rulesText : ℕ → ℕ → ℕ → model.Parser model.Footer
+rulesText version std dst = model._>>=_ (model.changeRuleText version) (λ start. model._>>=_ (model.byte 44) (λ _. model._>>=_ (model.changeRuleText version) (λ end. model._>>=_ model.atEnd (λ done. model.only done (model.rules std dst start end)))))

@@ -1,4 +1,4 @@
-// A footer: nothing, or a POSIX TZ string. Each function reads at a place of the text, and equals the parser of the model's Footer
+// A footer: nothing, or a POSIX TZ string as zone files of a version may have it. Each function reads at a place of the text, and equals the parser of the model's Footer
 // on what stands from that place on.
 ghost use mathlib.Core.Path.{_≡_};
 ghost use mathlib.Core.Option.{some};
@@ -11,8 +11,11 @@ ghost use Rattle.zone_footer.specs.Parsed.{IsNameEnd, dayFrom, changeRul
 use zone_footer_numbers::Num;
 use zone_footer_numbers::Skip;
 
-// The time of a change where none is written.
-const TWO_HOURS: u32 = 7200;
+// What is added to the time of a change.
+pub const TIME_BIAS_64: u64 = zone_footer_numbers::TIME_BIAS as u64;
+
+// The time of a change where none is written, 02:00:00.
+const DEFAULT_TIME: u32 = zone_footer_numbers::TIME_BIAS + 2 * zone_footer_numbers::HOUR;
 
 // The fewest bytes of a name.
 const SHORTEST_NAME: usize = 3;
@@ -24,7 +27,7 @@ pub enum Day {
     Plain(u32),
 }
 
-// A change: its day, and its second of that day by the clock that it ends.
+// A change: its day, and its second of that day by the clock that it ends, with TIME_BIAS_64 added.
 pub struct ChangeRule {
     pub day: Day,
     pub time: u32,
@@ -173,8 +176,8 @@ fn day_at(s: &[u8], at: usize) -> DayAt
 }
 
 // A change. "/time" is 02:00:00 where it isn't written.
-fn change_rule_at(s: &[u8], at: usize) -> ChangeRuleAt
-    ensures { λ r. ⌜ changeRuleFrom (now (s .entry)) r ≡ grammar.changeRuleText (drop at (now (s .entry))) ⌝ }
+fn change_rule_at(s: &[u8], at: usize, version: usize) -> ChangeRuleAt
+    ensures { λ r. ⌜ changeRuleFrom (now (s .entry)) r ≡ grammar.changeRuleText version (drop at (now (s .entry))) ⌝ }
 {
     let DayAt::On(d, a) = day_at(s, at) else {
         return ChangeRuleAt::Wrong;
@@ -183,28 +186,28 @@ fn change_rule_at(s: &[u8], at: usize) -> ChangeRuleAt
         return ChangeRuleAt::When(
             ChangeRule {
                 day: d,
-                time: TWO_HOURS,
+                time: DEFAULT_TIME,
             },
             a,
         );
     };
-    let Num::Val(t, e) = zone_footer_numbers::clock(s, b) else {
+    let Num::Val(t, e) = zone_footer_numbers::rule_time(s, b, version) else {
         return ChangeRuleAt::Wrong;
     };
     ChangeRuleAt::When(ChangeRule { day: d, time: t }, e)
 }
 
 // The two changes, up to the end.
-fn rules(s: &[u8], at: usize, std: u32, dst: u32) -> Footer
-    ensures { λ r. ⌜ footerIs r ≡ grammar.parsed (rulesText std dst (drop at (now (s .entry)))) ⌝ }
+fn rules(s: &[u8], at: usize, version: usize, std: u32, dst: u32) -> Footer
+    ensures { λ r. ⌜ footerIs r ≡ grammar.parsed (rulesText version std dst (drop at (now (s .entry)))) ⌝ }
 {
-    let ChangeRuleAt::When(start, a) = change_rule_at(s, at) else {
+    let ChangeRuleAt::When(start, a) = change_rule_at(s, at, version) else {
         return Footer::Broken;
     };
     let Skip::To(b) = zone_footer_numbers::exact(s, a, b',') else {
         return Footer::Broken;
     };
-    let ChangeRuleAt::When(end, e) = change_rule_at(s, b) else {
+    let ChangeRuleAt::When(end, e) = change_rule_at(s, b, version) else {
         return Footer::Broken;
     };
     if done(s, e) {
@@ -214,15 +217,15 @@ fn rules(s: &[u8], at: usize, std: u32, dst: u32) -> Footer
 }
 
 // Behind the standard offset. The daylight offset is one hour ahead where it isn't written.
-fn daylight(s: &[u8], at: usize, std: u32) -> Footer
+fn daylight(s: &[u8], at: usize, version: usize, std: u32) -> Footer
     requires { ⌜ std ≤ greatestOffset ⌝ }
-    ensures { λ r. ⌜ footerIs r ≡ grammar.parsed (grammar.daylightText std (drop at (now (s .entry)))) ⌝ }
+    ensures { λ r. ⌜ footerIs r ≡ grammar.parsed (grammar.daylightText version std (drop at (now (s .entry)))) ⌝ }
 {
     let Skip::To(a) = name(s, at) else {
         return Footer::Broken;
     };
     if let Skip::To(b) = zone_footer_numbers::mark(s, a, b',') {
-        return rules(s, b, std, std + zone_footer_numbers::HOUR);
+        return rules(s, b, version, std, std + zone_footer_numbers::HOUR);
     }
     let Num::Val(dst, b) = zone_footer_numbers::offset(s, a) else {
         return Footer::Broken;
@@ -230,12 +233,12 @@ fn daylight(s: &[u8], at: usize, std: u32) -> Footer
     let Skip::To(e) = zone_footer_numbers::exact(s, b, b',') else {
         return Footer::Broken;
     };
-    rules(s, e, std, dst)
+    rules(s, e, version, std, dst)
 }
 
-// The footer that the text is.
-pub fn parse(s: &[u8]) -> Footer
-    ensures { λ r. ⌜ footerIs r ≡ grammar.footerOf (now (s .entry)) ⌝ }
+// The footer that the text is, in a zone file of the given version.
+pub fn parse(s: &[u8], version: usize) -> Footer
+    ensures { λ r. ⌜ footerIs r ≡ grammar.footerOf version (now (s .entry)) ⌝ }
 {
     if s.len() == 0 {
         return Footer::Empty;
@@ -249,5 +252,5 @@ pub fn parse(s: &[u8]) -> Footer
     if done(s, b) {
         return Footer::Fixed(std);
     }
-    daylight(s, b, std)
+    daylight(s, b, version, std)
 }

@@ -49,15 +49,15 @@ module _ (s : List ℕ) (at k lo hi : ℕ) where
         pub number-is : lo ≤ n → n ≤ hi → some (n, drop a s) ≡ number k lo hi (drop at s)
         number-is l m = rw (number-of p q r d, f, le-leb lo n l, le-leb n hi m)
 
-pub footer-empty : (s : List ℕ) → length s ≡ 0 → some empty ≡ footerOf s
+pub footer-empty : (version : ℕ) (s : List ℕ) → length s ≡ 0 → some empty ≡ footerOf version s
 unfolding footerOf
-footer-empty [] h = refl
-footer-empty (c ∷ s) h = absurd (omega arith)
+footer-empty version [] h = refl
+footer-empty version (c ∷ s) h = absurd (omega arith)
 
-pub footer-is : (s : List ℕ) {f : Option Footer} → 0 < length s → f ≡ parsed (footerText (drop 0 s)) → f ≡ footerOf s
+pub footer-is : (version : ℕ) (s : List ℕ) {f : Option Footer} → 0 < length s → f ≡ parsed (footerText version (drop 0 s)) → f ≡ footerOf version s
 unfolding footerOf
-footer-is [] h e = absurd (omega arith)
-footer-is (c ∷ s) h e = e
+footer-is version [] h e = absurd (omega arith)
+footer-is version (c ∷ s) h e = e
 
 -- a number that was read is as small as was said of it
 pub value-le : {r : Num} {v a m : ℕ} → r ≡ Val v a → valueOf r ≤ m → v ≤ m

@@ -3,14 +3,13 @@ use mathlib.Core.Bool.{Bool, true, false}
 use mathlib.Core.Option.{Option, none, some}
 use mathlib.Core.List.{List}
 use mathlib.Core.Path.{_≡_}
-use Prim.Native.Nat.{ℕ, _-_, _≤_}
+use Prim.Native.Nat.{ℕ, _≤_}
 use lib.ListN.{drop}
 use Rattle.model.specs.Footer as model
 use Rattle.zone_footer_numbers.specs.declared.Num.{Num}
 use Rattle.zone_footer_numbers.specs.declared.Num.the-variants.{Val, Bad}
 use Rattle.zone_footer_numbers.specs.declared.Skip.{Skip}
 use Rattle.zone_footer_numbers.specs.declared.Skip.the-variants.{To, Not}
-use Rattle.model.specs.Offset.{offsetBias}
 
 -- the number, and the text behind it
 abbrev pub numberIn : List ℕ → Num → Option (ℕ × List ℕ)
@@ -39,7 +38,3 @@ markIn s at Not = some (false, drop at s)
 abbrev pub skipIn : List ℕ → Skip → Option (Bool × List ℕ)
 skipIn s (To a) = some (true, drop a s)
 skipIn s Not = none
-
--- a part of the model's grammar that the code reads in a function of its own
-unfoldable pub westText : model.Parser ℕ
-westText = model._>>=_ model.clock (λ t. model.pure (offsetBias - t))

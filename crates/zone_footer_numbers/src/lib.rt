@@ -1,17 +1,29 @@
-// The signs and numbers of a footer: marks, numbers, times of a clock and offsets. Each function reads at a place of the text, and equals the parser
+// The signs and numbers of a footer: marks, numbers, times of a clock, offsets and rule times. Each function reads at a place of the text, and equals the parser
 // of the model's Footer on what stands from that place on.
 ghost use mathlib.Core.Path.{_≡_};
+ghost use mathlib.Core.Option.{some};
 ghost use Prim.Native.Nat.{_≤_, _<_};
 ghost use lib.ListN.{drop};
 ghost use Rattle.model.specs.Footer as grammar;
-ghost use Rattle.model.specs.Footer.{latestClock};
+ghost use Rattle.model.specs.Footer.{mostRuleHours, latestClock, latestTime};
 ghost use Rattle.model.specs.Offset.{offsetBias, greatestOffset};
-ghost use Rattle.zone_footer_numbers.specs.Numbered.{threeDigits, IsNumber, markIn, skipIn, westText};
+ghost use Rattle.zone_footer_numbers.specs.Numbered.{threeDigits, IsNumber, markIn, skipIn};
 
 // The seconds of a minute and of an hour.
 const MINUTE: u32 = 60;
 
 pub const HOUR: u32 = 3600;
+
+// What is added to a rule time, which may lie before its day: a week.
+pub const TIME_BIAS: u32 = 604800;
+
+// The most hours of an offset, of a rule time in version 2, and of one in version 3.
+const MOST_HOURS: u32 = 24;
+
+const MOST_RULE_HOURS: u32 = 167;
+
+// The version of zone files whose rule times have signs, and hours of up to three digits.
+const WIDE_VERSION: usize = 51;
 
 // A number and the place behind it.
 pub enum Num {
@@ -23,6 +35,12 @@ pub enum Num {
 pub enum Skip {
     To(usize),
     Not,
+}
+
+// Whether a sign is a -, and the place behind it.
+pub struct SignAt {
+    pub minus: bool,
+    pub end: usize,
 }
 
 // Whether the byte at the place is b.
@@ -114,11 +132,12 @@ fn sixty(s: &[u8], at: usize) -> Num
     Num::Val(x * 10 + y, b)
 }
 
-// hh, hh:mm or hh:mm:ss, in seconds.
-pub fn clock(s: &[u8], at: usize) -> Num
-    ensures { λ r. ⌜ IsNumber grammar.clock (now (s .entry)) at latestClock r ⌝ }
+// hh, hh:mm or hh:mm:ss, in seconds: hours of 1 to k digits, up to hi.
+fn clock(s: &[u8], at: usize, k: u32, hi: u32) -> Num
+    requires { ⌜ (k ≤ 3) × (hi ≤ mostRuleHours) ⌝ }
+    ensures { λ r. ⌜ IsNumber (grammar.clock k hi) (now (s .entry)) at (latestClock hi) r ⌝ }
 {
-    let Num::Val(h, a) = number(s, at, 2, 0, 24) else {
+    let Num::Val(h, a) = number(s, at, k, 0, hi) else {
         return Num::Bad;
     };
     let Skip::To(b) = mark(s, a, b':') else {
@@ -136,28 +155,65 @@ pub fn clock(s: &[u8], at: usize) -> Num
     Num::Val(h * HOUR + m * MINUTE + x, f)
 }
 
-// A time behind Greenwich, as an offset.
-fn west(s: &[u8], at: usize) -> Num
-    ensures { λ r. ⌜ IsNumber westText (now (s .entry)) at offsetBias r ⌝ }
+// A sign, which may be missing.
+fn sign(s: &[u8], at: usize) -> SignAt
+    ensures { λ r. ⌜ some (r .minus, drop (r .end) (now (s .entry))) ≡ grammar.sign (drop at (now (s .entry))) ⌝ }
 {
-    let Num::Val(t, a) = clock(s, at) else {
-        return Num::Bad;
-    };
-    Num::Val(zone_offset::BIAS - t, a)
+    if let Skip::To(a) = mark(s, at, b'-') {
+        return SignAt {
+            minus: true,
+            end: a,
+        };
+    }
+    if let Skip::To(a) = mark(s, at, b'+') {
+        return SignAt {
+            minus: false,
+            end: a,
+        };
+    }
+    SignAt {
+        minus: false,
+        end: at,
+    }
 }
 
 // An offset: POSIX counts west of Greenwich.
 pub fn offset(s: &[u8], at: usize) -> Num
     ensures { λ r. ⌜ IsNumber grammar.offset (now (s .entry)) at greatestOffset r ⌝ }
 {
-    if let Skip::To(a) = mark(s, at, b'-') {
-        let Num::Val(t, e) = clock(s, a) else {
-            return Num::Bad;
-        };
-        return Num::Val(zone_offset::BIAS + t, e);
+    let east = sign(s, at);
+    let Num::Val(t, a) = clock(s, east.end, 2, MOST_HOURS) else {
+        return Num::Bad;
+    };
+    if east.minus {
+        return Num::Val(zone_offset::BIAS + t, a);
     }
-    if let Skip::To(a) = mark(s, at, b'+') {
-        return west(s, a);
+    Num::Val(zone_offset::BIAS - t, a)
+}
+
+// A time with a sign, which is that of its minutes and seconds too.
+fn signed_time(s: &[u8], at: usize) -> Num
+    ensures { λ r. ⌜ IsNumber grammar.signedTime (now (s .entry)) at latestTime r ⌝ }
+{
+    let before = sign(s, at);
+    let Num::Val(t, a) = clock(s, before.end, 3, MOST_RULE_HOURS) else {
+        return Num::Bad;
+    };
+    if before.minus {
+        return Num::Val(TIME_BIAS - t, a);
     }
-    west(s, at)
+    Num::Val(TIME_BIAS + t, a)
+}
+
+// The time of a change, with TIME_BIAS added, in a zone file of the given version.
+pub fn rule_time(s: &[u8], at: usize, version: usize) -> Num
+    ensures { λ r. ⌜ IsNumber (grammar.ruleTime version) (now (s .entry)) at latestTime r ⌝ }
+{
+    if version == WIDE_VERSION {
+        return signed_time(s, at);
+    }
+    let Num::Val(t, a) = clock(s, at, 2, MOST_HOURS) else {
+        return Num::Bad;
+    };
+    Num::Val(TIME_BIAS + t, a)
 }

@@ -7,7 +7,7 @@ use native.Mathlib.Omega.{arith}
 use Rattle.model.specs.Bytes.{hex, text}
 use Rattle.model.specs.Calendar.{dayNumber}
 use Rattle.model.specs.Instant.{epoch, daySeconds}
-use Rattle.model.specs.Footer.{month, empty, rules}
+use Rattle.model.specs.Footer.{month, empty, rules, timeBias}
 use Rattle.model.specs.Tzif.{Zone, Change, zoneOf}
 use Rattle.model.specs.Offset.{offsetBias}
 use Rattle.model.specs.All.{everything}
@@ -69,7 +69,7 @@ abbrev berlin : Zone
 berlin = record {
   initial = 97200;
   changes = [];
-  footer = rules 97200 100800 (record { day = month 3 5 0; time = 7200 }) (record { day = month 10 5 0; time = 10800 });
+  footer = rules 97200 100800 (record { day = month 3 5 0; time = timeBias + 7200 }) (record { day = month 10 5 0; time = timeBias + 10800 });
 }
 
 berlin-fits : FooterFits (berlin .footer)

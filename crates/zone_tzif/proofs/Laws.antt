@@ -11,7 +11,7 @@ use lib.ListN.{length, getD}
 use borrow.Author.Tests.{lt-ltb, le-ltb, le-leb, lt-leb, leb-true, ltb-true, ltb-false}
 use Rattle.model.specs.Basic.{if_then_else_, _>>=_, isIn}
 use Rattle.model.specs.Footer.{Footer, footerOf}
-use Rattle.model.specs.Tzif.{countsOk, zeroOr, tableOf, zoneOf, mostTypes, mostTransitions}
+use Rattle.model.specs.Tzif.{countsOk, zeroOr, versionOf, tableOf, zoneOf, mostTypes, mostTransitions}
 use Rattle.model.specs.Offset.{greatestOffset}
 use Rattle.model.specs.Zone.{offsetFrom, offsetAt, ruledAt}
 use Rattle.laws_base.specs.Test.{by-test, and-both, never}
@@ -156,7 +156,7 @@ module _ (f : List ℕ) where
   table-unusable q = rw (table-is f, read-none q)
 
   -- the zone of a file that `read` takes, given what its footer's line spells
-  pub zone-read : (l : Layout) → readOf f ≡ R.Table l → zoneOf f ≡ (footerOf (lineAt f l) >>= λ foot. some (zoneAt f l foot))
+  pub zone-read : (l : Layout) → readOf f ≡ R.Table l → zoneOf f ≡ (footerOf (versionOf f) (lineAt f l) >>= λ foot. some (zoneAt f l foot))
   unfolding zoneOf
   zone-read l q = rw (table-read l q)
 

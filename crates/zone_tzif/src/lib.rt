@@ -12,7 +12,7 @@ ghost use Rattle.zone_tzif.specs.Opened.{Opened, TableBounds, countAt, u
 use zone_tzif_head::Head;
 
 // Where a file's version stands.
-const VERSION_AT: usize = 4;
+pub const VERSION_AT: usize = 4;
 
 // How far before its block a header has the number of types.
 const TYPES_BEFORE: usize = 8;

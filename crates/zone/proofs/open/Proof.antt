@@ -18,6 +18,9 @@ enum-told c = search needs
 returns : tie.Need-returns
 returns c = (sym (zone-unusable _ (sym (c .before .before .read .ensures) ∙ c .enum-told .given .1)), refused)
 
+small-at-requires : tie.Need-small-at-requires
+small-at-requires c κs = search needs
+
 part-requires : tie.Need-part-requires
 part-requires c κs = search needs
 
@@ -28,7 +31,7 @@ joined-requires : tie.Need-joined-requires
 joined-requires c κs = search needs
 
 returns-2 : tie.Need-returns-2
-returns-2 c = open-is _ _ (sym (c .before .before .before .before .before .before .read .ensures) ∙ c .before .before .before .before .table .given .1) _ _ (c .before .before .part .ensures) (c .before .parse .ensures) (c .joined .ensures)
+returns-2 c = open-is _ _ (sym (c .before .before .before .before .before .before .before .read .ensures) ∙ c .before .before .before .before .before .table .given .1) _ _ (c .before .before .before .small-at .ensures .0) (c .before .before .part .ensures) (c .before .parse .ensures) (c .joined .ensures)
 
 pub open-spec : {M : Type 1} → statement M
 open-spec =
@@ -38,6 +41,7 @@ open-spec =
     enum-known-table
     enum-told
     returns
+    small-at-requires
     part-requires
     parse-requires
     joined-requires

@@ -23,6 +23,9 @@ add-difference c = search needs
 add-difference-2 : tie.Need-add-difference-2
 add-difference-2 c = search needs
 
+add-difference-3 : tie.Need-add-difference-3
+add-difference-3 c = search needs
+
 difference-requires : tie.Need-difference-requires
 difference-requires c κs = search needs
 
@@ -39,5 +42,6 @@ change-in-spec =
     cast-difference-2
     add-difference
     add-difference-2
+    add-difference-3
     difference-requires
     returns)

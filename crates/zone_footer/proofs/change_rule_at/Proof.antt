@@ -30,8 +30,8 @@ returns-2 : tie.Need-returns-2
 unfolding changeRuleText
 returns-2 c = rw (← (c .before .before .before .before .before .before .day-at .ensures), (c .before .before .before .before .d .given .1), ← (c .before .before .mark .ensures), (c .enum-told2 .given .1))
 
-clock-requires : tie.Need-clock-requires
-clock-requires c κs = search needs
+rule-time-requires : tie.Need-rule-time-requires
+rule-time-requires c κs = search needs
 
 enum-known-t : tie.Need-enum-known-t
 enum-known-t c = search needs
@@ -41,11 +41,11 @@ enum-told-3 c = search needs
 
 returns-3 : tie.Need-returns-3
 unfolding changeRuleText
-returns-3 c = rw (← (c .before .before .before .before .before .before .before .before .before .before .day-at .ensures), (c .before .before .before .before .before .before .before .before .d .given .1), ← (c .before .before .before .before .before .before .mark .ensures), (c .before .before .before .before .b .given .1), ← (c .before .before .clock .ensures .0), (c .enum-told3 .given .1))
+returns-3 c = rw (← (c .before .before .before .before .before .before .before .before .before .before .day-at .ensures), (c .before .before .before .before .before .before .before .before .d .given .1), ← (c .before .before .before .before .before .before .mark .ensures), (c .before .before .before .before .b .given .1), ← (c .before .before .rule-time .ensures .0), (c .enum-told3 .given .1))
 
 returns-4 : tie.Need-returns-4
 unfolding changeRuleText
-returns-4 c = rw (← (c .before .before .before .before .before .before .before .before .before .before .before .day-at .ensures), (c .before .before .before .before .before .before .before .before .before .d .given .1), ← (c .before .before .before .before .before .before .before .mark .ensures), (c .before .before .before .before .before .b .given .1), ← (c .before .before .before .clock .ensures .0), (c .before .t .given .1))
+returns-4 c = rw (← (c .before .before .before .before .before .before .before .before .before .before .before .day-at .ensures), (c .before .before .before .before .before .before .before .before .before .d .given .1), ← (c .before .before .before .before .before .before .before .mark .ensures), (c .before .before .before .before .before .b .given .1), ← (c .before .before .before .rule-time .ensures .0), (c .before .t .given .1))
 
 pub change-rule-at-spec : {M : Type 1} → statement M
 change-rule-at-spec =
@@ -59,7 +59,7 @@ change-rule-at-spec =
     enum-known-b
     enum-told-2
     returns-2
-    clock-requires
+    rule-time-requires
     enum-known-t
     enum-told-3
     returns-3

@@ -28,8 +28,8 @@ enum-known-b c = search needs
 enum-told-2 : tie.Need-enum-told-2
 enum-told-2 c = search needs
 
-mul-t13 : tie.Need-mul-t13
-mul-t13 c = omega (arith, value-le (c .before .before .before .before .h .given .1) (c .before .before .before .before .before .before .number .ensures .1))
+mul-t15 : tie.Need-mul-t15
+mul-t15 c = omega (arith, c .before .before .before .before .before .before .before .before .pre .1, value-le (c .before .before .before .before .h .given .1) (c .before .before .before .before .before .before .number .ensures .1))
 
 returns-2 : tie.Need-returns-2
 unfolding clock
@@ -57,14 +57,14 @@ enum-known-e c = search needs
 enum-told-4 : tie.Need-enum-told-4
 enum-told-4 c = search needs
 
-mul-t16 : tie.Need-mul-t16
-mul-t16 c = omega (arith, value-le (c .before .before .before .before .before .before .before .before .before .before .before .before .h .given .1) (c .before .before .before .before .before .before .before .before .before .before .before .before .before .before .number .ensures .1))
+mul-t18 : tie.Need-mul-t18
+mul-t18 c = omega (arith, c .before .before .before .before .before .before .before .before .before .before .before .before .before .before .before .before .pre .1, value-le (c .before .before .before .before .before .before .before .before .before .before .before .before .h .given .1) (c .before .before .before .before .before .before .before .before .before .before .before .before .before .before .number .ensures .1))
 
-mul-t17 : tie.Need-mul-t17
-mul-t17 c = omega (arith, value-le (c .before .before .before .before .m .given .1) (c .before .before .before .before .before .before .sixty .ensures .1))
+mul-t19 : tie.Need-mul-t19
+mul-t19 c = omega (arith, value-le (c .before .before .before .before .m .given .1) (c .before .before .before .before .before .before .sixty .ensures .1))
 
-add-t18 : tie.Need-add-t18
-add-t18 c = omega (arith, value-le (c .before .before .before .before .before .before .before .before .before .before .before .before .h .given .1) (c .before .before .before .before .before .before .before .before .before .before .before .before .before .before .number .ensures .1), value-le (c .before .before .before .before .m .given .1) (c .before .before .before .before .before .before .sixty .ensures .1))
+add-t20 : tie.Need-add-t20
+add-t20 c = omega (arith, c .before .before .before .before .before .before .before .before .before .before .before .before .before .before .before .before .pre .1, value-le (c .before .before .before .before .before .before .before .before .before .before .before .before .h .given .1) (c .before .before .before .before .before .before .before .before .before .before .before .before .before .before .number .ensures .1), value-le (c .before .before .before .before .m .given .1) (c .before .before .before .before .before .before .sixty .ensures .1))
 
 returns-4 : tie.Need-returns-4
 unfolding clock
@@ -83,17 +83,17 @@ returns-5 : tie.Need-returns-5
 unfolding clock
 returns-5 c = (rw (← (c .before .before .before .before .before .before .before .before .before .before .before .before .before .before .before .before .before .before .number .ensures .0), (c .before .before .before .before .before .before .before .before .before .before .before .before .before .before .before .before .h .given .1), ← (c .before .before .before .before .before .before .before .before .before .before .before .before .before .before .mark .ensures), (c .before .before .before .before .before .before .before .before .before .before .before .before .b .given .1), ← (c .before .before .before .before .before .before .before .before .before .before .sixty .ensures .0), (c .before .before .before .before .before .before .before .before .m .given .1), ← (c .before .before .before .before .before .before .mark2 .ensures), (c .before .before .before .before .e .given .1), ← (c .before .before .sixty2 .ensures .0), (c .enum-told5 .given .1)), search needs)
 
-mul-t20 : tie.Need-mul-t20
-mul-t20 c = omega (arith, value-le (c .before .before .before .before .before .before .before .before .before .before .before .before .before .before .before .before .before .h .given .1) (c .before .before .before .before .before .before .before .before .before .before .before .before .before .before .before .before .before .before .before .number .ensures .1))
+mul-t22 : tie.Need-mul-t22
+mul-t22 c = omega (arith, c .before .before .before .before .before .before .before .before .before .before .before .before .before .before .before .before .before .before .before .before .before .pre .1, value-le (c .before .before .before .before .before .before .before .before .before .before .before .before .before .before .before .before .before .h .given .1) (c .before .before .before .before .before .before .before .before .before .before .before .before .before .before .before .before .before .before .before .number .ensures .1))
 
-mul-t21 : tie.Need-mul-t21
-mul-t21 c = omega (arith, value-le (c .before .before .before .before .before .before .before .before .before .m .given .1) (c .before .before .before .before .before .before .before .before .before .before .before .sixty .ensures .1))
+mul-t23 : tie.Need-mul-t23
+mul-t23 c = omega (arith, value-le (c .before .before .before .before .before .before .before .before .before .m .given .1) (c .before .before .before .before .before .before .before .before .before .before .before .sixty .ensures .1))
 
-add-t22 : tie.Need-add-t22
-add-t22 c = omega (arith, value-le (c .before .before .before .before .before .before .before .before .before .before .before .before .before .before .before .before .before .h .given .1) (c .before .before .before .before .before .before .before .before .before .before .before .before .before .before .before .before .before .before .before .number .ensures .1), value-le (c .before .before .before .before .before .before .before .before .before .m .given .1) (c .before .before .before .before .before .before .before .before .before .before .before .sixty .ensures .1))
+add-t24 : tie.Need-add-t24
+add-t24 c = omega (arith, c .before .before .before .before .before .before .before .before .before .before .before .before .before .before .before .before .before .before .before .before .before .pre .1, value-le (c .before .before .before .before .before .before .before .before .before .before .before .before .before .before .before .before .before .h .given .1) (c .before .before .before .before .before .before .before .before .before .before .before .before .before .before .before .before .before .before .before .number .ensures .1), value-le (c .before .before .before .before .before .before .before .before .before .m .given .1) (c .before .before .before .before .before .before .before .before .before .before .before .sixty .ensures .1))
 
-add-t23 : tie.Need-add-t23
-add-t23 c = omega (arith, value-le (c .before .before .before .before .before .before .before .before .before .before .before .before .before .before .before .before .before .h .given .1) (c .before .before .before .before .before .before .before .before .before .before .before .before .before .before .before .before .before .before .before .number .ensures .1), value-le (c .before .before .before .before .before .before .before .before .before .m .given .1) (c .before .before .before .before .before .before .before .before .before .before .before .sixty .ensures .1), value-le (c .before .x .given .1) (c .before .before .before .sixty2 .ensures .1))
+add-t25 : tie.Need-add-t25
+add-t25 c = omega (arith, c .before .before .before .before .before .before .before .before .before .before .before .before .before .before .before .before .before .before .before .before .before .pre .1, value-le (c .before .before .before .before .before .before .before .before .before .before .before .before .before .before .before .before .before .h .given .1) (c .before .before .before .before .before .before .before .before .before .before .before .before .before .before .before .before .before .before .before .number .ensures .1), value-le (c .before .before .before .before .before .before .before .before .before .m .given .1) (c .before .before .before .before .before .before .before .before .before .before .before .sixty .ensures .1), value-le (c .before .x .given .1) (c .before .before .before .sixty2 .ensures .1))
 
 returns-6 : tie.Need-returns-6
 unfolding clock
@@ -110,7 +110,7 @@ clock-spec =
     mark-requires
     enum-known-b
     enum-told-2
-    mul-t13
+    mul-t15
     returns-2
     sixty-requires
     enum-known-m
@@ -119,16 +119,16 @@ clock-spec =
     mark-requires-2
     enum-known-e
     enum-told-4
-    mul-t16
-    mul-t17
-    add-t18
+    mul-t18
+    mul-t19
+    add-t20
     returns-4
     sixty-requires-2
     enum-known-x
     enum-told-5
     returns-5
-    mul-t20
-    mul-t21
-    add-t22
-    add-t23
+    mul-t22
+    mul-t23
+    add-t24
+    add-t25
     returns-6)
