@@ -23,7 +23,7 @@ const MOST_HOURS: u32 = 24;
 const MOST_RULE_HOURS: u32 = 167;
 
 // The version of zone files whose rule times have signs, and hours of up to three digits.
-const WIDE_VERSION: usize = 51;
+const WIDE_VERSION: usize = b'3' as usize;
 
 // A number and the place behind it.
 pub enum Num {

@@ -1,52 +1,48 @@
+-- `zone_footer_numbers::offset` meets its contract.
 use Rattle.zone_footer_numbers.proofs.Numbers.{value-le}
+use mathlib.Core.Bool.{Bool}
+use Prim.Native.Nat.{ℕ, _+_, _-_}
 use native.Mathlib.Omega.{arith}
-use Rattle.model.specs.Footer.{offset}
+use Rattle.model.specs.Basic.{if_then_else_}
+use Rattle.zone_footer_numbers.proofs.Signed.{signed-none, signed-is}
+use Rattle.model.specs.Footer.{offset, mostHours}
+use Rattle.model.specs.Offset.{offsetBias}
 use borrow.Author.Needs.{needs}
 use Rattle.zone_footer_numbers.proofs.offset.Statement.{statement}
 use Rattle.zone_footer_numbers.proofs.offset.Tie as tie
-use Rattle.zone_footer_numbers.proofs.offset.Reads as reads
-use Rattle.zone_footer_numbers.proofs.offset.Lts as lts
-use Rattle.zone_footer_numbers.proofs.clock.Reads as clock-reads
-use Rattle.zone_footer_numbers.proofs.sign.Reads as sign-reads
 
--- src/lib.rt:184:9
+abbrev offsetValue : Bool → ℕ → ℕ
+offsetValue east t = if east then offsetBias + t else offsetBias - t
+
 sign-requires : tie.Need-sign-requires
 sign-requires c κs = search needs
 
--- src/lib.rt:185:26
 clock-requires : tie.Need-clock-requires
 clock-requires c κs = search needs
 
--- src/lib.rt:185:18
 enum-known-t : tie.Need-enum-known-t
 enum-known-t c = search needs
 
--- src/lib.rt:186:9
 enum-told : tie.Need-enum-told
 enum-told c = search needs
 
--- src/lib.rt:186:9
 returns : tie.Need-returns
 unfolding offset
-returns c = (rw (← (c .before .before .before .sign .ensures), ← (c .before .before .clock .ensures .0), (c .enum-told .given .1)), search needs)
+returns c = (signed-none offsetValue 2 mostHours _ _ _ (c .before .before .before .sign .ensures) (c .before .before .clock .ensures .0) (c .enum-told .given .1), search needs)
 
--- src/lib.rt:189:25
 add-t8 : tie.Need-add-t8
 add-t8 c = omega (arith, value-le (c .before .before .t .given .1) (c .before .before .before .before .clock .ensures .1))
 
--- src/lib.rt:189:9
 returns-2 : tie.Need-returns-2
 unfolding offset
-returns-2 c = (rw (← (c .before .before .before .before .before .sign .ensures), ← (c .before .before .before .before .clock .ensures .0), (c .before .before .t .given .1), (c .if1 .taken)), omega (arith, value-le (c .before .before .t .given .1) (c .before .before .before .before .clock .ensures .1)))
+returns-2 c = (signed-is offsetValue 2 mostHours _ _ _ (c .before .before .before .before .before .sign .ensures) (c .before .before .before .before .clock .ensures .0) (c .before .before .t .given .1) (rw (c .if1 .taken)), omega (arith, value-le (c .before .before .t .given .1) (c .before .before .before .before .clock .ensures .1)))
 
--- src/lib.rt:191:14
 sub-t9 : tie.Need-sub-t9
 sub-t9 c = omega (arith, value-le (c .before .before .t .given .1) (c .before .before .before .before .clock .ensures .1))
 
--- src/lib.rt:181:1
 returns-3 : tie.Need-returns-3
 unfolding offset
-returns-3 c = (rw (← (c .before .before .before .before .before .sign .ensures), ← (c .before .before .before .before .clock .ensures .0), (c .before .before .t .given .1), (c .if1 .left)), omega (arith, value-le (c .before .before .t .given .1) (c .before .before .before .before .clock .ensures .1)))
+returns-3 c = (signed-is offsetValue 2 mostHours _ _ _ (c .before .before .before .before .before .sign .ensures) (c .before .before .before .before .clock .ensures .0) (c .before .before .t .given .1) (rw (c .if1 .left)), omega (arith, value-le (c .before .before .t .given .1) (c .before .before .before .before .clock .ensures .1)))
 
 pub offset-spec : {M : Type 1} → statement M
 offset-spec =

@@ -1,20 +1,15 @@
+-- `zone_footer_numbers::sign` meets its contract.
 use Rattle.model.specs.Footer.{sign}
 use borrow.Author.Needs.{needs}
 use Rattle.zone_footer_numbers.proofs.sign.Statement.{statement}
 use Rattle.zone_footer_numbers.proofs.sign.Tie as tie
-use Rattle.zone_footer_numbers.proofs.sign.Reads as reads
-use Rattle.zone_footer_numbers.proofs.sign.Lts as lts
-use Rattle.zone_footer_numbers.proofs.mark.Reads as mark-reads
 
--- src/lib.rt:162:26
 mark-requires : tie.Need-mark-requires
 mark-requires c κs = search needs
 
--- src/lib.rt:162:21
 enum-known-a : tie.Need-enum-known-a
 enum-known-a c = search needs
 
--- src/lib.rt:163:9
 returns : tie.Need-returns
 unfolding sign
 returns c = rw (← (c .before .before .before .mark .ensures), (c .before .a .given .1))
@@ -22,15 +17,12 @@ returns c = rw (← (c .before .before .before .mark .ensures), (c .before .a .g
 enum-told : tie.Need-enum-told
 enum-told c = search needs
 
--- src/lib.rt:168:26
 mark-requires-2 : tie.Need-mark-requires-2
 mark-requires-2 c κs = search needs
 
--- src/lib.rt:168:21
 enum-known-a-2 : tie.Need-enum-known-a-2
 enum-known-a-2 c = search needs
 
--- src/lib.rt:169:9
 returns-2 : tie.Need-returns-2
 unfolding sign
 returns-2 c = rw (← (c .before .before .before .before .before .before .mark .ensures), (c .before .before .before .before .enum-told .given .1), ← (c .before .before .before .mark2 .ensures), (c .before .a2 .given .1))
@@ -38,7 +30,6 @@ returns-2 c = rw (← (c .before .before .before .before .before .before .mark .
 enum-told-2 : tie.Need-enum-told-2
 enum-told-2 c = search needs
 
--- src/lib.rt:159:1
 returns-3 : tie.Need-returns-3
 unfolding sign
 returns-3 c = rw (← (c .before .before .before .before .before .mark .ensures), (c .before .before .before .enum-told .given .1), ← (c .before .before .mark2 .ensures), (c .enum-told2 .given .1))
