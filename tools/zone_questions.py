@@ -4,18 +4,19 @@
 usage: tools/zone_questions.py ZONEINFO CRATE
 
 ZONEINFO is a folder of compiled zone files (Debian's package tzdata installs one), CRATE the folder crates/test_zone_calls. data/zones.bin gets the files of the
-zones named below, one behind the other; data/questions.bin the questions, 52 bytes each: which call, the file's place and length, 4 bytes each, then five
+zones named below and of one made here, in version 3 and in version 2, one behind the other; data/questions.bin the questions, 52 bytes each: which call, the file's place and length, 4 bytes each, then five
 signed numbers of 8 bytes with 2^63 added, all big-endian. The expected lines go to CRATE/stdout.
 
 The answers come from Python's zoneinfo, which reads the same files with code of its own. Its dates begin with the year 1, before every zone's first
 transition: an earlier second has the offset of the year 1, and the day of an earlier date is counted 400 years at a time. The next change is looked for
 between the table's transitions and then week by week to the range's end. What is refused, and the range's ends, are written from document 01.
 """
-import datetime, os, struct, sys
+import datetime, io, os, struct, sys
 from zoneinfo import ZoneInfo
 from zone_answers import EPOCH, by_zoneinfo, in_zone, parse
 
 ZONES = ["Europe/Berlin", "America/New_York", "Asia/Kolkata", "Australia/Lord_Howe", "Pacific/Apia"]
+NUUK = b"<-02>2<-01>,M3.5.0/-1,M10.5.0/0"   # the footer of America/Nuuk, with a rule time of -1 hours, as version 3 alone allows it
 FIRST, LAST, NANO = -377705023201, 253402207200, 10 ** 9
 YEAR_ONE = int((datetime.datetime(1, 1, 3) - EPOCH).total_seconds())
 DAY, WEEK = 86400, 604800
@@ -23,11 +24,19 @@ OFFSET, CHANGE, RESOLVE = 1, 2, 3
 NAMES = {OFFSET: "offset", CHANGE: "change", RESOLVE: "resolve"}
 
 
+def ruled(version):
+    """a file with one transition, at 0, from -12,416 s to -7,200 s, and the footer above"""
+    head = b"TZif" + version + bytes(15)
+    table = struct.pack(">qBiBBiBB", 0, 1, -12416, 0, 0, -7200, 0, 0) + b"-02\0"
+    return head + struct.pack(">6I", *[0] * 6) + head + struct.pack(">6I", 0, 0, 0, 1, 2, 4) + table + b"\n" + NUUK + b"\n"
+
+
 class Zone:
-    def __init__(self, path, place):
-        self.bytes = open(path, "rb").read()
+    def __init__(self, file, place):
+        self.bytes = file
         self.place = place
-        self.zone = ZoneInfo.from_file(open(path, "rb"))
+        self.usable = file != ruled(b"2")
+        self.zone = ZoneInfo.from_file(io.BytesIO(file))
         self.times = [t for t in parse(self.bytes)[0] if t > YEAR_ONE]
         late = in_zone(self.zone)
         self.offset = lambda u: late(max(u, YEAR_ONE))
@@ -75,7 +84,7 @@ def resolved(zone, year, month, day, second, ns):
 
 
 def answer(zone, call, length, numbers):
-    if length != len(zone.bytes):
+    if length != len(zone.bytes) or not zone.usable:
         return "no 5 0"
     if call == RESOLVE:
         return resolved(zone, *numbers)
@@ -100,7 +109,8 @@ def instants(zone):
 
 LOCALS = [  # dates and seconds of the day: both sides of gaps and repeats, leap days, the ends of the calendar, years about 0
     (2026, 3, 29, 7199), (2026, 3, 29, 7200), (2026, 3, 29, 9000), (2026, 3, 29, 10800), (2026, 10, 25, 9000), (2026, 10, 25, 10800),
-    (2026, 3, 8, 9000), (2026, 11, 1, 5400), (2026, 4, 5, 6600), (2026, 10, 4, 8100), (2011, 12, 30, 43200), (2000, 2, 29, 86399), (1900, 7, 1, 1),
+    (2026, 3, 28, 84600), (2026, 10, 24, 84600), (2026, 3, 8, 9000), (2026, 11, 1, 5400), (2026, 4, 5, 6600), (2026, 10, 4, 8100),
+    (2011, 12, 30, 43200), (2000, 2, 29, 86399), (1900, 7, 1, 1),
     (1969, 12, 31, 86399), (2400, 2, 29, 0), (1, 1, 3, 0), (0, 2, 29, 43200), (-1, 12, 31, 86399), (-44, 3, 15, 36000), (-9996, 2, 29, 7),
     (-9999, 1, 1, 0), (-9999, 1, 3, 0), (9999, 12, 29, 86399), (9999, 12, 31, 86399),
 ]
@@ -111,6 +121,9 @@ NO_LOCALS = [
     (2026, 3, 0, 0, 0), (2026, 3, -29, 0, 0), (10000, 1, 1, 0, 0), (-10000, 12, 31, 86399, 0), (2026, 3, 29, 86400, 0), (2026, 3, 29, -1, 0),
     (2026, 3, 29, 0, NANO), (2026, 3, 29, 0, -1), (-(2 ** 63), 1, 1, 0, 0), (2 ** 63 - 1, 2 ** 63 - 1, 2 ** 63 - 1, 2 ** 63 - 1, 2 ** 63 - 1),
 ]
+
+
+NARROW = [(OFFSET, (0, 0)), (CHANGE, (1767225600, 0)), (RESOLVE, (2026, 3, 29, 9000, 0))]   # asked of the made file in version 2
 
 
 def questions(zone):
@@ -140,10 +153,11 @@ def refusals(zone):
 
 def main(folder, crate):
     zones, data, lines, packed = [], b"", [], b""
-    for name in ZONES:
-        zones.append(Zone(os.path.join(folder, name), len(data)))
-        data += zones[-1].bytes
-    asked = [(zone, q) for zone in zones for q in questions(zone)] + [(zones[0], q) for q in refusals(zones[0])]
+    for file in [open(os.path.join(folder, name), "rb").read() for name in ZONES] + [ruled(b"3"), ruled(b"2")]:
+        zones.append(Zone(file, len(data)))
+        data += file
+    asked = [(zone, q) for zone in zones[:-1] for q in questions(zone)] + [(zones[0], q) for q in refusals(zones[0])]
+    asked += [(zones[-1], (call, len(zones[-1].bytes), numbers)) for call, numbers in NARROW]
     for zone, (call, length, numbers) in asked:
         packed += struct.pack(">III", call, zone.place, length) + struct.pack(">5Q", *(n + 2 ** 63 for n in (*numbers, 0, 0, 0)[:5]))
         lines.append(f"{NAMES[call]} {' '.join(map(str, numbers))}: {answer(zone, call, length, numbers)}")
