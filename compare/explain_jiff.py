@@ -23,7 +23,7 @@ from second import DAY, FARTHEST, FIRST, LAST, NANO
 
 BUILT_IN = (b"utc", b"etc/unknown")
 COUNTED = ("between", "add", "sub")
-MOST_HOURS, MOST_TRANSITIONS, MOST_TYPES = 24, 2_048, 256
+MOST_HOURS, MOST_TRANSITIONS, MOST_TYPES = 24, 2_048, 256  # hours of a rule time in version 2
 HEADER = 44  # bytes of a zone file's header
 AHEAD = 60  # dates to either side that are asked about together: walks go on to them
 KEPT = 200_000  # answers kept of a zone
@@ -52,15 +52,18 @@ def without_count(query, answer):
 # ------------------------------------------------------------- files: who takes them
 
 
-def footer_reason(text):
-    """Why document 01 refuses a footer that jiff takes."""
+def footer_reason(text, version):
+    """Why document 01 refuses a footer that jiff takes, which reads rule times in
+    every version as version 3 has them."""
     if b"\n" in text:
         return "bytes behind the footer"
-    if re.search(rb"/[-+]", text):
-        return "a sign on a footer's rule time"
-    hours = re.findall(rb"(?:[A-Za-z>][-+]?|/)([0-9]{1,3})", re.sub(rb",[JM]?[0-9.]*", b",", text))
-    if any(int(hour) > MOST_HOURS for hour in hours):
-        return "footer hours above 24"
+    if version == b"2":
+        if re.search(rb"/[-+]", text):
+            return "a sign on a rule time in version 2"
+        if any(int(hours) > MOST_HOURS for hours in re.findall(rb"/([0-9]+)", text)):
+            return "a rule time with hours above 24 in version 2"
+        if re.search(rb"/[0-9]{3}", text):
+            return "a rule time with hours of three digits in version 2"
     return "a footer's form"
 
 
@@ -104,7 +107,7 @@ def paper_reason(file):
     else:
         return None
     if told == "footer":
-        return footer_reason(footer_of(file))
+        return footer_reason(footer_of(file), file[4:5])
     if told == "counts":
         return count_reason(file)
     if told == "transitions":

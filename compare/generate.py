@@ -8,9 +8,10 @@ Writes FOLDER/NNNNN-FAMILY for each of COUNT cases, each with book.bin,
 zones.bin (a few have none), queries.txt and listing.txt (lines for the
 listing, which is not part of document 01's program). A case depends on SEED,
 its number and the zone files found alone, so --only makes one again. With
---family all cases are of that family: one of FAMILIES, or `database`. With
---whole made-up zone files have a first data block of one type, and a last
-transition that agrees with the footer, as jiff wants it.
+--family all cases are of that family: one of FAMILIES, or one of APART
+(`database`, `wide`), which no case is of without it. With --whole made-up zone
+files have a first data block of one type, and a last transition that agrees
+with the footer, as jiff wants it.
 
 Real zones are taken from DIR, /usr/share/zoneinfo (Debian's tzdata) if not
 told otherwise; without any, made-up ones stand in. second.py is used to aim
@@ -56,11 +57,11 @@ WHOLE = "--whole" in sys.argv
 LETTERS = b"AAA\0BBB\0"
 
 
-def agreeing(types, changes, footer):
+def agreeing(types, changes, footer, version):
     """The last transition with a type that the footer gives there, as jiff wants
     it: changes, and the type's record and letters (none where nothing is to do)."""
     try:
-        rules = second.read_footer(footer)
+        rules = second.read_footer(footer, version)
     except ValueError:
         return changes, b"", b""
     at = changes[-1][0] if changes else 0
@@ -78,7 +79,7 @@ def tzif(types, changes=(), footer=b"", version=b"2", marks=0, old=0):
     first, record, name = header(version, 0, 0, 0, 0, 0, 0), b"", b""
     if WHOLE:
         first = header(version, 0, 0, 0, 0, 1, 4) + bytes(6) + b"AAA\0"
-        changes, record, name = agreeing(types, changes, footer)
+        changes, record, name = agreeing(types, changes, footer, version)
     elif old:
         first = header(version, 1, 1, old, 2, 1, 4) + bytes(2 * 5 + 6 + 4 + 8 * old + 2)
     count = len(types) + (1 if record else 0)
@@ -138,6 +139,53 @@ def footer_text(rng):
             return f"AAA{west(standard)}BBB{west(daylight)},{day}/{clock(time)},{day}/{clock(other)}".encode()
     told = "" if daylight == standard + 3600 and (rng.random() < 0.7 or daylight > 89_999) else west(daylight)
     return f"AAA{west(standard)}BBB{told},{rule_text(rng)},{rule_text(rng)}".encode()
+
+
+WIDEST = 604_799  # 167:59:59, the latest rule time of version 3
+WIDE_TIMES = [WIDEST, WIDEST - 59, WIDEST - 3599, 90_000, 93_600, 180_000, 432_000, 0, 1, 1800, 3600, 86_400, 89_999]
+WIDE_DAYS = ["0", "1", "6", "7", "8", "J1", "J7", "357", "358", "364", "365", "J358", "J365", "M1.1.0", "M12.5.6"]
+
+
+def wide_clock(rng, seconds):
+    """A rule time of version 3: with a sign, and with three digits of hours, also
+    where it needs neither."""
+    text = clock(abs(seconds))
+    if rng.random() < 0.1:
+        hours, colon, rest = text.partition(":")
+        text = hours.zfill(3) + colon + rest
+    if rng.random() < 0.1 and ":" not in text:
+        text += ":00"
+    return ("-" if seconds < 0 else rng.choice(["", "", "", "+"])) + text
+
+
+def wide_rule(rng):
+    """A day, mostly near a year's end, and a time up to a week before or behind it."""
+    form = rng.random()
+    day = rng.choice(WIDE_DAYS)
+    if form < 0.2:
+        day = f"M{rng.randint(1, 12)}.{rng.randint(1, 5)}.{rng.randint(0, 6)}"
+    elif form < 0.3:
+        day = f"{rng.randint(0, 365)}"
+    time = rng.choice([1, -1]) * rng.choice(WIDE_TIMES + [rng.randint(0, WIDEST)])
+    return day, time
+
+
+def wide_text(rng):
+    """A footer that is good in version 3 alone, now and then with changes at one
+    instant: of one year, or of a year and the next."""
+    standard = offset(rng, 89_999)
+    daylight = standard + 3600 if rng.random() < 0.6 else offset(rng, 89_999)
+    told = "" if daylight == standard + 3600 else west(daylight)
+    (start, early), (end, late) = wide_rule(rng), wide_rule(rng)
+    if rng.random() < 0.3:
+        near = second.read_footer(f"AAA0BBB0,{start}/0,{end}/0".encode(), b"3")
+        year = rng.choice([2023, 2024, 2025, 2026])
+        begins, ends_ = near.of_year(year + rng.choice([0, 0, 1, -1]))[0][0], near.of_year(year)[1][0]
+        tied = begins + early - standard - ends_ + daylight
+        late = tied if abs(tied) <= WIDEST else late
+    if 0 <= early <= 89_999 and 0 <= late <= 89_999:
+        early = -early - 1
+    return f"AAA{west(standard)}BBB{told},{start}/{wide_clock(rng, early)},{end}/{wide_clock(rng, late)}".encode()
 
 
 def offset(rng, most=93_599):
@@ -967,6 +1015,23 @@ def year_ends(rng, folder):
     return make(rng, [(b"Year", tzif([offset(rng)], (), text))], about, 25)
 
 
+def wide(rng, folder):
+    """Rule times as version 3 has them and version 2 has not: changes up to
+    eight days outside their year, footers that are just good or just not, and
+    the same ones in version 2. None of FAMILIES."""
+    year = rng.choice([2022, 2023, 2024, 2025, 2026, 2026, 2001, 2000, 1900, 2100, -4, 0, -9998, 9999])
+    about = day_number(year, 1, 1) * DAY + rng.choice([0, 0, 0, rng.randint(-9, 9) * DAY, rng.randrange(365) * DAY])
+    zones = []
+    for place in range(rng.choice([1, 1, 2])):
+        text = rng.choice(NEARLY_WIDE) if rng.random() < 0.2 else wide_text(rng)
+        starts = {about + rng.randint(-400 * DAY, 400 * DAY) for _ in range(rng.choice([0, 0, 0, 1, 2]))}
+        types = [offset(rng) for _ in range(rng.randint(1, 3))]
+        changes = [(at, rng.randrange(len(types))) for at in sorted(starts)]
+        version = b"2" if rng.random() < 0.1 else b"3"
+        zones.append((b"Wide%d" % place, tzif(types, changes, text, version, rng.choice([0, 0, 2, 3]))))
+    return make(rng, zones, about, 30)
+
+
 def texts(rng, folder):
     """Footers that are hardly, or not quite, POSIX TZ strings."""
     zone = tzif([3600], (), rng.choice(BAD_FOOTERS))
@@ -1028,6 +1093,7 @@ def files(rng, folder):
 
 FAMILIES = [(real, 5), (odd, 5), (footers, 5), (ends, 4), (gaps, 2), (exact_gaps, 2), (end_gaps, 2), (always, 2)]
 FAMILIES += [(builds, 3), (jumps, 3), (skips, 4), (limits, 2), (names_, 3), (year_ends, 4), (texts, 7), (files, 9)]
+APART = [database, wide]  # run by name alone: in FAMILIES they would change the cases of every seed
 
 
 # ------------------------------------------------------------------------ damage
@@ -1077,6 +1143,16 @@ BAD_FOOTERS += [b"<AA>0", b"<AAA0", b"<A_A>0", b"<+01>-1", b"<A-1>1B2B3", b"AAA0
 BAD_FOOTERS += [b"AAA0BBB,J001,M01.1.0", b"AAA0BBB,0001,1", b"AAA0BBB,J0001,1", b"AAA0BBB1,0/000,1", b":AAA0", b" AAA0"]
 BAD_FOOTERS += [b"AAA0BBB25,0,1", b"AAA0BBB-24:59:59,0,1", b"AAA0BBB24:59:59,365/24:59:59,0/0", b"AAA1:5", b"AAA--1"]
 
+# Footers for version 3: at a limit of a rule time, one beyond it, and of a form
+# that is nearly that of one.
+NEARLY_WIDE = [b"AAA0BBB,%s,%s" % pair for time in [b"167:59:59", b"-167:59:59", b"+167:59:59", b"168", b"-168", b"+168",
+               b"167:60", b"-167:59:60", b"-0", b"-0:30", b"-0:00:01", b"+0:30", b"-000", b"002", b"0002", b"-0002", b"1000",
+               b"-", b"+", b"--1", b"+-1", b"-+1", b"- 1", b"-1:5", b"-1:", b"-:30", b"1-", b"24:59:59", b"25", b"-1", b"200"]
+               for pair in [(b"0/" + time, b"100"), (b"M3.5.0", b"M10.5.0/" + time)]]
+NEARLY_WIDE += [b"AAA25", b"AAA025", b"AAA-167", b"AAA0BBB-25,0/-1,1", b"AAA0BBB001,0/-1,1", b"AAA0BBB167,0/167,1"]
+NEARLY_WIDE += [b"<-02>2<-01>,M3.5.0/-1,M10.5.0/0", b"EET-2EEST,M3.4.4/50,M10.4.4/50", b"IST-2IDT,M3.4.4/26,M10.5.0"]
+NEARLY_WIDE += [b"AAA24:59:59BBB24:59:59,365/167:59:59,365/167:59:58", b"AAA-24:59:59BBB,0/-167:59:59,0/-167:59:58"]
+
 
 def damaged(rng, records, pack):
     """Damages one of book, pack and a zone file; returns book and pack bytes."""
@@ -1098,7 +1174,7 @@ def damaged(rng, records, pack):
 
 def family_of(title):
     """The family of a title, and None for none."""
-    return {title_of(family): family for family, _ in FAMILIES + [(database, 0)]}.get(title)
+    return {title_of(family): family for family in [family for family, _ in FAMILIES] + APART}.get(title)
 
 
 def title_of(family):

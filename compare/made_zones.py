@@ -131,7 +131,7 @@ def both(rng):
     text = generate.footer_text(rng)
     if rng.random() < 0.5:
         text = summer(rng)[0].rpartition(b"\n")[0].rpartition(b"\n")[2]
-    rules = second.read_footer(text)
+    rules = second.read_footer(text, b"2")
     spaces = rng.choice([[1, 600, 3600, DAY], [3 * DAY, 90 * DAY, 400 * DAY]])
     seconds = [at for at in steps(rng, about(rng), spaces, 4) if FIRST_S < at < LAST_S] or [0]
     names = [(name or b"AAA").strip(b"<>") for name in NAMES.match(text).groups()]

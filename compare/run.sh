@@ -9,6 +9,7 @@
 #   WORK      where the cases and the Rust's build go (else a new folder in /tmp)
 #   COUNTS    how PROGRAM's window counts are compared: `bounds` (between the
 #             least and the most, if not set) or `exact` (equal to the least)
+#   FAMILY    the family of generate.py that all cases are of (if not set a mix)
 #   ZONEINFO  where real zone files are (if not set /usr/share/zoneinfo)
 #   PATIENCE  seconds for each run of an implementation on a case (600)
 #
@@ -49,7 +50,12 @@ cargo build --quiet --offline --profile checked --manifest-path "$here/rust/Carg
 rust=$CARGO_TARGET_DIR/checked/answer
 case $rust in /*) ;; *) rust=$PWD/$rust ;; esac
 
-python3 "$here/generate.py" "$seed" "$count" "$cases" --zoneinfo "${ZONEINFO:-/usr/share/zoneinfo}"
+only=
+if [ -n "${FAMILY:-}" ]; then
+    only="--family $FAMILY"
+fi
+# A family's name has no spaces.
+python3 "$here/generate.py" "$seed" "$count" "$cases" --zoneinfo "${ZONEINFO:-/usr/share/zoneinfo}" $only
 
 # answer FILE-OF-LINES FILE-OF-ANSWERS COMMAND..: an answer that fails or takes
 # too long ends with a line that agrees with none.

@@ -4,9 +4,10 @@
 #
 #   run_jiff.sh SEED COUNT FAMILY [PROGRAM [ARGUMENT..]]
 #
-# FAMILY is a family of generate.py (`database`: all zones of the tz database),
-# or `all` for a mix of those that run.sh runs, with zone files whose first data
-# block jiff takes. PROGRAM is run as by run.sh.
+# FAMILY is a family of generate.py (`database`: all zones of the tz database,
+# `wide`: rule times that version 3 alone has), or `all` for a mix of those that
+# run.sh runs, with zone files whose first data block jiff takes. PROGRAM is run
+# as by run.sh.
 # Settings from the environment:
 #   WORK      where the cases and the Rust's builds go (else a new folder in /tmp)
 #   JIFF      where jiff is, as jiff.sh unpacks it (if not set WORK/jiff)

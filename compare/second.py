@@ -112,7 +112,10 @@ class Footer:
 
     def around(self, year):
         """All changes of the years about `year`, in order; on a tie the start
-        of daylight time stands last, so that it counts."""
+        of daylight time stands last, so that it counts. A change leaves its
+        year by less than nine days (168 hours and an offset of 26), so the latest
+        one by any second of a year belongs to a year from two before it to one
+        after it."""
         if year not in self.near:
             if len(self.near) > 4_000:
                 self.near.clear()
@@ -154,10 +157,12 @@ def rule_second(rule, year):
 
 
 class Text:
-    """Reads a footer from left to right; `fail` where it can't."""
+    """Reads a footer of a file of version b"2" or b"3" from left to right; it
+    raises ValueError where it can't."""
 
-    def __init__(self, text):
+    def __init__(self, text, version):
         self.text = text
+        self.version = version
         self.at = 0
 
     def take(self, pattern):
@@ -173,19 +178,28 @@ class Text:
     def name(self):
         self.take(rb"[A-Za-z]{3,}|<[A-Za-z0-9+-]{3,}>")
 
-    def clock(self):
-        """hh[:mm[:ss]], hours 0 to 24."""
-        found = self.take(rb"([0-9]{1,2})(?::([0-9]{2})(?::([0-9]{2}))?)?")
+    def clock(self, digits, most):
+        """hh[:mm[:ss]], hours of one to `digits` digits, 0 to `most`."""
+        found = self.take(rb"([0-9]{1,%d})(?::([0-9]{2})(?::([0-9]{2}))?)?" % digits)
         hours, minutes, seconds = (int(part or b"0") for part in found.groups())
         # A digit or a colon left behind makes the next reading fail.
-        if hours > 24 or minutes > 59 or seconds > 59:
+        if hours > most or minutes > 59 or seconds > 59:
             raise ValueError("footer")
         return hours * 3600 + minutes * 60 + seconds
 
     def offset(self):
-        """Offsets are written west of UTC."""
+        """Offsets are written west of UTC; they are the same in both versions."""
         sign = self.take(rb"[+-]?").group()
-        return self.clock() if sign == b"-" else -self.clock()
+        return self.clock(2, 24) if sign == b"-" else -self.clock(2, 24)
+
+    def rule_time(self):
+        """A rule's time, which in version 3 may have a sign, for all of it, and
+        three digits of hours (RFC 8536, 3.3.1)."""
+        if self.version != b"3":
+            return self.clock(2, 24)
+        sign = self.take(rb"[+-]?").group()
+        time = self.clock(3, 167)
+        return -time if sign == b"-" else time
 
     def rule(self):
         if self.next_is(b"J"):
@@ -204,13 +218,13 @@ class Text:
         time = 2 * 3600
         if self.next_is(b"/"):
             self.at += 1
-            time = self.clock()
+            time = self.rule_time()
         return form, numbers, time
 
 
-def read_footer(text):
-    """A footer that isn't empty."""
-    reader = Text(text)
+def read_footer(text, version):
+    """A footer that isn't empty, of a file of version b"2" or b"3"."""
+    reader = Text(text, version)
     reader.name()
     standard = reader.offset()
     if reader.at == len(text):
@@ -344,7 +358,7 @@ def read_zone(data):
     rest = data[end:]
     if len(rest) < 2 or rest[:1] != b"\n" or rest[-1:] != b"\n":
         raise ValueError("newlines")
-    footer = read_footer(rest[1:-1]) if rest[1:-1] else None
+    footer = read_footer(rest[1:-1], data[4:5]) if rest[1:-1] else None
     return Zone(offsets, times, numbers, footer)
 
 

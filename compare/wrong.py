@@ -1,13 +1,14 @@
 #!/usr/bin/env python3
 """Tries the cases' sharpness: wrong second implementations must differ.
 
-Usage: wrong.py SEED COUNT [NAME..]
+Usage: wrong.py SEED COUNT [--family NAME] [NAME..]
 
 Each entry of WRONG changes one place of second.py into a mistake that is easy
-to make. COUNT cases from SEED are answered by second.py and by each wrong one;
-printed is the first case whose lines, with the bounds of their window counts,
-tell them apart. A mistake that no case shows is one that the comparison with
-these cases would not find.
+to make. COUNT cases from SEED, of a mix or of one family of generate.py, are
+answered by second.py and by each wrong one, or by those that are named. Printed
+is the first case whose lines, with the bounds of their window counts, tell them
+apart. A mistake that no case shows is one that the comparison with these cases
+would not find.
 """
 
 import os
@@ -77,7 +78,21 @@ WRONG = {
                             "        records = directory(data)\n        if len(records) > 64:\n            raise Refusal(2)\n        records = [read_record(*record) for record in records]"),
     "pack's layout not checked": ("        raise Refusal(3) from None", "        return []"),
     "duration before instant": ("    first = read_instant(*numbers[:2])\n", "    if word in ('add', 'sub'):\n        read_duration(*numbers[2:])\n    first = read_instant(*numbers[:2])\n"),
-    "sign on a rule's time": ("            time = self.clock()\n", "            self.take(rb'[+]?')\n            time = self.clock()\n"),
+    "sign on a rule's time in version 2": ("            return self.clock(2, 24)\n", "            self.take(rb'[+]?')\n            return self.clock(2, 24)\n"),
+    "wide rule times in version 2": ('if self.version != b"3":', "if False:"),
+    "no wide rule times in version 3": ('if self.version != b"3":', "if True:"),
+    "three digits of hours in version 2": ("            return self.clock(2, 24)\n", "            return self.clock(3, 24)\n"),
+    "sign of a rule's time for the hours alone": ("return -time if sign == b\"-\" else time",
+                                                  "return time - 2 * (time // 3600 * 3600) if sign == b\"-\" else time"),
+    "no plus on a rule's time": ("        sign = self.take(rb\"[+-]?\").group()\n        time", "        sign = self.take(rb\"-?\").group()\n        time"),
+    "minus on a rule's time not counted": ("return -time if sign == b\"-\" else time", "return time"),
+    "rule times up to 168 hours": ("time = self.clock(3, 167)", "time = self.clock(3, 168)"),
+    "rule times up to 166 hours": ("time = self.clock(3, 167)", "time = self.clock(3, 166)"),
+    "rule times of two digits": ("time = self.clock(3, 167)", "time = self.clock(2, 167)"),
+    "rule times of four digits": ("time = self.clock(3, 167)", "time = self.clock(4, 167)"),
+    "wide offsets in version 3": ("return self.clock(2, 24) if sign == b\"-\" else -self.clock(2, 24)",
+                                  "most = (3, 167) if self.version == b\"3\" else (2, 24); return self.clock(*most) if sign == b\"-\" else -self.clock(*most)"),
+    "changes kept in their year": ("    return day * DAY + time\n", "    return min(max(day * DAY + time, new_year(year) * DAY), new_year(year + 1) * DAY)\n"),
     "leap records of 12 bytes in the first block": ("read_header(data, 0, None, 4, 8)", "read_header(data, 0, None, 4, 12)"),
     "indicators not checked": ("if any(flag > 1 for flag in data[at:end]):", "if False:"),
     "versions may differ": ("if version is not None and data[at + 4] != version:", "if False:"),
@@ -126,7 +141,7 @@ def too_long(*_):
     raise TimeoutError("too long")
 
 
-def main(seed, count, wanted):
+def main(seed, count, family, wanted):
     sys.path.insert(0, HERE)
     import generate
 
@@ -139,7 +154,7 @@ def main(seed, count, wanted):
     missed = 0
     with tempfile.TemporaryDirectory() as folder:
         for place in range(count):
-            generate.write_case(seed, place, folder, "/usr/share/zoneinfo")
+            generate.write_case(seed, place, folder, "/usr/share/zoneinfo", generate.family_of(family))
         cases = [os.path.join(folder, name) for name in sorted(os.listdir(folder))]
         told = [answers(right, case) for case in cases]
         for name, (stands, has) in WRONG.items():
@@ -162,5 +177,8 @@ def main(seed, count, wanted):
 
 if __name__ == "__main__":
     if len(sys.argv) < 3 or not re.fullmatch("[0-9]+", sys.argv[2]):
-        sys.exit("usage: wrong.py SEED COUNT [NAME..]")
-    main(sys.argv[1], int(sys.argv[2]), sys.argv[3:])
+        sys.exit("usage: wrong.py SEED COUNT [--family NAME] [NAME..]")
+    names, title = sys.argv[3:], None
+    if names[:1] == ["--family"]:
+        title, names = names[1], names[2:]
+    main(sys.argv[1], int(sys.argv[2]), title, names)

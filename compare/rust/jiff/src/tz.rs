@@ -281,7 +281,7 @@ impl Zone {
         let kinds = part(6 * second.types);
         part(second.letters);
         let flags = part(second.stds + second.uts);
-        let footer = Footer::read(rest)?;
+        let footer = Footer::read(rest, second.version)?;
         let good = times.windows(2).all(|pair| pair[0] < pair[1])
             && numbers.iter().all(|&number| usize::from(number) < second.types)
             && kinds.chunks_exact(6).all(|kind| {
@@ -378,9 +378,9 @@ impl Footer {
         }
     }
 
-    /// The rest of a file: newline, footer, newline. `None` where unusable,
-    /// `Some(None)` where empty.
-    fn read(rest: &[u8]) -> Option<Option<Footer>> {
+    /// The rest of a file of some version: newline, footer, newline. `None`
+    /// where unusable, `Some(None)` where empty.
+    fn read(rest: &[u8], version: u8) -> Option<Option<Footer>> {
         let text = rest.strip_prefix(b"\n")?.strip_suffix(b"\n")?;
         if text.is_empty() {
             return Some(None);
@@ -398,9 +398,9 @@ impl Footer {
             offset(&mut text)?
         };
         byte(&mut text, b',')?;
-        let start = Rule::read(&mut text)?;
+        let start = Rule::read(&mut text, version)?;
         byte(&mut text, b',')?;
-        let end = Rule::read(&mut text)?;
+        let end = Rule::read(&mut text, version)?;
         let rules = Rules::new(standard, daylight, start, end);
         text.is_empty().then_some(Some(Footer::Rules(rules)))
     }
@@ -435,9 +435,10 @@ fn digits(text: &mut &[u8], least: usize, most: usize) -> Option<i64> {
     (length >= least).then_some(value)
 }
 
-/// hh[:mm[:ss]] with hours from 0 to 24.
-fn clock(text: &mut &[u8]) -> Option<i64> {
-    let hours = digits(text, 1, 2)?;
+/// hh[:mm[:ss]] with hours from 0 to `most`, in as many digits as that has or
+/// fewer.
+fn clock(text: &mut &[u8], most: i64) -> Option<i64> {
+    let hours = digits(text, 1, if most > 99 { 3 } else { 2 })?;
     let mut rest = [0, 0];
     for part in &mut rest {
         if byte(text, b':').is_none() {
@@ -445,18 +446,35 @@ fn clock(text: &mut &[u8]) -> Option<i64> {
         }
         *part = digits(text, 2, 2)?;
     }
-    let good = hours <= 24 && rest[0] < 60 && rest[1] < 60;
+    let good = hours <= most && rest[0] < 60 && rest[1] < 60;
     good.then_some(hours * 3600 + rest[0] * 60 + rest[1])
+}
+
+/// Takes a sign, if there is one; whether it is a minus.
+fn minus(text: &mut &[u8]) -> bool {
+    let found = byte(text, b'-').is_some();
+    if !found {
+        let _ = byte(text, b'+');
+    }
+    found
 }
 
 /// Seconds east of UTC; the text tells them west.
 fn offset(text: &mut &[u8]) -> Option<i64> {
-    let east = byte(text, b'-').is_some();
-    if !east {
-        let _ = byte(text, b'+');
-    }
-    let value = clock(text)?;
+    let east = minus(text);
+    let value = clock(text, 24)?;
     Some(if east { value } else { -value })
+}
+
+/// The time of a rule in seconds from midnight: in version 3 up to 167 hours,
+/// with a sign or without (RFC 8536, 3.3.1).
+fn rule_time(text: &mut &[u8], version: u8) -> Option<i64> {
+    if version != b'3' {
+        return clock(text, 24);
+    }
+    let before = minus(text);
+    let value = clock(text, 167)?;
+    Some(if before { -value } else { value })
 }
 
 #[derive(Clone, Copy, Debug)]
@@ -476,7 +494,7 @@ struct Rule {
 }
 
 impl Rule {
-    fn read(text: &mut &[u8]) -> Option<Rule> {
+    fn read(text: &mut &[u8], version: u8) -> Option<Rule> {
         let (day, good) = if byte(text, b'J').is_some() {
             let day = digits(text, 1, 3)?;
             (Day::Julian(day), (1..=365).contains(&day))
@@ -493,7 +511,7 @@ impl Rule {
             (Day::Plain(day), day <= 365)
         };
         let time = match byte(text, b'/') {
-            Some(()) => clock(text)?,
+            Some(()) => rule_time(text, version)?,
             None => 2 * 3600,
         };
         good.then_some(Rule { day, time })
@@ -520,8 +538,8 @@ impl Rule {
         day * DAY + self.time
     }
 
-    /// A month in which it strikes in every year, if the change stays inside
-    /// that month's year by days: February to November.
+    /// The month of its day in every year, if the change, at most nine days
+    /// from that day, stays inside that year: February to November.
     fn quiet_month(&self) -> Option<i64> {
         match self.day {
             Day::Week(month, _, _) => Some(month).filter(|month| (2..=11).contains(month)),
@@ -537,7 +555,8 @@ struct Rules {
     daylight: i64,
     start: Rule,
     end: Rule,
-    /// Both changes always lie inside their year, at least two months apart.
+    /// Both changes always lie inside their year, in one order: at least a
+    /// month lies between the months of their days.
     plain: bool,
 }
 
@@ -579,7 +598,7 @@ impl Rules {
         if self.plain {
             return self.plain_segment(second, year);
         }
-        // Changes of a year stray by less than four days beyond it.
+        // Changes of a year stray by less than nine days beyond it.
         let mut changes = [(0, false); 14];
         for (place, year) in (year - 3..year + 4).enumerate() {
             changes[2 * place] = (self.start_of(year), true);
