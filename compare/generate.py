@@ -143,7 +143,8 @@ def footer_text(rng):
 
 WIDEST = 604_799  # 167:59:59, the latest rule time of version 3
 WIDE_TIMES = [WIDEST, WIDEST - 59, WIDEST - 3599, 90_000, 93_600, 180_000, 432_000, 0, 1, 1800, 3600, 86_400, 89_999]
-WIDE_DAYS = ["0", "1", "6", "7", "8", "J1", "J7", "357", "358", "364", "365", "J358", "J365", "M1.1.0", "M12.5.6"]
+EARLY_DAYS = ["0", "1", "4", "6", "7", "J1", "J5", "J7", "M1.1.0"]
+LATE_DAYS = ["358", "361", "364", "365", "J359", "J363", "J365", "M12.5.6"]
 
 
 def wide_clock(rng, seconds):
@@ -161,7 +162,7 @@ def wide_clock(rng, seconds):
 def wide_rule(rng):
     """A day, mostly near a year's end, and a time up to a week before or behind it."""
     form = rng.random()
-    day = rng.choice(WIDE_DAYS)
+    day = rng.choice(EARLY_DAYS + LATE_DAYS)
     if form < 0.2:
         day = f"M{rng.randint(1, 12)}.{rng.randint(1, 5)}.{rng.randint(0, 6)}"
     elif form < 0.3:
@@ -170,13 +171,24 @@ def wide_rule(rng):
     return day, time
 
 
+def wide_rules(rng):
+    """Two of them, now and then both early or both late, so that a year may be
+    without a change for some of its days or have those of the next one."""
+    form = rng.random()
+    if form < 0.15:
+        return [(rng.choice(EARLY_DAYS), -rng.randint(300_000, WIDEST)) for _ in range(2)]
+    if form < 0.3:
+        return [(rng.choice(LATE_DAYS), rng.randint(300_000, WIDEST)) for _ in range(2)]
+    return wide_rule(rng), wide_rule(rng)
+
+
 def wide_text(rng):
     """A footer that is good in version 3 alone, now and then with changes at one
     instant: of one year, or of a year and the next."""
     standard = offset(rng, 89_999)
     daylight = standard + 3600 if rng.random() < 0.6 else offset(rng, 89_999)
     told = "" if daylight == standard + 3600 else west(daylight)
-    (start, early), (end, late) = wide_rule(rng), wide_rule(rng)
+    (start, early), (end, late) = wide_rules(rng)
     if rng.random() < 0.3:
         near = second.read_footer(f"AAA0BBB0,{start}/0,{end}/0".encode(), b"3")
         year = rng.choice([2023, 2024, 2025, 2026])
@@ -1020,14 +1032,15 @@ def wide(rng, folder):
     eight days outside their year, footers that are just good or just not, and
     the same ones in version 2. None of FAMILIES."""
     year = rng.choice([2022, 2023, 2024, 2025, 2026, 2026, 2001, 2000, 1900, 2100, -4, 0, -9998, 9999])
-    about = day_number(year, 1, 1) * DAY + rng.choice([0, 0, 0, rng.randint(-9, 9) * DAY, rng.randrange(365) * DAY])
+    about = day_number(year, 1, 1) * DAY + rng.choice([0, rng.randint(-9, 9) * DAY, rng.randint(0, 9) * DAY, rng.randrange(365) * DAY])
     zones = []
     for place in range(rng.choice([1, 1, 2])):
-        text = rng.choice(NEARLY_WIDE) if rng.random() < 0.2 else wide_text(rng)
+        nearly = rng.random() < 0.25
+        text = rng.choice(NEARLY_WIDE) if nearly else wide_text(rng)
         starts = {about + rng.randint(-400 * DAY, 400 * DAY) for _ in range(rng.choice([0, 0, 0, 1, 2]))}
         types = [offset(rng) for _ in range(rng.randint(1, 3))]
         changes = [(at, rng.randrange(len(types))) for at in sorted(starts)]
-        version = b"2" if rng.random() < 0.1 else b"3"
+        version = b"2" if rng.random() < (0.4 if nearly else 0.05) else b"3"
         zones.append((b"Wide%d" % place, tzif(types, changes, text, version, rng.choice([0, 0, 2, 3]))))
     return make(rng, zones, about, 30)
 
@@ -1146,7 +1159,7 @@ BAD_FOOTERS += [b"AAA0BBB25,0,1", b"AAA0BBB-24:59:59,0,1", b"AAA0BBB24:59:59,365
 # Footers for version 3: at a limit of a rule time, one beyond it, and of a form
 # that is nearly that of one.
 NEARLY_WIDE = [b"AAA0BBB,%s,%s" % pair for time in [b"167:59:59", b"-167:59:59", b"+167:59:59", b"168", b"-168", b"+168",
-               b"167:60", b"-167:59:60", b"-0", b"-0:30", b"-0:00:01", b"+0:30", b"-000", b"002", b"0002", b"-0002", b"1000",
+               b"167:60", b"-167:59:60", b"-0", b"-0:30", b"-0:00:01", b"+2", b"+0:30", b"-000", b"002", b"0002", b"-0002", b"1000",
                b"-", b"+", b"--1", b"+-1", b"-+1", b"- 1", b"-1:5", b"-1:", b"-:30", b"1-", b"24:59:59", b"25", b"-1", b"200"]
                for pair in [(b"0/" + time, b"100"), (b"M3.5.0", b"M10.5.0/" + time)]]
 NEARLY_WIDE += [b"AAA25", b"AAA025", b"AAA-167", b"AAA0BBB-25,0/-1,1", b"AAA0BBB001,0/-1,1", b"AAA0BBB167,0/167,1"]

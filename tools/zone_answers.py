@@ -4,7 +4,8 @@
 usage: tools/zone_answers.py ZONEINFO OUT
 
 ZONEINFO is a folder of compiled zone files (Debian's package tzdata installs one), OUT the folder to write to. zones.bin is a zone pack in
-document 01's layout with the zones named below and one made here, whose offsets lie at both limits. answers-KKK.bin belongs to record KKK of the
+document 01's layout with the zones named below and two made here: one whose offsets lie at both limits, and America/Nuuk's file with version 2 in both
+headers, which is refused, since its footer has a rule time of -1 hours. answers-KKK.bin belongs to record KKK of the
 pack: pairs of signed 64-bit numbers, a local second (counted as if it were UTC) and the second that it is, big-endian; then pairs of a second with
 656,384,508,000 added, which is beyond the local times, and the second of the next change of the offset after it. A zone that is refused has an empty
 file of answers.
@@ -12,7 +13,7 @@ file of answers.
 The answers for real zones come from Python's zoneinfo, which reads the same files with code of its own: fold=0 gives the earlier of two repeated
 times, and for a skipped time the offset before the change. zoneinfo takes no offset of 24 hours or more, so those for the made zone come from a
 search over every offset of it, written here from RFC 8536 and document 01. Changes of the offset are looked for from 1900 to 2100 between the table's
-transitions and the first days of all months.
+transitions and the first days of all months. America/Nuuk is also asked for the local times about the changes that its footer makes up to 2100.
 """
 import bisect, datetime, os, struct, sys
 from zoneinfo import ZoneInfo
@@ -22,6 +23,7 @@ REAL = ["Europe/Berlin", "America/New_York", "Asia/Kolkata", "Pacific/Apia", "Au
 EPOCH = datetime.datetime(1970, 1, 1)
 YEARS = range(1900, 2101)
 BEYOND = 656384508000   # added to a second whose next change is stored
+WIDE = "America/Nuuk"   # its footer has a rule time of -1 hours
 
 
 def parse(f):
@@ -85,9 +87,9 @@ def locals_of(times, offs, initial):
     return sorted(out)
 
 
-def changes_of(off, times):
-    """the seconds from 1900 to 2100 at which the offset is another than a second before"""
-    firsts = [int((datetime.datetime(y, m, 1) - EPOCH).total_seconds()) for y in YEARS for m in range(1, 13)]
+def changes_of(off, times, years=YEARS):
+    """the seconds of some years, up to 1 December of the last, at which the offset is another than a second before"""
+    firsts = [int((datetime.datetime(y, m, 1) - EPOCH).total_seconds()) for y in years for m in range(1, 13)]
     inside = [t for t in times if firsts[0] < t < firsts[-1]]
     points = sorted(set(firsts) | set(inside) | {t - 1 for t in inside})
     out = []
@@ -109,6 +111,17 @@ def next_pairs(off, times):
     return [(u + BEYOND, changes[bisect.bisect_right(changes, u)]) for u in sorted(asked) if changes and u < changes[-1]]
 
 
+def footer_locals(off, times):
+    """local seconds about the changes that the footer makes"""
+    changes = [t for t in changes_of(off, times) if t > times[-1]]
+    return sorted(set(around(changes, [off(t) for t in changes], off(changes[0] - 1))))
+
+
+def in_version(f, version):
+    """a file with another version in both its headers"""
+    return f.replace(b"TZif" + f[4:5], b"TZif" + version)
+
+
 def made():
     """a zone without footer whose offsets lie at both limits"""
     times = [-10 ** 9, 0, 10 ** 8, 10 ** 9, 10 ** 9 + 100000]
@@ -123,6 +136,7 @@ def made():
 
 def main(folder, out):
     files = [(n, open(os.path.join(folder, n), "rb").read()) for n in REAL] + [("Made/Limits", made())]
+    files.append(("Made/Version-2", in_version(dict(files)[WIDE], b"2")))
     records = [bytes([len(n)]) + n.encode() + f for n, f in files]
     at = 4 + 8 * len(records)
     pack = struct.pack(">I", len(records))
@@ -136,9 +150,12 @@ def main(folder, out):
         if name == "Made/Limits":
             pairs = [(x, by_search(times, offs, initial, x)) for x in locals_of(times, offs, initial)]
             pairs += next_pairs(in_table(times, offs, initial), times)
-        elif name != "America/Nuuk":   # its rule time is -1 hours: refused
+        elif name in REAL:
             zone = ZoneInfo.from_file(open(os.path.join(folder, name), "rb"))
-            pairs = [(x, by_zoneinfo(zone, x)) for x in locals_of(times, offs, initial)] + next_pairs(in_zone(zone), times)
+            asked = locals_of(times, offs, initial)
+            if name == WIDE:
+                asked = sorted({*asked, *footer_locals(in_zone(zone), times)})
+            pairs = [(x, by_zoneinfo(zone, x)) for x in asked] + next_pairs(in_zone(zone), times)
         open(os.path.join(out, f"answers-{k:03}.bin"), "wb").write(b"".join(struct.pack(">qq", *p) for p in pairs))
         print(name, len(f), "bytes,", len(times), "changes,", len(pairs), "answers")
 

@@ -7,30 +7,34 @@ ZONEINFO is a folder of compiled zone files (Debian's package tzdata installs on
 in the folder; a pack has at most 1,024 records and 65,536 bytes, so there are many. The judgement below is written from document 01 and RFC 8536
 and shares nothing with the crates. PROGRAM is test_zones as `rt check test_zones` builds it (target/bin/test_zones): it is run on each pack, and what
 it calls usable is compared. Beside a pack lie answers of Python's zoneinfo for local times about every change and four times a year, and in a second
-run for the next change of the offset (made as zone_answers.py makes them), which the program compares. DAMAGED is a number of files more, made from those that are usable by changing, dropping
-or adding a byte, from a fixed seed, and as many files whose footers are put together at random from good and bad parts: they are judged and
-compared too, without answers.
+run for the next change of the offset (made as zone_answers.py makes them), which the program compares. Each different file whose footer has a rule time
+that version 3 alone has is asked about more: about every change from the year 2 to 9999, the last ones by the footer, and about random seconds from a fixed
+seed, each with the local time that it reads and the next change. DAMAGED is a number of files more, made from those that are usable by changing, dropping
+or adding a byte, from a fixed seed, and as many files in each version whose footers are put together at random from good and bad parts, the same ones in
+both: they are judged and compared too, without answers.
 
 It prints the number of files, of usable ones and of each reason to refuse one with the files' names, and ends with status 1 where the program
 differs.
 """
-import collections, io, os, random, re, struct, subprocess, sys, tempfile
+import bisect, collections, io, os, random, re, struct, subprocess, sys, tempfile
 from zoneinfo import ZoneInfo
 sys.dont_write_bytecode = True
-from zone_answers import by_zoneinfo, in_zone, locals_of, next_pairs, parse
+from zone_answers import BEYOND, by_zoneinfo, changes_of, in_version, in_zone, locals_of, next_pairs, parse
 
 NAME = rb"(?:[A-Za-z]{3,}|<[A-Za-z0-9+-]{3,}>)"
 CLOCK = rb"[0-9]{1,2}(?::[0-9]{2}(?::[0-9]{2})?)?"
 DAY = rb"(?:J[0-9]{1,3}|[0-9]{1,3}|M[0-9]{1,2}\.[0-9]\.[0-9])"
-LINE = re.compile(rb"(%s)([+-]?)(%s)(?:(%s)(?:([+-]?)(%s))?,(%s)(?:/(%s))?,(%s)(?:/(%s))?)?"
-                  % (NAME, CLOCK, NAME, CLOCK, DAY, CLOCK, DAY, CLOCK))
-SIGNED = re.compile(rb".*/([+-][0-9]+|[0-9]{3,})")
+TIMES = {b"2": CLOCK, b"3": rb"[+-]?[0-9]{1,3}(?::[0-9]{2}(?::[0-9]{2})?)?"}   # of rules, by version
+MOST_HOURS = {b"2": 24, b"3": 167}   # of rule times
+LINES = {v: re.compile(rb"(%s)([+-]?)(%s)(?:(%s)(?:([+-]?)(%s))?,(%s)(?:/(%s))?,(%s)(?:/(%s))?)?"
+                       % (NAME, CLOCK, NAME, CLOCK, DAY, TIMES[v], DAY, TIMES[v])) for v in TIMES}
+VERSION_3_ALONE = "rule time of version 3 in version 2"
 
 
-def clock(text):
-    """hours from 0 to 24, minutes and seconds from 0 to 59"""
-    parts = [int(x) for x in text.split(b":")]
-    return parts[0] <= 24 and all(x <= 59 for x in parts[1:])
+def clock(text, most):
+    """hours from 0 to most, minutes and seconds from 0 to 59"""
+    parts = [int(x) for x in text.lstrip(b"+-").split(b":")]
+    return parts[0] <= most and all(x <= 59 for x in parts[1:])
 
 
 def day(text):
@@ -42,18 +46,18 @@ def day(text):
     return int(text) <= 365
 
 
-def footer(line):
-    if line == b"":
-        return None
-    m = LINE.fullmatch(line)
+def is_tz_string(line, version):
+    m = LINES[version].fullmatch(line)
     if m is None:
-        return "hours of a rule time outside 0 to 24" if SIGNED.match(line) else "footer is no POSIX TZ string"
-    clocks = [m.group(i) for i in (3, 6, 8, 10) if m.group(i) is not None]
-    if not all(clock(c) for c in clocks):
-        return "hours of a rule time outside 0 to 24"
-    if not all(day(m.group(i)) for i in (7, 9) if m.group(i) is not None):
-        return "footer is no POSIX TZ string"
-    return None
+        return False
+    offsets, times, days = ([m.group(i) for i in places if m.group(i) is not None] for places in ((3, 6), (8, 10), (7, 9)))
+    return all(clock(c, 24) for c in offsets) and all(clock(c, MOST_HOURS[version]) for c in times) and all(day(d) for d in days)
+
+
+def footer(line, version):
+    if line == b"" or is_tz_string(line, version):
+        return None
+    return VERSION_3_ALONE if is_tz_string(line, b"3") else "footer is no POSIX TZ string"
 
 
 def header(f, at):
@@ -108,7 +112,7 @@ def judge(f):
     tail = f[end:]
     if len(tail) < 2 or tail[:1] != b"\n" or tail[-1:] != b"\n" or b"\n" in tail[1:-1]:
         return "no line of a footer at the end"
-    return footer(tail[1:-1])
+    return footer(tail[1:-1], f[4:5])
 
 
 def files_of(folder):
@@ -140,6 +144,8 @@ def damaged(files, n):
 NAMES = b"CET CEST ABC AB A <+03> <-02> <03> <AB> <> <+0-3> <ABC ABC> A1C abcdefghijklmnop <a.b> <A_B>".split() + [b"", b"<a b>"]
 SIGNS = [b"", b"", b"", b"-", b"+", b"--", b"+-"]
 CLOCKS = b"0 1 5 24 24:59:59 24:00 25 00 01 001 3:30 3:5 3:60 3:59:60 3:59:59 3: :30 3:30: 12:00:00:00 167 2a".split() + [b""]
+WIDE = (b"-1 +2 26 50 -0:30 002 25 100 167 -167 167:59:59 -167:59:59 +167:59:59 -24 099 -000 +0:00:01 168 -168 +168 168:00:00 167:60 -167:59:60 0002 "
+        b"-0002 +0000 200 999 1000 - + --1 +-1 -+1 -1:5 -1: -:30 1- -2a").split()
 DAYS = (b"M3.5.0 M10.5.0 M1.1.1 M12.5.6 M13.1.1 M0.1.1 M3.0.1 M3.6.1 M3.5.7 M03.5.0 M3.05.0 M3.5.00 M003.1.1 M3.5 M3.5. M3..0 M J1 J365 J366 J0 "
         b"J060 J60 J0060 J 0 365 366 00 059 0059 59 X1").split() + [b""]
 
@@ -155,8 +161,8 @@ def a_footer(rng):
         line += part(SIGNS, 5) + part(CLOCKS, 6)
     for _ in range(2 if rng.random() < 0.95 else rng.randrange(4)):
         line += (b"," if rng.random() < 0.97 else b"") + part(DAYS, 4)
-        if rng.random() < 0.5:
-            line += b"/" + (part(SIGNS, 3) if rng.random() < 0.3 else b"") + part(CLOCKS, 6)
+        if rng.random() < 0.6:
+            line += b"/" + (part(WIDE, 17) if rng.random() < 0.4 else (part(SIGNS, 3) if rng.random() < 0.3 else b"") + part(CLOCKS, 6))
     return line + (rng.choice([b" ", b",", b"/", b"x", b"\0"]) if rng.random() < 0.02 else b"")
 
 
@@ -207,22 +213,73 @@ def next_answers(f, known={}):
     return known[f]
 
 
-def run(program, files, asked, answers):
-    """what the program says of each file: whether it is usable, and how many answers are equal and how many are not"""
+ALL_YEARS = range(2, 10000)   # that zoneinfo can tell: its local times are in the years 1 to 9999
+RANDOM = 5000   # seconds of a file
+OLD, NEW = -2208988800, 4133980800   # 1900 and 2101: every other random second lies between them, where most tables have their transitions
+MOST_PAIRS = 65536 // 16   # that the program reads of a file
+
+
+def is_wide(f):
+    """is it usable, though not with version 2 in its headers?"""
+    return judge(f) is None and judge(in_version(f, b"2")) == VERSION_3_ALONE
+
+
+def wide_pairs(f):
+    """the number of changes, and pairs as answers and next_answers have them, about every change of a file and about random seconds"""
+    zone, rng = ZoneInfo.from_file(io.BytesIO(f)), random.Random(3)
+    off = in_zone(zone)
+    changes = changes_of(off, parse(f)[0], ALL_YEARS)
+    local, seconds = set(), set()
+    for c in changes:
+        before, after = off(c - 1), off(c)
+        local |= {c + o + d for o in (before, after) for d in (-1, 0, 1)} | {c + (before + after) // 2}
+        seconds |= {c - 1, c}
+    for k in range(RANDOM):
+        u = rng.randrange(changes[0], changes[-1]) if k % 2 else rng.randrange(max(OLD, changes[0]), NEW)
+        seconds.add(u)
+        local.add(u + off(u))
+    pairs = [(x, by_zoneinfo(zone, x)) for x in sorted(local)]
+    return len(changes), pairs + [(u + BEYOND, changes[bisect.bisect_right(changes, u)]) for u in sorted(seconds) if u < changes[-1]]
+
+
+def report_wide(files, program):
+    """compares the files that are usable by rule times of version 3: how many differ"""
+    names = collections.defaultdict(list)
+    for n, f in files:
+        if is_wide(f):
+            names[f].append(n)
+    print(f"  usable by a rule time that version 3 alone has: {sum(map(len, names.values()))} files, {len(names)} of them different")
+    wrong = 0
+    for f, found in names.items():
+        print("    " + " ".join(found))
+        if program is None:
+            continue
+        changes, pairs = wide_pairs(f)
+        parts = [pairs[i:i + MOST_PAIRS] for i in range(0, len(pairs), MOST_PAIRS)]
+        texts = {f"{k}": b"".join(struct.pack(">qq", *p) for p in part) for k, part in enumerate(parts)}
+        said = run(program, [(n, f) for n in texts], texts).values()
+        equal, different = sum(x[1] for x in said), sum(x[2] for x in said)
+        print(f"      {changes} changes, {RANDOM} random seconds: {equal} answers equal, {different} different")
+        wrong += different != 0 or equal + different != len(pairs)
+    return wrong
+
+
+def run(program, files, asked):
+    """what the program says of each file: whether it is usable, and how many of the answers asked for, by name, are equal and how many are not"""
     said = {}
     for part in packs_of(files):
         with tempfile.TemporaryDirectory() as d:
             open(os.path.join(d, "zones.bin"), "wb").write(pack(part))
             for k, (name, f) in enumerate(part):
                 if name in asked:
-                    open(os.path.join(d, f"answers-{k:03}.bin"), "wb").write(answers(f))
+                    open(os.path.join(d, f"answers-{k:03}.bin"), "wb").write(asked[name])
             out = subprocess.run([program], cwd=d, capture_output=True, check=True).stdout.decode()
         lines = out.splitlines()
         if len(lines) != len(part):
             sys.exit(f"{len(part)} files, {len(lines)} lines: {out[:200]}")
         for (name, f), line in zip(part, lines):
             m = re.fullmatch(re.escape(name) + r": (?:(refused)|usable(?:, (\d+) equal, (\d+) different)?)", line)
-            if name in asked and m.group(1) is None and int(m.group(2)) + int(m.group(3)) != len(answers(f)) // 16:
+            if name in asked and m.group(1) is None and int(m.group(2)) + int(m.group(3)) != len(asked[name]) // 16:
                 sys.exit(f"{name}: not all answers were compared")
             said[name] = m.group(1) is None, int(m.group(2) or 0), int(m.group(3) or 0)
     return said
@@ -236,20 +293,21 @@ def report(title, files, program, whole):
         print(f"  refused, {r}: {n}")
         if whole:
             print("    " + " ".join(x for x in judged if judged[x] == r))
+    wide = report_wide(files, program) if whole else 0
     if program is None:
         return 0
-    asked = {n for n in judged if whole and judged[n] is None}
-    said = run(program, files, asked, answers)
+    asked = [(n, f) for n, f in files if whole and judged[n] is None]
+    said = run(program, files, {n: answers(f) for n, f in asked})
     differ = [n for n in judged if said[n][0] != (judged[n] is None)]
     print(f"  the program judges {len(differ)} otherwise: {' '.join(differ)}")
     wrong = [n for n in judged if said[n][2] != 0]
     if whole:
         print(f"  answers: {sum(x[1] for x in said.values())} equal, {sum(x[2] for x in said.values())} different: {' '.join(wrong)}")
-        said = run(program, files, asked, next_answers)
+        said = run(program, files, {n: next_answers(f) for n, f in asked})
         late = [n for n in judged if said[n][2] != 0]
         print(f"  next changes: {sum(x[1] for x in said.values())} equal, {sum(x[2] for x in said.values())} different: {' '.join(late)}")
         wrong += late
-    return len(differ) + len(wrong)
+    return len(differ) + len(wrong) + wide
 
 
 def main(folder, program=None, more=0):
@@ -262,7 +320,8 @@ def main(folder, program=None, more=0):
     differ = report(folder, fit, program, True)
     if more:
         differ += report("damaged", list(damaged(fit, more)), program, False)
-        differ += report("footers", list(footed(more)), program, False)
+        for version in ("2", "3"):
+            differ += report(f"footers in version {version}", list(footed(more, version)), program, False)
     sys.exit(1 if differ else 0)
 
 
