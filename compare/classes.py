@@ -19,6 +19,7 @@ from zone_ask import FIRST_S, LAST_S, REFUSED, local_of
 
 NO_CLASS = "no class"
 STRAYS = "a footer's change lies outside its year"
+LEAP_DAY = "a footer's day 365 in a common year, with its change inside that year"
 TIE = "a footer's two changes at one instant"
 ORDER = "a footer's two changes come in another order in the years beside"
 WALL = "a footer's two changes come in another order by local time than by UTC"
@@ -130,10 +131,19 @@ def of_years(footer, year):
         return TIE
     if any(second.year_of(at // DAY) != near for near in years for at in told(footer, near)):
         return STRAYS
+    if any(lacks_day(rule, near) for near in years for rule in footer.rules):
+        return LEAP_DAY
     orders = {order(footer, near) for near in years}
     if len({by_utc for by_utc, _ in orders}) > 1:
         return ORDER
     return WALL if any(by_utc != by_clock for by_utc, by_clock in orders) else NO_CLASS
+
+
+def lacks_day(rule, year):
+    """Whether a rule's day is no day of a year: 365 in a common one. jiff then
+    takes the year's last moment, whatever the rule's time."""
+    form, numbers, _ = rule
+    return form == "n" and numbers[0] == 365 and not second.is_leap(year)
 
 
 def order(footer, year):

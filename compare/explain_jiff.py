@@ -19,6 +19,7 @@ from bisect import bisect_right
 sys.dont_write_bytecode = True  # no cache beside the sources
 
 import second
+from classes import lacks_day
 from second import DAY, FARTHEST, FIRST, LAST, NANO
 
 BUILT_IN = (b"utc", b"etc/unknown")
@@ -297,6 +298,8 @@ def year_cause(footer, year):
         return "a tie of a footer's two changes"
     if leaves_its_year(footer, year):
         return "a footer's change that leaves its year"
+    if any(lacks_day(rule, near) for near in (year - 1, year, year + 1) for rule in footer.rules):
+        return "a footer's day 365 in a common year: jiff takes the year's last moment"
     if len({start < end for start, end in changes}) > 1:
         return "a footer's two changes in another order than in a year beside"
     start, end = (second.rule_second(rule, year) for rule in footer.rules)

@@ -131,7 +131,12 @@ def both(rng):
     text = generate.footer_text(rng)
     if rng.random() < 0.5:
         text = summer(rng)[0].rpartition(b"\n")[0].rpartition(b"\n")[2]
-    rules = second.read_footer(text, b"2")
+    return with_table(rng, text, b"22")
+
+
+def with_table(rng, text, versions):
+    """A table before a footer, which mostly agrees with its last type."""
+    rules = second.read_footer(text, versions[:1])
     spaces = rng.choice([[1, 600, 3600, DAY], [3 * DAY, 90 * DAY, 400 * DAY]])
     seconds = [at for at in steps(rng, about(rng), spaces, 4) if FIRST_S < at < LAST_S] or [0]
     names = [(name or b"AAA").strip(b"<>") for name in NAMES.match(text).groups()]
@@ -142,7 +147,7 @@ def both(rng):
         offset = generate.offset(rng)
     types.append((offset, int(daylight), len(names[0]) + 1 if daylight else 0))
     changes = [(at, place + 1) for place, at in enumerate(seconds)]
-    file = zone_file(tuple(types), changes, text, letters=names[0] + b"\0" + names[1] + b"\0")
+    file = zone_file(tuple(types), changes, text, versions, letters=names[0] + b"\0" + names[1] + b"\0")
     return file, [span_of(seconds[-1]), span_of(about(rng))]
 
 
@@ -152,10 +157,30 @@ def is_daylight(rules, at):
     return max(change for change in rules.around(year) if change[0] <= at)[1]
 
 
+def wide(rng):
+    """A footer with rule times that version 3 alone has, with a table before it or
+    without: inside the year and apart, or at its ends."""
+    text = generate.wide_text(rng)
+    if rng.random() < 0.4:
+        standard = generate.offset(rng, 50_000)
+        times = [generate.wide_clock(rng, rng.choice([1, -1]) * rng.randint(90_000, generate.WIDEST)) for _ in range(2)]
+        rules = [f"M{month}.{rng.randint(1, 5)}.{rng.randrange(7)}/{time}" for month, time in zip(rng.sample([2, 5, 8, 11], 2), times)]
+        text = f"AAA{generate.west(standard)}BBB,{rules[0]},{rules[1]}".encode()
+    if rng.random() < 0.4:
+        return with_table(rng, text, b"33")
+    return zone_file(footer=text, versions=b"33"), [span_of(about(rng)) for _ in range(3)]
+
+
 FAMILIES = [near, apart, none, ends, footer, footer, summer, both, both]
+APART = [wide]  # made by name alone: in FAMILIES it would change the files of every seed
 
 
-def make(rng):
+def family_of(title):
+    """The family of a title, and None for none."""
+    return {family.__name__: family for family in FAMILIES + APART}.get(title)
+
+
+def make(rng, family=None):
     """A family's title, a file, and spans to ask the footer's changes in."""
-    family = rng.choice(FAMILIES)
+    family = family or rng.choice(FAMILIES)
     return (family.__name__, *family(rng))

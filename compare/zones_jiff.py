@@ -2,13 +2,14 @@
 """Compares offsets, changes and local times of zone files: jiff's and ours.
 
 Usage: zones_jiff.py ZONE database [--zoneinfo DIR] [--calls PROGRAM]
-       zones_jiff.py ZONE made SEED COUNT [--calls PROGRAM]
+       zones_jiff.py ZONE made SEED COUNT [FAMILY] [--calls PROGRAM]
        zones_jiff.py ZONE taken COUNT [--zoneinfo DIR] [--calls PROGRAM]
 
 ZONE is the program `zone` that jiff/build.sh builds. `database` asks about
 every different zone file below DIR (/usr/share/zoneinfo if not told
 otherwise), `made` about COUNT files made from SEED that are meant to be taken
-by both, `taken` of COUNT files below DIR with a byte changed, dropped or added
+by both, of a mix or of one family of made_zones.py (`wide`: rule times that
+version 3 alone has, which is in no mix), `taken` of COUNT files below DIR with a byte changed, dropped or added
 and of COUNT footers put together from good and bad parts, each in version 2
 and in version 3 (as tools/zone_survey.py makes them), only whether they are
 taken. Ours is second.py's reading of document 01; PROGRAM is test_zone_calls as
@@ -220,12 +221,12 @@ def taken(comparison, folder, count):
     print(f"{len(cases)} files")
 
 
-def made(comparison, seed, count):
+def made(comparison, seed, count, family):
     for place in range(count):
         rng = random.Random(f"{seed}/{place}")
-        family, file, spans = made_zones.make(rng)
+        title, file, spans = made_zones.make(rng, family)
         lines = questions(second.read_zone(file), spans, YEARS[::FEWER])
-        comparison.compare(f"{place} {family}", file, lines)
+        comparison.compare(f"{place} {title}", file, lines)
     print(f"{count} made zone files of seed {seed}")
 
 
@@ -240,6 +241,7 @@ def main(arguments):
 
     zoneinfo = option("--zoneinfo", "/usr/share/zoneinfo")
     calls = option("--calls", None)
+    family = made_zones.family_of(arguments.pop()) if arguments[1:2] == ["made"] and len(arguments) == 5 else None
     modes = {"database": 2, "taken": 3, "made": 4}
     if len(arguments) < 2 or modes.get(arguments[1]) != len(arguments):
         sys.exit(__doc__)
@@ -249,7 +251,7 @@ def main(arguments):
     elif arguments[1] == "taken":
         taken(comparison, zoneinfo, int(arguments[2]))
     else:
-        made(comparison, arguments[2], int(arguments[3]))
+        made(comparison, arguments[2], int(arguments[3]), family)
     sys.exit(comparison.counts.show())
 
 

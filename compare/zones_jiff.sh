@@ -3,7 +3,9 @@
 #
 #   zones_jiff.sh rows                 the inputs of docs/DIFFERENCES.md
 #   zones_jiff.sh database             every file of the tz database
-#   zones_jiff.sh made SEED COUNT      made files that both are meant to take
+#   zones_jiff.sh made SEED COUNT [FAMILY]
+#                                      made files that both are meant to take, of
+#                                      a mix or of a family of made_zones.py
 #   zones_jiff.sh taken COUNT          which files are taken and which refused
 #
 # Settings from the environment:
@@ -18,13 +20,13 @@
 set -eu
 
 usage() {
-    echo "usage: zones_jiff.sh rows | database | made SEED COUNT | taken COUNT" >&2
+    echo "usage: zones_jiff.sh rows | database | made SEED COUNT [FAMILY] | taken COUNT" >&2
     exit 2
 }
 here=$(cd "$(dirname "$0")" && pwd)
 part=${1:-}
 case $part-$# in
-rows-1 | database-1 | made-3 | taken-2) ;;
+rows-1 | database-1 | made-3 | made-4 | taken-2) ;;
 *) usage ;;
 esac
 work=${WORK:-$(mktemp -d /tmp/compare.XXXXXX)}
