@@ -109,7 +109,19 @@ def of_local(zone, local):
         return CLOSE
     if any(time > LAST_S or time < FIRST_S for time in zone.times):
         return BEYOND
-    return of_years(zone.footer, second.year_of(local // DAY)) if is_ruled(zone) else NO_CLASS
+    title = of_years(zone.footer, second.year_of(local // DAY)) if is_ruled(zone) else NO_CLASS
+    return CLOSE if title == NO_CLASS and is_overtaken(zone, local) else title
+
+
+def is_overtaken(zone, local):
+    """Whether a change that the footer has before the last transition, where it
+    does not rule yet, reads or jumps over a local time: jiff asks the footer about
+    all local times behind that transition."""
+    if not is_ruled(zone) or not zone.times:
+        return False
+    least, greatest = min(zone.footer.offsets()), max(zone.footer.offsets())
+    last = min(max(zone.times[-1], FIRST_S), LAST_S)
+    return any(at + least <= local < at + greatest for at in zone.footer.instants(last - REACH, last))
 
 
 def overlap(zone, one, two):

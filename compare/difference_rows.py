@@ -12,6 +12,7 @@ sys.dont_write_bytecode = True  # no cache beside the sources
 
 import generate
 from made_zones import offsets_file, zone_file
+from second import DAY
 from zone_ask import FIRST_S, LAST_S
 
 Row = collections.namedtuple("Row", "part what given line theirs ours decides")
@@ -28,6 +29,8 @@ NO = "no 5"
 YEAR = 1_767_225_600  # 2026-01-01T00:00:00Z
 LEAP_YEAR = 1_704_067_200  # 2024-01-01T00:00:00Z
 JULY = 1_782_864_000  # 2026-07-01T00:00:00Z
+WEEK_BEHIND = YEAR + 604_799  # 2026-01-07T23:59:59Z, 167:59:59 behind the year's start
+WEEK_BEFORE = YEAR - 604_799  # 2025-12-25T00:00:01Z, 167:59:59 before it
 LATE = 2_145_916_800  # 2038-01-01T00:00:00Z
 EVE = 2_240_609_400  # 2040-12-31T23:30:00Z
 ENDLESS = "does not end"
@@ -39,9 +42,16 @@ def quote(text):
     return f'01: "{text}"'
 
 
+def quote_change(text):
+    return f'02, 1: "{text}"'
+
+
 HOURS = quote("Hours in offsets and rule times go from 0 to 24.")
 POSIX = quote("A footer is empty or a POSIX TZ string.")
-SIGN = POSIX + "; RFC 8536, 3.3.1 has signs in version 3 alone"
+NARROW = quote_change("version '2' and all offsets stay at 0 to 24")
+SIGN = NARROW + "; RFC 8536, 3.3.1 has signs in version 3 alone"
+DIGITS = quote_change("Take that range, in one to three digits")
+WIDE = quote_change("For version '3' RFC 8536 lets the hours of rule times run from -167 to 167, signed.")
 RULES = quote("A daylight name needs both its rules.")
 VERSION = quote("'2' or '3', in both headers")
 SKIPPED = quote("its first data block skipped by its own counts")
@@ -66,6 +76,8 @@ FIRST_MATCH = quote("The finder hands back the TZif part of the lent pack itself
 RANGE = quote("instant or its nanoseconds out of range")
 ROUNDED = quote("whole seconds from 1970-01-01T00:00:00Z, rounded down")
 
+JERUSALEM, GAZA, NUUK = "IST-2IDT,M3.4.4/26,M10.5.0", "EET-2EEST,M3.4.4/50,M10.4.4/50", "<-02>2<-01>,M3.5.0/-1,M10.5.0/0"
+
 ROWS = []
 
 
@@ -73,23 +85,26 @@ def zone(part, what, file, line, theirs, ours, decides):
     ROWS.append(Row(part, what, [file], line, theirs, ours, decides))
 
 
-def footed(part, text, line, theirs, ours, decides, what=None):
-    """A footer alone, in files of version 2 and of version 3."""
-    files = [zone_file(footer=text.encode(), versions=versions) for versions in (b"22", b"33")]
-    ROWS.append(Row(part, what or f"footer `{text}`", files, line, theirs, ours, decides))
+def footed(part, text, line, theirs, ours, decides, what=None, version=None):
+    """A footer alone, in files of version 2 and of version 3, or of one of them."""
+    files = [zone_file(footer=text.encode(), versions=versions) for versions in ([version * 2] if version else (b"22", b"33"))]
+    told = f", version {version.decode()}" if version else ""
+    ROWS.append(Row(part, what or f"footer `{text}`{told}", files, line, theirs, ours, decides))
+
+
+def in_three(part, text, line, theirs, ours, decides):
+    """A footer alone, in a file of version 3."""
+    footed(part, text, line, theirs, ours, decides, version=b"3")
 
 
 def taken_footers():
     at = f"offset {YEAR}"
-    footed(TAKEN, "AAA0BBB,0/25,1", at, "0", NO, HOURS)
-    footed(TAKEN, "AAA0BBB,0/167:59:59,1", at, "3600", NO, HOURS)
-    footed(TAKEN, "AAA0BBB,0/-1,1", at, "3600", NO, HOURS)
-    footed(TAKEN, "AAA0BBB,0/-167,1", at, "3600", NO, HOURS)
-    footed(TAKEN, "AAA0BBB,0/+1,1", at, "0", NO, SIGN)
-    footed(TAKEN, "AAA0BBB,0/000,1", at, "3600", NO, POSIX)
-    footed(TAKEN, "IST-2IDT,M3.4.4/26,M10.5.0", at, "7200", NO, HOURS)
-    footed(TAKEN, "EET-2EEST,M3.4.4/50,M10.4.4/50", at, "7200", NO, HOURS)
-    footed(TAKEN, "<-02>2<-01>,M3.5.0/-1,M10.5.0/0", at, "-7200", NO, HOURS)
+    rows = [("AAA0BBB,0/25,1", "0", NARROW), ("AAA0BBB,0/167:59:59,1", "3600", NARROW), ("AAA0BBB,0/-1,1", "3600", NARROW)]
+    rows += [("AAA0BBB,0/-167,1", "3600", NARROW), ("AAA0BBB,0/-0:30,1", "3600", SIGN), ("AAA0BBB,0/+1,1", "0", SIGN)]
+    rows += [("AAA0BBB,0/000,1", "3600", POSIX), ("AAA0BBB,0/002,1", "0", POSIX)]
+    rows += [(JERUSALEM, "7200", NARROW), (GAZA, "7200", NARROW), (NUUK, "-7200", NARROW)]
+    for text, offset, decides in rows:
+        footed(TAKEN, text, at, offset, NO, decides, version=b"2")
 
 
 def taken_files():
@@ -144,6 +159,15 @@ def footer_answers():
     footed(OTHER, "AAA0BBB,J60,60", f"offset {LEAP_YEAR}", "3600", "0", LATEST)
     footed(OTHER, "AAA0BBB,1,1", "local 2026 7 1 0", f"{JULY} 0", f"{JULY - 3600} 0", EARLIEST)
     footed(OTHER, "AAA24:59:59BBB,365/24:59:59,365/24:59:58", f"offset {YEAR}", "-89999", "-86399", LATEST)
+    in_three(OTHER, "AAA0BBB,0/25,1", f"offset {YEAR}", "0", "3600", TIE)
+    in_three(OTHER, "AAA0BBB,0/-1,1", f"offset {YEAR - 3600}", "0", "3600", LATEST)
+    in_three(OTHER, "AAA0BBB,0/-167:59:59,1", f"offset {WEEK_BEFORE}", "0", "3600", LATEST)
+    in_three(OTHER, "AAA0BBB,0/-167:59:59,1", f"change {WEEK_BEFORE - 1}", str(YEAR), str(WEEK_BEFORE), LATEST)
+    in_three(OTHER, "AAA0BBB,0/-167,1", "local 2025 12 28 0", "1766880000 0", "1766876400 0", LATEST)
+    in_three(OTHER, "AAA0BBB,365/167:59:59,1", f"offset {WEEK_BEHIND}", "0", "3600", LATEST)
+    in_three(OTHER, "AAA0BBB,365/167:59:59,1", f"change {WEEK_BEHIND - 1}", "1798761599", str(WEEK_BEHIND), LATEST)
+    in_three(OTHER, "AAA0BBB,365/167:59:59,365/167", f"offset {YEAR}", "0", "3600", LATEST)
+    in_three(OTHER, "AAA0BBB,365/-1,300", f"offset {YEAR - 3600}", "0", "3600", LATEST)
     file = zone_file(((3600, 0, 0),), footer=b"AAA0BBB,364/0,365/0")
     what = "type of offset 3600, footer `AAA0BBB,364/0,365/0`"
     zone(OTHER, what, file, f"offset {FIRST_S}", "3600", "0", THROUGHOUT)
@@ -207,12 +231,21 @@ def alike():
     footed(ALIKE, "AAA0BBB", at, NO, NO, RULES)
     for text in ("AAA0BBB,0001,1", "AAA0BBB,0,366", "AAA0BBB,J0,1", "AAA0BBB,M1.01.0,1", "AAA0BBB,0/1:2,1"):
         footed(ALIKE, text, at, NO, NO, POSIX)
-    for text in ("AAA25", "AAA0BBB,0/168,1", "AAA0BBB,0/-168,1"):
-        footed(ALIKE, text, at, NO, NO, HOURS)
+    footed(ALIKE, "AAA25", at, NO, NO, HOURS)
+    for text in ("AAA0BBB25,0,1", "AAA0BBB-25,0,1"):
+        footed(ALIKE, text, at, NO, NO, NARROW)
+    for text in ("AAA0BBB,0/168,1", "AAA0BBB,0/-168,1", "AAA0BBB,0/+168,1"):
+        footed(ALIKE, text, at, NO, NO, WIDE)
+    footed(ALIKE, "AAA0BBB,0/167:60,1", at, NO, NO, POSIX)
+    for text in ("AAA0BBB,0/0002,1", "AAA0BBB,0/-,1"):
+        footed(ALIKE, text, at, NO, NO, DIGITS)
+    for text in ("AAA0BBB,0/--1,1", "AAA0BBB,0/+-1,1"):
+        footed(ALIKE, text, at, NO, NO, WIDE)
     for text, offset in (("<+01>-1", "3600"), ("<A-1>1", "-3600"), ("AAA+1", "-3600")):
         footed(ALIKE, text, at, offset, offset, POSIX)
     for text, offset in (("AAA24:59:59", "-89999"), ("AAA-24:59:59BBB,0,1", "93599"), ("AAA0BBB,0/24:59:59,1", "0")):
         footed(ALIKE, text, at, offset, offset, HOURS)
+    alike_in_three()
     footed(ALIKE, "AAA3EDT4,0/0,J365/23", f"offset {JULY}", "-14400", "-14400", ALL_YEAR)
     permanent, letters = "AAA-2<+01>-1,0/0,J365/23", b"AAA\0+01\0"
     zone(ALIKE, f"a transition at {LATE} (2038) to a daylight type of offset 3600 named +01; footer `{permanent}`",
@@ -226,6 +259,20 @@ def alike():
     zone(ALIKE, "a UT indicator of 0, no standard indicators", zone_file(uts=b"\0"), at, "0", "0",
          quote("indicator counts 0 or the type count"))
     zone(ALIKE, "footer `BBB1` without transitions, a type named AAA", zone_file(footer=b"BBB1"), at, "-3600", "-3600", THROUGHOUT)
+
+
+def alike_in_three():
+    """Rule times that version 3 alone has, with changes that stay in their year."""
+    changes = [(NUUK, 1_774_746_000), (GAZA, 1_774_656_000), (JERUSALEM, 1_774_569_600)]
+    changes += [("AAA0BBB,100/167:59:59,200", YEAR + 100 * DAY + 604_799), ("AAA0BBB,100/-167:59:59,200", YEAR + 100 * DAY - 604_799)]
+    changes += [("AAA0BBB,100/-0:30,200", YEAR + 100 * DAY - 1800), ("AAA0BBB,100/+1,200", YEAR + 100 * DAY + 3600)]
+    for text, at in changes:
+        in_three(ALIKE, text, f"change {YEAR}", str(at), str(at), WIDE)
+    for text, at in (("AAA0BBB,100/002,200", 7200), ("AAA0BBB,100/-002,200", -7200)):
+        at += YEAR + 100 * DAY
+        in_three(ALIKE, text, f"change {YEAR}", str(at), str(at), DIGITS)
+    in_three(ALIKE, "AAA0BBB,0/167:59:59,1", f"offset {WEEK_BEHIND - 1}", "0", "0", WIDE)
+    in_three(ALIKE, "AAA0BBB,0/167:59:59,1", f"offset {WEEK_BEHIND}", "3600", "3600", WIDE)
 
 
 def books():
