@@ -141,7 +141,7 @@ def of_years(footer, year):
     instants = [at for near in years for at, _ in footer.of_year(near)]
     if len(set(instants)) < len(instants):
         return TIE
-    if any(second.year_of(at // DAY) != near for near in years for at in told(footer, near)):
+    if any(second.year_of(at // DAY) != near for near in years for at in seconds_told(footer, near)):
         return STRAYS
     if any(lacks_day(rule, near) for near in years for rule in footer.rules):
         return LEAP_DAY
@@ -165,7 +165,7 @@ def order(footer, year):
     return start < end, start + footer.standard <= end + footer.daylight
 
 
-def told(footer, year):
+def seconds_told(footer, year):
     """A year's changes, as instants and as local times by either offset."""
     found = [at for at, _ in footer.of_year(year)]
     return found + [at + offset for at in found for offset in footer.offsets()]

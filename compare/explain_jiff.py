@@ -19,7 +19,7 @@ from bisect import bisect_right
 sys.dont_write_bytecode = True  # no cache beside the sources
 
 import second
-from classes import lacks_day
+from classes import lacks_day, seconds_told
 from second import DAY, FARTHEST, FIRST, LAST, NANO
 
 BUILT_IN = (b"utc", b"etc/unknown")
@@ -30,6 +30,7 @@ AHEAD = 60  # dates to either side that are asked about together: walks go on to
 KEPT = 200_000  # answers kept of a zone
 MOST_WINDOWS = 2_000  # that are worked out for a line
 SEVERAL = "; "  # between the causes of a line
+LEAVES = "a footer's change that leaves its year"
 TOO_LONG = " (the line is too long for jiff's answer to be worked out again)"
 
 
@@ -297,14 +298,16 @@ def year_cause(footer, year):
     if any(start == end for start, end in changes):
         return "a tie of a footer's two changes"
     if leaves_its_year(footer, year):
-        return "a footer's change that leaves its year"
+        return LEAVES
     if any(lacks_day(rule, near) for near in (year - 1, year, year + 1) for rule in footer.rules):
         return "a footer's day 365 in a common year: jiff takes the year's last moment"
     if len({start < end for start, end in changes}) > 1:
         return "a footer's two changes in another order than in a year beside"
     start, end = (second.rule_second(rule, year) for rule in footer.rules)
-    crossed = (start < end) != (changes[1][0] < changes[1][1]) or start == end
-    return "a footer's two changes in another order by local time than by UTC" if crossed else None
+    if (start < end) != (changes[1][0] < changes[1][1]) or start == end:
+        return "a footer's two changes in another order by local time than by UTC"
+    read = [(near, at) for near in (year - 1, year, year + 1) for at in seconds_told(footer, near)]
+    return LEAVES if any(second.year_of(at // DAY) != near for near, at in read) else None
 
 
 def leaves_its_year(footer, about):
@@ -334,7 +337,7 @@ def local_cause(zone, date, time, told, driver):
         return "a local time at the range's end"
     if len(transitions) > 1:
         return close_cause(zone, local, transitions, told // NANO)
-    rules = zone.footer and (not zone.times or zone.times[-1] <= low)
+    rules = zone.footer and (not zone.times or zone.times[-1] <= max(low, *near))
     return year_cause(zone.footer, second.year_of(date)) if rules else None
 
 
