@@ -15,7 +15,7 @@ import datetime, io, os, struct, sys
 from zoneinfo import ZoneInfo
 from zone_answers import EPOCH, by_zoneinfo, in_zone, parse
 
-ZONES = ["Europe/Berlin", "America/New_York", "Asia/Kolkata", "Australia/Lord_Howe", "Pacific/Apia"]
+ZONES = ["Europe/Berlin", "America/New_York", "Asia/Kolkata", "Australia/Lord_Howe", "Pacific/Apia", "America/Nuuk"]
 NUUK = b"<-02>2<-01>,M3.5.0/-1,M10.5.0/0"   # the footer of America/Nuuk, with a rule time of -1 hours, as version 3 alone allows it
 FIRST, LAST, NANO = -377705023201, 253402207200, 10 ** 9
 YEAR_ONE = int((datetime.datetime(1, 1, 3) - EPOCH).total_seconds())

@@ -147,14 +147,14 @@ offset = do
   t ← clock 2 mostHours
   pure (if east then offsetBias + t else offsetBias - t)
 
--- "signed .. in one to three digits"; the sign is that of minutes and seconds too
+-- "from -167 to 167, signed .. in one to three digits"; the sign is that of minutes and seconds too
 unfoldable pub signedTime : Parser ℕ
 signedTime = do
   before ← sign
   t ← clock 3 mostRuleHours
   pure (if before then timeBias - t else timeBias + t)
 
--- the time of a change
+-- the time of a change: "For version '3' .. signed"; POSIX.1 allows no sign, and "version '2' .. stay[s] at 0 to 24"
 unfoldable pub ruleTime : ℕ → Parser ℕ
 ruleTime version = if eqb version (code "3") then signedTime else (clock 2 mostHours >>= λ t. pure (timeBias + t))
 
