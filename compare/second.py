@@ -14,7 +14,8 @@ results when every window that may be skipped is skipped.
              `ok COUNT numbers..` or `no 10 0`
   --every    skip no window (for the check that skipping changes no answer)
 
-It is written from document 01 and shares no code with the verified program.
+It is written from document 01, with the rule times that version 3 of a zone file
+may have since the first change to it, and shares no code with the verified program.
 Instants and durations are whole numbers of nanoseconds, dates are day numbers
 from 1970-01-01, zone offsets and changes are whole seconds.
 """
