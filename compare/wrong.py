@@ -141,10 +141,13 @@ def too_long(*_):
     raise TimeoutError("too long")
 
 
-def main(seed, count, family, wanted):
+def main(seed, count, title, wanted):
     sys.path.insert(0, HERE)
     import generate
 
+    family = generate.family_of(title)
+    if title and not family:
+        sys.exit(f"{title}: no family of generate.py")
     signal.signal(signal.SIGVTALRM, too_long)
 
     with open(os.path.join(HERE, "second.py"), encoding="utf-8") as file:
@@ -154,7 +157,7 @@ def main(seed, count, family, wanted):
     missed = 0
     with tempfile.TemporaryDirectory() as folder:
         for place in range(count):
-            generate.write_case(seed, place, folder, "/usr/share/zoneinfo", generate.family_of(family))
+            generate.write_case(seed, place, folder, "/usr/share/zoneinfo", family)
         cases = [os.path.join(folder, name) for name in sorted(os.listdir(folder))]
         told = [answers(right, case) for case in cases]
         for name, (stands, has) in WRONG.items():

@@ -241,9 +241,10 @@ def main(arguments):
 
     zoneinfo = option("--zoneinfo", "/usr/share/zoneinfo")
     calls = option("--calls", None)
-    family = made_zones.family_of(arguments.pop()) if arguments[1:2] == ["made"] and len(arguments) == 5 else None
+    title = arguments.pop() if arguments[1:2] == ["made"] and len(arguments) == 5 else None
+    family = made_zones.family_of(title)
     modes = {"database": 2, "taken": 3, "made": 4}
-    if len(arguments) < 2 or modes.get(arguments[1]) != len(arguments):
+    if len(arguments) < 2 or modes.get(arguments[1]) != len(arguments) or (title and not family):
         sys.exit(__doc__)
     comparison = Comparison(arguments[0], calls)
     if arguments[1] == "database":
