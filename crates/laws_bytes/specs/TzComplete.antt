@@ -5,6 +5,7 @@ use mathlib.Core.Option.{Option, none, some, Option·none-ne-some, Option·some-
 use mathlib.Core.List.{List, [], _∷_, _++_, append-nil, append-assoc}
 use mathlib.Core.Logic.{_⊎_, inl, inr}
 use Prim.Native.Nat.{ℕ, zero, suc, _+_, _*_, _-_, _≤_}
+use Prim.Native.Char.{code}
 use native.Mathlib.Nat.{le-of-suc-le-suc, not-suc-le-zero}
 use native.Mathlib.Omega.{arith}
 use lib.Dec.{eqb}
@@ -12,7 +13,7 @@ use lib.ListN.{length, length-append}
 use borrow.Author.Tests.{eqb-true, eq-eqb, le-leb, ne-eqb}
 use Rattle.model.specs.Basic.{isIn, all}
 use Rattle.model.specs.Footer as F
-use Rattle.model.specs.Footer.{Day, ChangeRule, Footer, fixed, rules, after, _>>=_, only, has, byte, atEnd, isDigit, isLetter, spanned, digits, isNameByte, name, sign, offset, clock, signedTime, ruleTime, monthText, dayText, changeRuleText, daylightText, footerText, parsed, footerOf}
+use Rattle.model.specs.Footer.{Day, ChangeRule, Footer, fixed, rules, after, _>>=_, only, has, byte, atEnd, isDigit, isLetter, spanned, digits, isNameByte, name, mostHours, mostRuleHours, sign, offset, clock, signedTime, ruleTime, monthText, dayText, changeRuleText, daylightText, footerText, parsed, footerOf}
 use Rattle.model.specs.Lines.{decimalFrom}
 use Rattle.laws_base.specs.Test.{by-test, by-either, or-true, clash, in-bounds, within, all-head}
 use Rattle.laws_bytes.specs.TzGrammar.{Decimal, more, Number, number, Sixty, sixty, Clock, hours, minutes, seconds, Letter, upper, lower, Quoted, letter, plus, minus, Word, three, longer, Name, bare, quoted, Sign, unsigned, positive, negative, Offset, west, east, DateText, dateJ, dateN, dateM, TimeText, posix, later, earlier, RuleText, untimed, timed, DaylightText, hour, written, TzString, standard, daylight}
@@ -323,3 +324,30 @@ underived-none version s h = go (footerOf version s) refl
     go : (o : Option Footer) → footerOf version s ≡ o → o ≡ none
     go none e = refl
     go (some f) e = absurd (h f (tz-sound version s f e))
+
+-- ---- what version 2 takes, version 3 reads alike
+
+number-wider : {s : List ℕ} {h : ℕ} → Number 2 0 mostHours s h → Number 3 0 mostRuleHours s h
+number-wider (number d h l u) = number d (omega arith) l (omega arith)
+
+clock-wider : {s : List ℕ} {t : ℕ} → Clock 2 mostHours s t → Clock 3 mostRuleHours s t
+clock-wider (hours g) = hours (number-wider g)
+clock-wider (minutes g h) = minutes (number-wider g) h
+clock-wider (seconds g h k) = seconds (number-wider g) h k
+
+time-wider : {s : List ℕ} {t : ℕ} → TimeText (code "2") s t → TimeText (code "3") s t
+time-wider (posix n g) = later refl unsigned (clock-wider g)
+time-wider (later e x g) = absurd (omega (arith, e))
+time-wider (earlier e x g) = absurd (omega (arith, e))
+
+rule-wider : {s : List ℕ} {r : ChangeRule} → RuleText (code "2") s r → RuleText (code "3") s r
+rule-wider (untimed g) = untimed g
+rule-wider (timed g h) = timed g (time-wider h)
+
+text-wider : {s : List ℕ} {f : Footer} → TzString (code "2") s f → TzString (code "3") s f
+text-wider TzString.nothing = TzString.nothing
+text-wider (standard n g) = standard n g
+text-wider (daylight n g m d i j) = daylight n g m d (rule-wider i) (rule-wider j)
+
+pub version-3-reads-alike : (s : List ℕ) (f : Footer) → footerOf (code "2") s ≡ some f → footerOf (code "3") s ≡ some f
+version-3-reads-alike s f e = tz-complete (code "3") s f (text-wider (tz-sound (code "2") s f e))
