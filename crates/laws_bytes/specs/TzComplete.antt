@@ -13,7 +13,7 @@ use lib.ListN.{length, length-append}
 use borrow.Author.Tests.{eqb-true, eq-eqb, le-leb, ne-eqb}
 use Rattle.model.specs.Basic.{isIn, all}
 use Rattle.model.specs.Footer as F
-use Rattle.model.specs.Footer.{Day, ChangeRule, Footer, fixed, rules, after, _>>=_, only, has, byte, atEnd, isDigit, isLetter, spanned, digits, isNameByte, name, mostHours, mostRuleHours, sign, offset, clock, signedTime, ruleTime, monthText, dayText, changeRuleText, daylightText, footerText, parsed, footerOf}
+use Rattle.model.specs.Footer.{Day, ChangeRule, Footer, fixed, rules, after, _>>=_, only, has, byte, atEnd, isDigit, isLetter, spanned, digits, isNameByte, name, mostHours, mostRuleHours, sign, clock, signedClock, offsetBy, offset, timeBy, signedTime, ruleTime, monthText, dayText, changeRuleText, daylightText, footerText, parsed, footerOf}
 use Rattle.model.specs.Lines.{decimalFrom}
 use Rattle.laws_base.specs.Test.{by-test, by-either, or-true, clash, in-bounds, within, all-head}
 use Rattle.laws_bytes.specs.TzGrammar.{Decimal, more, Number, number, Sixty, sixty, Clock, hours, minutes, seconds, Letter, upper, lower, Quoted, letter, plus, minus, Word, three, longer, Name, bare, quoted, Sign, unsigned, positive, negative, Offset, west, east, DateText, dateJ, dateN, dateM, TimeText, posix, later, earlier, RuleText, untimed, timed, DaylightText, hour, written, TzString, standard, daylight}
@@ -206,16 +206,20 @@ sign-gives a w r unsigned g =
 sign-gives a w r positive g = refl
 sign-gives a w r negative g = refl
 
+signed-gives : (value : Bool → ℕ → ℕ) {k hi t : ℕ} {minus : Bool} (a w r : List ℕ) → Sign a minus → Clock k hi w t → Free r → signedClock value k hi (a ++ w ++ r) ≡ some (value minus t, r)
+unfolding signedClock
+signed-gives value a w r x g h = rw (append-assoc a w r, sign-gives a w r x g, clock-gives w r g h)
+
 offset-gives : {o : ℕ} (w r : List ℕ) → Offset w o → Free r → offset (w ++ r) ≡ some (o, r)
 unfolding offset
-offset-gives w r (west {a = a} {s = s} x g) h = rw (append-assoc a s r, sign-gives a s r x g, clock-gives s r g h)
-offset-gives w r (east {a = a} {s = s} x g) h = rw (append-assoc a s r, sign-gives a s r x g, clock-gives s r g h)
+offset-gives w r (west {a = a} {s = s} x g) h = signed-gives offsetBy a s r x g h
+offset-gives w r (east {a = a} {s = s} x g) h = signed-gives offsetBy a s r x g h
 
 time-gives : {version t : ℕ} (w r : List ℕ) → TimeText version w t → Free r → ruleTime version (w ++ r) ≡ some (t, r)
 unfolding ruleTime signedTime
 time-gives {version} w r (posix n g) h = rw (ne-eqb version 51 n, clock-gives w r g h)
-time-gives {version} w r (later {a = a} {s = s} e x g) h = rw (eq-eqb version 51 e, append-assoc a s r, sign-gives a s r x g, clock-gives s r g h)
-time-gives {version} w r (earlier {a = a} {s = s} e x g) h = rw (eq-eqb version 51 e, append-assoc a s r, sign-gives a s r x g, clock-gives s r g h)
+time-gives {version} w r (later {a = a} {s = s} e x g) h = rw (eq-eqb version 51 e) (signed-gives timeBy a s r x g h)
+time-gives {version} w r (earlier {a = a} {s = s} e x g) h = rw (eq-eqb version 51 e) (signed-gives timeBy a s r x g h)
 
 date-gives : {d : Day} (w r : List ℕ) → DateText w d → Stops isDigit r → dayText (w ++ r) ≡ some (d, r)
 unfolding dayText monthText Ends

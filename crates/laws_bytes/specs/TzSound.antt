@@ -10,10 +10,9 @@ use native.Mathlib.Omega.{arith}
 use lib.Dec.{leb, eqb}
 use lib.ListN.{length, length-append}
 use borrow.Author.Tests.{leb-true, eqb-true, eqb-false}
-use Rattle.model.specs.Basic.{if_then_else_, isIn, all}
-use Rattle.model.specs.Offset.{offsetBias}
+use Rattle.model.specs.Basic.{isIn, all}
 use Rattle.model.specs.Footer as F
-use Rattle.model.specs.Footer.{ChangeRule, Footer, fixed, rules, Parser, after, _>>=_, pure, only, has, byte, atEnd, isDigit, isLetter, spanned, digits, isNameByte, name, sign, offset, clock, timeBias, mostHours, mostRuleHours, signedTime, ruleTime, monthText, dayText, changeRuleText, daylightText, footerText, parsed, footerOf}
+use Rattle.model.specs.Footer.{ChangeRule, Footer, fixed, rules, Parser, after, _>>=_, pure, only, has, byte, atEnd, isDigit, isLetter, spanned, digits, isNameByte, name, sign, clock, signedClock, offsetBy, offset, timeBy, mostHours, mostRuleHours, signedTime, ruleTime, monthText, dayText, changeRuleText, daylightText, footerText, parsed, footerOf}
 use Rattle.laws_base.specs.Test.{by-test, by-either, or-true, clash, in-bounds, all-head}
 use Rattle.laws_bytes.specs.TzGrammar.{Decimal, more, Number, number, Sixty, sixty, Clock, hours, minutes, seconds, Letter, upper, lower, Quoted, letter, plus, minus, Word, three, longer, Name, bare, quoted, Sign, unsigned, positive, negative, Offset, west, east, DateText, dateJ, dateN, dateM, TimeText, posix, later, earlier, RuleText, untimed, timed, hour, written, TzString, standard, daylight}
 
@@ -236,7 +235,8 @@ sign-read s =
 -- a clock behind a sign
 signed-read : (G : List ℕ → ℕ → Type 0) (value : Bool → ℕ → ℕ) (k hi : ℕ) →
     ((minus : Bool) (a w : List ℕ) (t : ℕ) → Sign a minus → Clock (suc k) hi w t → G (a ++ w) (value minus t)) →
-    (s : List ℕ) → Reads G s ((sign >>= λ minus. clock (suc k) hi >>= λ t. pure (value minus t)) s)
+    (s : List ℕ) → Reads G s (signedClock value (suc k) hi s)
+unfolding signedClock
 signed-read G value k hi f s =
     step (sign s) (sign-read s) (λ minus a r e g.
     step (clock (suc k) hi r) (clock-read k hi r) (λ t w q d h.
@@ -244,18 +244,18 @@ signed-read G value k hi f s =
 
 offset-read : (s : List ℕ) → Reads Offset s (offset s)
 unfolding offset
-offset-read = signed-read Offset (λ minus t. if minus then offsetBias + t else offsetBias - t) 1 mostHours by-sign
+offset-read = signed-read Offset offsetBy 1 mostHours by-sign
   where
-    by-sign : (minus : Bool) (a w : List ℕ) (t : ℕ) → Sign a minus → Clock 2 mostHours w t → Offset (a ++ w) (if minus then offsetBias + t else offsetBias - t)
+    by-sign : (minus : Bool) (a w : List ℕ) (t : ℕ) → Sign a minus → Clock 2 mostHours w t → Offset (a ++ w) (offsetBy minus t)
     by-sign true a w t g h = east g h
     by-sign false a w t g h = west g h
 
 -- the time of a change, in each version
 signed-time : (version : ℕ) → version ≡ code "3" → (s : List ℕ) → Reads (TimeText version) s (signedTime s)
 unfolding signedTime
-signed-time version e = signed-read (TimeText version) (λ minus t. if minus then timeBias - t else timeBias + t) 2 mostRuleHours by-sign
+signed-time version e = signed-read (TimeText version) timeBy 2 mostRuleHours by-sign
   where
-    by-sign : (minus : Bool) (a w : List ℕ) (t : ℕ) → Sign a minus → Clock 3 mostRuleHours w t → TimeText version (a ++ w) (if minus then timeBias - t else timeBias + t)
+    by-sign : (minus : Bool) (a w : List ℕ) (t : ℕ) → Sign a minus → Clock 3 mostRuleHours w t → TimeText version (a ++ w) (timeBy minus t)
     by-sign true a w t g h = earlier e g h
     by-sign false a w t g h = later e g h
 

@@ -15,6 +15,7 @@ use Rattle.model.specs.Tzif.{Zone, Change, zoneOf}
 use Rattle.model.specs.Offset.{offsetBias}
 use Rattle.model.specs.Zone.{latest, offsetFrom, offsetAt, secondOf}
 use Rattle.model.specs.All.{everything}
+use Rattle.model.specs.Label.{ruledBy}
 use Rattle.laws_base.specs.Test.{by-test, by-either}
 use Rattle.laws_calendar.specs.Dates.{year-step}
 use Rattle.laws_zone.specs.FooterChanges.{latest-is, latest-le, latest-of-all, daylight}
@@ -39,13 +40,6 @@ offset f u = zoneOf f >>= λ z. some (offsetAt z u)
 
 abbrev read : List ℕ → ℕ → Option ℕ
 read f l = zoneOf f >>= λ z. some (secondOf z (l + offsetBias))
-
--- a file with a footer alone: of the given version, one type of offset 0
-abbrev header : List ℕ → List ℕ
-header version = text "TZif" ++ version ++ hex 15 0 ++ hex 24 0x00000000_00000000_00000000_00000000_00000001_00000004
-
-abbrev ruledBy : List ℕ → List ℕ → List ℕ
-ruledBy version footer = header version ++ hex 6 0 ++ text "UTC\0" ++ header version ++ hex 6 0 ++ text "UTC\0" ++ text "\n" ++ footer ++ text "\n"
 
 -- ---- Pacific/Honolulu in version 2, after RFC 8536, appendix B. All 329 bytes are those of the zone's file in Debian's package of the tz database, 2025b
 

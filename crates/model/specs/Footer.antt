@@ -140,19 +140,26 @@ sign = do
   plus ← (if minus then pure false else has (code "+"))
   pure minus
 
--- an offset: POSIX counts west of Greenwich
-unfoldable pub offset : Parser ℕ
-offset = do
-  east ← sign
-  t ← clock 2 mostHours
-  pure (if east then offsetBias + t else offsetBias - t)
+-- a clock behind a sign, which covers it whole, by the value that they have together
+unfoldable pub signedClock : (Bool → ℕ → ℕ) → ℕ → ℕ → Parser ℕ
+signedClock value k hi = do
+  minus ← sign
+  t ← clock k hi
+  pure (value minus t)
 
--- "from -167 to 167, signed .. in one to three digits"; the sign is that of minutes and seconds too
+-- an offset: POSIX counts west of Greenwich
+abbrev pub offsetBy : Bool → ℕ → ℕ
+offsetBy minus t = if minus then offsetBias + t else offsetBias - t
+
+unfoldable pub offset : Parser ℕ
+offset = signedClock offsetBy 2 mostHours
+
+-- "from -167 to 167, signed .. in one to three digits"
+abbrev pub timeBy : Bool → ℕ → ℕ
+timeBy minus t = if minus then timeBias - t else timeBias + t
+
 unfoldable pub signedTime : Parser ℕ
-signedTime = do
-  before ← sign
-  t ← clock 3 mostRuleHours
-  pure (if before then timeBias - t else timeBias + t)
+signedTime = signedClock timeBy 3 mostRuleHours
 
 -- the time of a change: "For version '3' .. signed"; POSIX.1 allows no sign, and "version '2' .. stay[s] at 0 to 24"
 unfoldable pub ruleTime : ℕ → Parser ℕ
@@ -226,5 +233,5 @@ unfoldable pub changeIn : ℕ → ChangeRule → ℕ → ℕ
 changeIn o r y = dayIn y (r .day) * daySeconds + r .time + offsetBias - (timeBias + o)
 
 unfoldable pub footers : Unit {0}
-unfolding spanned digits number sixty clock isNameByte name sign offset signedTime ruleTime monthText dayText changeRuleText daylightText footerText footerOf dayIn changeIn
+unfolding spanned digits number sixty clock isNameByte name sign signedClock offset signedTime ruleTime monthText dayText changeRuleText daylightText footerText footerOf dayIn changeIn
 footers = tt

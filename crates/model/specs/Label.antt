@@ -42,19 +42,19 @@ works n =
 abbrev pub noZones : List ℕ
 noZones = hex 4 0
 
--- a zone file with a footer alone: version 2, one type of offset 0
-abbrev headerBytes : List ℕ
-headerBytes = text "TZif2" ++ hex 15 0 ++ hex 24 0x00000000_00000000_00000000_00000000_00000001_00000004
+-- a zone file with a footer alone: of the given version, one type of offset 0
+abbrev typeAlone : List ℕ → List ℕ
+typeAlone version = text "TZif" ++ version ++ hex 15 0 ++ hex 24 0x00000000_00000000_00000000_00000000_00000001_00000004 ++ hex 6 0 ++ text "UTC\0"
 
-abbrev ruledBy : List ℕ → List ℕ
-ruledBy footer = headerBytes ++ hex 6 0 ++ text "UTC\0" ++ headerBytes ++ hex 6 0 ++ text "UTC\0" ++ text "\n" ++ footer ++ text "\n"
+abbrev pub ruledBy : List ℕ → List ℕ → List ℕ
+ruledBy version footer = typeAlone version ++ typeAlone version ++ text "\n" ++ footer ++ text "\n"
 
 -- the second of a time of day on a day of the year 2026
 abbrev localTime : Zone → ℕ → ℕ → Option ℕ
 localTime z d s = some (resolve z (4518050 + 20454 + (d - 1)) (s * second))
 
 abbrev cet : ℕ → ℕ → Option ℕ
-cet d s = zoneOf (ruledBy (text "CET-1CEST,M3.5.0,M10.5.0/3")) >>= λ z. localTime z d s
+cet d s = zoneOf (ruledBy (text "2") (text "CET-1CEST,M3.5.0,M10.5.0/3")) >>= λ z. localTime z d s
 
 -- ---- instants and answers
 

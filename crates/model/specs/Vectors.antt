@@ -7,6 +7,7 @@ use Prim.Native.Nat.{ℕ}
 use Rattle.model.specs.Bytes.{hex, text}
 use Rattle.model.specs.Lines.{program, bothBounds}
 use Rattle.model.specs.All.{everything}
+use Rattle.model.specs.Label.{ruledBy}
 
 -- the gap to the range's first instant against the search limit, to the nanosecond
 abbrev gap-to-first-book : List ℕ
@@ -217,13 +218,8 @@ nuuk-book =
     hex 32 0x0000000200000014000000060000001A0000001300044E75756B01001F00007E
     ++ hex 13 0x90000000000000EF1000000000
 
-abbrev nuuk-header : List ℕ → List ℕ
-nuuk-header version = text "TZif" ++ version ++ hex 15 0 ++ hex 24 0x00000000_00000000_00000000_00000000_00000001_00000004 ++ hex 6 0 ++ text "UTC\0"
-
 abbrev nuuk-zones : List ℕ → List ℕ
-nuuk-zones version =
-    hex 12 0x00000001_0000000C_00000092 ++ hex 1 4 ++ text "Nuuk" ++ nuuk-header version ++ nuuk-header version
-    ++ text "\n<-02>2<-01>,M3.5.0/-1,M10.5.0/0\n"
+nuuk-zones version = hex 12 0x00000001_0000000C_00000092 ++ hex 1 4 ++ text "Nuuk" ++ ruledBy version (text "<-02>2<-01>,M3.5.0/-1,M10.5.0/0")
 
 -- about the changes at 2026-03-29T01:00Z and 2026-10-25T01:00Z
 pub nuuk :

@@ -7,18 +7,12 @@ use lib.IntN.{pos, negℤ}
 use Rattle.model.specs.Answer.{gives, refuses}
 use Rattle.model.specs.Bytes.{hex, text}
 use Rattle.model.specs.All.{everything}
+use Rattle.model.specs.Label.{ruledBy}
 use Rattle.model.specs.NextChange.{firstOf, nextChange}
 use Rattle.model.specs.ZoneCalls.{offsetCall, changeCall, resolveCall, zoneCalls}
 
--- a zone file with a footer alone: version 2, one type of offset 0
-abbrev headerBytes : List ℕ
-headerBytes = text "TZif2" ++ hex 15 0 ++ hex 24 0x00000000_00000000_00000000_00000000_00000001_00000004
-
-abbrev ruledBy : List ℕ → List ℕ
-ruledBy footer = headerBytes ++ hex 6 0 ++ text "UTC\0" ++ headerBytes ++ hex 6 0 ++ text "UTC\0" ++ text "\n" ++ footer ++ text "\n"
-
 abbrev cet : List ℕ
-cet = ruledBy (text "CET-1CEST,M3.5.0,M10.5.0/3")
+cet = ruledBy (text "2") (text "CET-1CEST,M3.5.0,M10.5.0/3")
 
 -- 29 March 01:00Z and 25 October 01:00Z, when daylight time starts and ends
 abbrev starts : ℕ
@@ -30,7 +24,7 @@ ends = 1792890000
 pub record Examples : Type 0 where
   pub winter : offsetCall cet (pos 1774745999) (pos 999999999) ≡ gives (pos 3600)
   pub summer : offsetCall cet (pos starts) (pos 0) ≡ gives (pos 7200)
-  pub west : offsetCall (ruledBy (text "EST5")) (pos 0) (pos 0) ≡ gives (negℤ (pos 18000))
+  pub west : offsetCall (ruledBy (text "2") (text "EST5")) (pos 0) (pos 0) ≡ gives (negℤ (pos 18000))
   -- the change at an instant is not after it
   pub spring : changeCall cet (pos 1774745999) (pos 999999999) ≡ gives (some (pos starts ∷ pos 0 ∷ []))
   pub autumn : changeCall cet (pos 1792889998) (pos 0) ≡ gives (some (pos ends ∷ pos 0 ∷ []))
@@ -40,7 +34,7 @@ pub record Examples : Type 0 where
   pub case12 : resolveCall cet (pos 2026) (pos 10) (pos 25) (pos 9000) (pos 5) ≡ gives (pos 1792888200 ∷ pos 5 ∷ [])
   -- "Beyond the range it becomes the first instant for negative years, else the last."
   pub first-date : resolveCall cet (negℤ (pos 9999)) (pos 1) (pos 1) (pos 0) (pos 7) ≡ gives (negℤ (pos 377705023201) ∷ pos 0 ∷ [])
-  pub last-date : resolveCall (ruledBy (text "EST5")) (pos 9999) (pos 12) (pos 31) (pos 86399) (pos 0) ≡ gives (pos 253402207200 ∷ pos 999999999 ∷ [])
+  pub last-date : resolveCall (ruledBy (text "2") (text "EST5")) (pos 9999) (pos 12) (pos 31) (pos 86399) (pos 0) ≡ gives (pos 253402207200 ∷ pos 999999999 ∷ [])
 
 -- the file is asked first
 pub record Refusals : Type 0 where

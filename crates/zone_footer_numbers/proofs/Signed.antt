@@ -7,20 +7,19 @@ use Prim.Native.Nat.{ℕ, _+_}
 use Prim.Native.Char.{code}
 use lib.ListN.{drop}
 use borrow.Author.Tests.{eq-eqb, ne-eqb}
-use Rattle.model.specs.Footer.{_>>=_, pure, timeBias, mostHours, sign, clock, signedTime, ruleTime}
+use Rattle.model.specs.Footer.{timeBias, mostHours, sign, clock, signedClock, signedTime, ruleTime}
 use Rattle.zone_footer_numbers.specs.Numbered.{numberIn}
 use Rattle.zone_footer_numbers.specs.declared.Num.{Num}
 use Rattle.zone_footer_numbers.specs.declared.Num.the-variants.{Val, Bad}
 
--- a clock behind a sign, by the value that they have together
+-- a clock behind a sign
 module _ (value : Bool → ℕ → ℕ) (k hi : ℕ) (s t : List ℕ) (r : Num) {minus : Bool} {d : List ℕ} (g : some (minus, d) ≡ sign t) (h : numberIn s r ≡ clock k hi d) where
-  abbrev signed : Option (ℕ × List ℕ)
-  signed = (sign >>= λ m. clock k hi >>= λ x. pure (value m x)) t
-
-  pub signed-none : r ≡ Bad → none ≡ signed
+  pub signed-none : r ≡ Bad → none ≡ signedClock value k hi t
+  unfolding signedClock
   signed-none e = rw (← g, ← h, e)
 
-  pub signed-is : {v x a : ℕ} → r ≡ Val x a → v ≡ value minus x → some (v, drop a s) ≡ signed
+  pub signed-is : {v x a : ℕ} → r ≡ Val x a → v ≡ value minus x → some (v, drop a s) ≡ signedClock value k hi t
+  unfolding signedClock
   signed-is e q = rw (← g, ← h, e, q)
 
 pub time-signed : {version : ℕ} (t : List ℕ) {o : Option (ℕ × List ℕ)} → version ≡ code "3" → o ≡ signedTime t → o ≡ ruleTime version t

@@ -15,7 +15,7 @@ returns : tie.Need-returns
 returns c = search needs
 
 returns-2 : tie.Need-returns-2
-returns-2 c = (search needs, omega (arith, years-in (c .before .before .args .u) (c .before .before .pre) (c .before .year-of .ensures)))
+returns-2 c = (omega (arith, c .before .year-of .ensures), omega (arith, years-in (c .before .before .args .u) (c .before .before .pre) (c .before .year-of .ensures)))
 
 pub first-year-spec : {M : Type 1} → statement M
 first-year-spec = tie.close (tie.spec cast-year-of year-of-requires returns returns-2)

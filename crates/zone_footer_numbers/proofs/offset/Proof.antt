@@ -1,18 +1,11 @@
 -- `zone_footer_numbers::offset` meets its contract.
 use Rattle.zone_footer_numbers.proofs.Numbers.{value-le}
-use mathlib.Core.Bool.{Bool}
-use Prim.Native.Nat.{ℕ, _+_, _-_}
 use native.Mathlib.Omega.{arith}
-use Rattle.model.specs.Basic.{if_then_else_}
 use Rattle.zone_footer_numbers.proofs.Signed.{signed-none, signed-is}
-use Rattle.model.specs.Footer.{offset, mostHours}
-use Rattle.model.specs.Offset.{offsetBias}
+use Rattle.model.specs.Footer.{offset, offsetBy, mostHours}
 use borrow.Author.Needs.{needs}
 use Rattle.zone_footer_numbers.proofs.offset.Statement.{statement}
 use Rattle.zone_footer_numbers.proofs.offset.Tie as tie
-
-abbrev offsetValue : Bool → ℕ → ℕ
-offsetValue east t = if east then offsetBias + t else offsetBias - t
 
 sign-requires : tie.Need-sign-requires
 sign-requires c κs = search needs
@@ -28,21 +21,21 @@ enum-told c = search needs
 
 returns : tie.Need-returns
 unfolding offset
-returns c = (signed-none offsetValue 2 mostHours _ _ _ (c .before .before .before .sign .ensures) (c .before .before .clock .ensures .0) (c .enum-told .given .1), search needs)
+returns c = (signed-none offsetBy 2 mostHours _ _ _ (c .before .before .before .sign .ensures) (c .before .before .clock .ensures .0) (c .enum-told .given .1), search needs)
 
 add-t8 : tie.Need-add-t8
 add-t8 c = omega (arith, value-le (c .before .before .t .given .1) (c .before .before .before .before .clock .ensures .1))
 
 returns-2 : tie.Need-returns-2
 unfolding offset
-returns-2 c = (signed-is offsetValue 2 mostHours _ _ _ (c .before .before .before .before .before .sign .ensures) (c .before .before .before .before .clock .ensures .0) (c .before .before .t .given .1) (rw (c .if1 .taken)), omega (arith, value-le (c .before .before .t .given .1) (c .before .before .before .before .clock .ensures .1)))
+returns-2 c = (signed-is offsetBy 2 mostHours _ _ _ (c .before .before .before .before .before .sign .ensures) (c .before .before .before .before .clock .ensures .0) (c .before .before .t .given .1) (rw (c .if1 .taken)), omega (arith, value-le (c .before .before .t .given .1) (c .before .before .before .before .clock .ensures .1)))
 
 sub-t9 : tie.Need-sub-t9
 sub-t9 c = omega (arith, value-le (c .before .before .t .given .1) (c .before .before .before .before .clock .ensures .1))
 
 returns-3 : tie.Need-returns-3
 unfolding offset
-returns-3 c = (signed-is offsetValue 2 mostHours _ _ _ (c .before .before .before .before .before .sign .ensures) (c .before .before .before .before .clock .ensures .0) (c .before .before .t .given .1) (rw (c .if1 .left)), omega (arith, value-le (c .before .before .t .given .1) (c .before .before .before .before .clock .ensures .1)))
+returns-3 c = (signed-is offsetBy 2 mostHours _ _ _ (c .before .before .before .before .before .sign .ensures) (c .before .before .before .before .clock .ensures .0) (c .before .before .t .given .1) (rw (c .if1 .left)), omega (arith, value-le (c .before .before .t .given .1) (c .before .before .before .before .clock .ensures .1)))
 
 pub offset-spec : {M : Type 1} → statement M
 offset-spec =
