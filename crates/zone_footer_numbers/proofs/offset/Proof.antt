@@ -28,14 +28,14 @@ add-t8 c = omega (arith, value-le (c .before .before .t .given .1) (c .before .b
 
 returns-2 : tie.Need-returns-2
 unfolding offset
-returns-2 c = (signed-is offsetBy 2 mostHours _ _ _ (c .before .before .before .before .before .sign .ensures) (c .before .before .before .before .clock .ensures .0) (c .before .before .t .given .1) (rw (c .if1 .taken)), omega (arith, value-le (c .before .before .t .given .1) (c .before .before .before .before .clock .ensures .1)))
+returns-2 c = (signed-is offsetBy 2 mostHours _ _ _ (c .before .before .before .before .before .sign .ensures) (c .before .before .before .before .clock .ensures .0) (c .before .before .t .given .1) (rw (c .if1 .taken) (omega arith)), omega (arith, value-le (c .before .before .t .given .1) (c .before .before .before .before .clock .ensures .1)))
 
 sub-t9 : tie.Need-sub-t9
 sub-t9 c = omega (arith, value-le (c .before .before .t .given .1) (c .before .before .before .before .clock .ensures .1))
 
 returns-3 : tie.Need-returns-3
 unfolding offset
-returns-3 c = (signed-is offsetBy 2 mostHours _ _ _ (c .before .before .before .before .before .sign .ensures) (c .before .before .before .before .clock .ensures .0) (c .before .before .t .given .1) (rw (c .if1 .left)), omega (arith, value-le (c .before .before .t .given .1) (c .before .before .before .before .clock .ensures .1)))
+returns-3 c = (signed-is offsetBy 2 mostHours _ _ _ (c .before .before .before .before .before .sign .ensures) (c .before .before .before .before .clock .ensures .0) (c .before .before .t .given .1) (rw (c .if1 .left) (omega arith)), omega (arith, value-le (c .before .before .t .given .1) (c .before .before .before .before .clock .ensures .1)))
 
 pub offset-spec : {M : Type 1} → statement M
 offset-spec =

@@ -28,14 +28,14 @@ sub-t8 c = omega (arith, value-le (c .before .before .t .given .1) (c .before .b
 
 returns-2 : tie.Need-returns-2
 unfolding signedTime
-returns-2 c = (signed-is timeBy 3 mostRuleHours _ _ _ (c .before .before .before .before .before .sign .ensures) (c .before .before .before .before .clock .ensures .0) (c .before .before .t .given .1) (rw (c .if1 .taken)), omega (arith, value-le (c .before .before .t .given .1) (c .before .before .before .before .clock .ensures .1)))
+returns-2 c = (signed-is timeBy 3 mostRuleHours _ _ _ (c .before .before .before .before .before .sign .ensures) (c .before .before .before .before .clock .ensures .0) (c .before .before .t .given .1) (rw (c .if1 .taken) (omega arith)), omega (arith, value-le (c .before .before .t .given .1) (c .before .before .before .before .clock .ensures .1)))
 
 add-t9 : tie.Need-add-t9
 add-t9 c = omega (arith, value-le (c .before .before .t .given .1) (c .before .before .before .before .clock .ensures .1))
 
 returns-3 : tie.Need-returns-3
 unfolding signedTime
-returns-3 c = (signed-is timeBy 3 mostRuleHours _ _ _ (c .before .before .before .before .before .sign .ensures) (c .before .before .before .before .clock .ensures .0) (c .before .before .t .given .1) (rw (c .if1 .left)), omega (arith, value-le (c .before .before .t .given .1) (c .before .before .before .before .clock .ensures .1)))
+returns-3 c = (signed-is timeBy 3 mostRuleHours _ _ _ (c .before .before .before .before .before .sign .ensures) (c .before .before .before .before .clock .ensures .0) (c .before .before .t .given .1) (rw (c .if1 .left) (omega arith)), omega (arith, value-le (c .before .before .t .given .1) (c .before .before .before .before .clock .ensures .1)))
 
 pub signed-time-spec : {M : Type 1} → statement M
 signed-time-spec =
