@@ -1,11 +1,11 @@
 -- Examples of the calls on a zone file, closed by computing: cases 11 and 12 of document 01's label table, and each refusal. All dates 2026.
 use mathlib.Core.Path.{_≡_, refl}
 use mathlib.Core.Option.{none, some}
-use mathlib.Core.List.{List, [], _∷_, _++_}
+use mathlib.Core.List.{List, [], _∷_}
 use Prim.Native.Nat.{ℕ}
 use lib.IntN.{pos, negℤ}
 use Rattle.model.specs.Answer.{gives, refuses}
-use Rattle.model.specs.Bytes.{hex, text}
+use Rattle.model.specs.Bytes.{text}
 use Rattle.model.specs.All.{everything}
 use Rattle.model.specs.Label.{ruledBy}
 use Rattle.model.specs.NextChange.{firstOf, nextChange}
