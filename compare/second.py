@@ -2,6 +2,7 @@
 """A second implementation of the working-hours clock, in exact integers.
 
 Usage: second.py BOOK ZONES [--bounds] [--listing] [--every] < queries > answers
+       second.py BOOK ZONES --hardest < calls > answers
 
 It is the program of document 01: a rule book and a zone pack are read, then
 query lines are answered one by one. A file that is missing or longer than
@@ -13,9 +14,13 @@ results when every window that may be skipped is skipped.
              first instant to the second into N lent numbers, printed as
              `ok COUNT numbers..` or `no 10 0`
   --every    skip no window (for the check that skipping changes no answer)
+  --hardest  answer the lines `hardest SEC NS WIDTH NUMBER..` alone and pass over
+             all others: the hardest stretch of a log of runs, from an instant on,
+             printed as `ok SEC NS SEC NS` (the duration, the window's start)
 
 It is written from document 01, with the rule times that version 3 of a zone file
-may have since the first change to it, and shares no code with the verified program.
+may have since the first change to it and the hardest stretch of the second, and
+shares no code with the verified program.
 Instants and durations are whole numbers of nanoseconds, dates are day numbers
 from 1970-01-01, zone offsets and changes are whole seconds.
 """
@@ -33,6 +38,8 @@ REACH = 11 * DAY * NANO
 BUILD_START = 978_307_200 * NANO
 FILE_LIMIT = 65_536
 FARTHEST = 93_599  # the largest offset, either way
+RUNS = 4_096  # the most of a log
+WIDEST = 400 * DAY  # the largest width of a window of a log, in seconds
 
 
 class Refusal(Exception):
@@ -723,6 +730,26 @@ class Schedule:
             raise Refusal(10)
         return found
 
+    def hardest(self, given, runs, width):
+        """The most working time of runs in a window of `width` that starts at a
+        run's start, and the start of the earliest such window; with no runs zero
+        and the instant given. What `between` gives for a part is kept, since
+        windows share most parts."""
+        times = {}
+        best = None
+        for low, _ in runs:
+            high = min(low + width, LAST)
+            total = 0
+            for start, end in runs:
+                if low < end and start < high:
+                    part = max(start, low), min(end, high)
+                    if part not in times:
+                        times[part] = self.between(*part)[0]
+                    total += times[part]
+            if best is None or total > best[0]:
+                best = total, low
+        return best or (0, given)
+
 
 # ------------------------------------------------------------------- query lines
 
@@ -737,6 +764,14 @@ def read_line(line, listing):
     wanted = 5 if listing and word == b"list" else FORMS.get(word)
     if wanted is None or len(fields) != wanted:
         return None
+    numbers = read_numbers(fields)
+    if numbers is None or wanted == 5 and numbers[4] < 0:
+        return None
+    return word.decode(), numbers
+
+
+def read_numbers(fields):
+    """Signed 64-bit numbers, or None where a field is no such number."""
     numbers = []
     for field in fields:
         if not NUMBER.match(field):
@@ -747,7 +782,14 @@ def read_line(line, listing):
         if not -(2**63) <= value < 2**63:
             return None
         numbers.append(value)
-    if wanted == 5 and numbers[4] < 0:
+    return numbers
+
+
+def read_call(line):
+    """The same for a line `hardest SEC NS WIDTH NUMBER..`."""
+    word, *fields = line.split(b" ")
+    numbers = read_numbers(fields)
+    if word != b"hardest" or len(fields) < 3 or numbers is None:
         return None
     return word.decode(), numbers
 
@@ -762,6 +804,28 @@ def read_duration(second, nano):
     if abs(nano) >= NANO or second * nano < 0:
         raise Refusal(9)
     return second * NANO + nano
+
+
+def read_log(given, numbers):
+    """The runs of a log from an instant on, each as start and end; refusal 11."""
+    if len(numbers) % 2 or len(numbers) > 2 * RUNS:
+        raise Refusal(11)
+    runs = []
+    ended = 0  # the least offset that the next run may have
+    for offset, length in zip(numbers[::2], numbers[1::2]):
+        if offset < ended or length < 1:
+            raise Refusal(11)
+        ended = offset + length
+        if given + ended * NANO > LAST:
+            raise Refusal(11)
+        runs.append((given + offset * NANO, given + ended * NANO))
+    return runs
+
+
+def read_width(width):
+    if not 1 <= width <= WIDEST:
+        raise Refusal(12)
+    return width * NANO
 
 
 def show_instant(instant):
@@ -783,6 +847,11 @@ def answer(schedule, word, numbers, bounds):
     if word in ("next", "previous"):
         start, end = schedule.period(1 if word == "next" else -1, first)
         return f"ok {show_instant(start)} {show_instant(end)}"
+    if word == "hardest":
+        runs = read_log(first, numbers[3:])
+        width = read_width(numbers[2])
+        time, start = schedule.hardest(first, runs, width)
+        return f"ok {show_duration(time)} {show_instant(start)}"
     if word == "between":
         second = read_instant(*numbers[2:])
         time, least = schedule.between(first, second)
@@ -814,11 +883,11 @@ def read_file(path):
 
 
 def main(arguments):
-    known = {"--bounds", "--listing", "--every"}
+    known = {"--bounds", "--listing", "--every", "--hardest"}
     options = {argument for argument in arguments if argument.startswith("--")}
     paths = [argument for argument in arguments if argument not in options]
     if options - known or len(paths) != 2:
-        sys.exit("usage: second.py BOOK ZONES [--bounds] [--listing] [--every] < queries")
+        sys.exit("usage: second.py BOOK ZONES [--bounds] [--listing] [--every] | [--hardest] < queries")
     refused = schedule = None
     try:
         schedule = Schedule(read_file(paths[0]), read_file(paths[1]))
@@ -828,8 +897,11 @@ def main(arguments):
     lines = sys.stdin.buffer.read().split(b"\n")
     if not lines[-1]:
         lines.pop()
+    calls = "--hardest" in options
+    if calls:
+        lines = [line for line in lines if line.startswith(b"hardest ")]
     for line in lines:
-        query = read_line(line, "--listing" in options)
+        query = read_call(line) if calls else read_line(line, "--listing" in options)
         try:
             if query is None:
                 print("bad")
