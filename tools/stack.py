@@ -25,7 +25,7 @@ RUNS = 40  # of the program under one limit
 POINTER = "through a pointer"
 DIGITS = 20  # how often a function that calls itself is in its own frames
 CALLS = [
-    "build", "between", "add", "sub", "next_period", "previous_period", "list", "offset_in", "next_change_in", "resolve_in",
+    "build", "between", "add", "sub", "next_period", "previous_period", "list", "hardest", "offset_in", "next_change_in", "resolve_in",
 ]  # fmt: skip
 QUERIES = b"between 1767782400 0 2713862400 1\nadd 1767782400 0 14400000 0\nsub 1767782400 0 14400000 5\nnext 1768039200 0\nprevious 1768039200 0\n"
 
@@ -43,15 +43,17 @@ int64_t stack_sub(const uint8_t *, size_t, const uint8_t *, size_t, int64_t, int
 int64_t stack_next_period(const uint8_t *, size_t, const uint8_t *, size_t, int64_t, int64_t);
 int64_t stack_previous_period(const uint8_t *, size_t, const uint8_t *, size_t, int64_t, int64_t);
 size_t stack_list(const uint8_t *, size_t, const uint8_t *, size_t, int64_t, int64_t, int64_t, int64_t, int64_t *, size_t);
+int64_t stack_hardest(const uint8_t *, size_t, const uint8_t *, size_t, int64_t, int64_t, const int64_t *, size_t, int64_t);
 int64_t stack_offset_in(const uint8_t *, size_t, int64_t, int64_t);
 int64_t stack_next_change_in(const uint8_t *, size_t, int64_t, int64_t);
 int64_t stack_resolve_in(const uint8_t *, size_t, int64_t, int64_t, int64_t, int64_t, int64_t);
 
-enum { SIZE = 1 << 22, PAINT = 0xA5, NUMBERS = 1 << 20 };
+enum { SIZE = 1 << 22, PAINT = 0xA5, NUMBERS = 1 << 20, CALLS = 11 };
+enum { RUNS = 4096, SLOT = 8437, LONG = 6000, WIDTH = 30 * 86400 }; /* a log at its limit over 400 days, in seconds */
 static uint8_t stack[SIZE];
 static ucontext_t home, there;
 static bytes book, pack, file;
-static int64_t numbers[NUMBERS];
+static int64_t numbers[NUMBERS], runs[2 * RUNS];
 static int which;
 static const int64_t WEDNESDAY = 1767782400, YEAR = 365 * 86400; /* 2026-01-07T10:40Z */
 
@@ -64,9 +66,10 @@ static void call(void) {
     case 4: stack_next_period(book.p, book.n, pack.p, pack.n, WEDNESDAY, 0); break;
     case 5: stack_previous_period(book.p, book.n, pack.p, pack.n, WEDNESDAY, 0); break;
     case 6: stack_list(book.p, book.n, pack.p, pack.n, WEDNESDAY, 0, WEDNESDAY + YEAR, 0, numbers, NUMBERS); break;
-    case 7: stack_offset_in(file.p, file.n, WEDNESDAY + 40 * YEAR, 0); break;
-    case 8: stack_next_change_in(file.p, file.n, WEDNESDAY + 40 * YEAR, 0); break;
-    case 9: stack_resolve_in(file.p, file.n, 2066, 3, 28, 9000, 0); break;
+    case 7: stack_hardest(book.p, book.n, pack.p, pack.n, WEDNESDAY, 0, runs, 2 * RUNS, WIDTH); break;
+    case 8: stack_offset_in(file.p, file.n, WEDNESDAY + 40 * YEAR, 0); break;
+    case 9: stack_next_change_in(file.p, file.n, WEDNESDAY + 40 * YEAR, 0); break;
+    case 10: stack_resolve_in(file.p, file.n, 2066, 3, 28, 9000, 0); break;
     default: break;
     }
 }
@@ -104,8 +107,12 @@ int main(int n, char **v) {
         file.p = pack.p + at + 1 + name;
         file.n = len - 1 - name;
     }
+    for (int k = 0; k < RUNS; k++) {
+        runs[2 * k] = (int64_t)k * SLOT;
+        runs[2 * k + 1] = LONG;
+    }
     size_t none = deep(-1); /* what the switch to the other stack takes itself */
-    for (int k = 0; k < 10; k++) printf("%zu\n", deep(k) - none);
+    for (int k = 0; k < CALLS; k++) printf("%zu\n", deep(k) - none);
     return 0;
 }
 """

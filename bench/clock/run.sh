@@ -2,11 +2,14 @@
 # Times every call: our code, the original workclock over jiff, and the original over the stand-in for jiff, on the same books and questions.
 #
 #   run.sh [MILLISECONDS [BOOK [CALL]]]
+#   run.sh hardest [BOOK]
 #
 # MILLISECONDS (20) of processor time for each row of the table and each that is timed, in each of eight rounds; the best batch counts, so that other
 # work on the machine disturbs little. BOOK and CALL choose rows. Settings from the environment: ZONEINFO, where the zone files are (/usr/share/zoneinfo);
 # JIFF, a folder that has jiff or where it is to be brought (target/jiff; compare/jiff.sh). Without jiff the stand-in alone is timed beside ours.
 # Builds target/staticlib/libbench_clock.a by `rt staticlib bench_clock`, unless it is newer than the code. Ends with 1 where answers differ.
+#
+# The second form times the hardest stretch of a log beside the plain form, both by our code; jiff has no part in it.
 set -eu
 here=$(cd "$(dirname "$0")" && pwd)
 root=$(cd "$here/../.." && pwd)
@@ -23,10 +26,10 @@ fi
 build() {
     cargo build --quiet --release --offline --target-dir "$root/target/bench_clock" "$@"
 }
-jiff=${JIFF:-$root/target/jiff}
-came=0
-"$root/compare/jiff.sh" "$jiff" >"$work/jiff" || came=$?
-if [ "$came" = 0 ]; then
+build_alone() {
+    build --manifest-path "$here/Cargo.toml"
+}
+build_with_jiff() {
     # As compare/jiff/build.sh does: the original's sources and the unpacked crates, by path.
     mkdir -p "$root/target/bench_clock_jiff" "$root/target/real/jiff"
     cp "$here/jiff.toml" "$root/target/bench_clock_jiff/Cargo.toml"
@@ -35,19 +38,31 @@ if [ "$came" = 0 ]; then
     ln -sfn "$root/compare/rust" "$root/target/real/rust"
     ln -sfn "$(cd "$jiff" && pwd)/usr/share/cargo/registry" "$root/target/registry"
     build --manifest-path "$root/target/bench_clock_jiff/Cargo.toml"
-    echo "jiff: $(sed 1d "$work/jiff" | paste -s -d ',' | sed 's/,/, /')"
-elif [ "$came" = "$unreachable" ]; then
-    build --manifest-path "$here/Cargo.toml"
-    echo "jiff: none; the original is timed over the stand-in alone"
+}
+jiff=${JIFF:-$root/target/jiff}
+what=${1:-20}
+[ $# = 0 ] || shift
+note="Nanoseconds of processor time for one, best of several batches. Buffers were warm: a batch repeats one question on the same book and pack."
+if [ "$what" = hardest ]; then
+    build_alone
+    note="Milliseconds of processor time: the plain form once, of hardest the best of ten calls."
 else
-    exit "$came"
+    came=0
+    "$root/compare/jiff.sh" "$jiff" >"$work/jiff" || came=$?
+    if [ "$came" = 0 ]; then
+        build_with_jiff
+        echo "jiff: $(sed 1d "$work/jiff" | paste -s -d ',' | sed 's/,/, /')"
+    elif [ "$came" = "$unreachable" ]; then
+        build_alone
+        echo "jiff: none; the original is timed over the stand-in alone"
+    else
+        exit "$came"
+    fi
 fi
 
 echo "load before: $(cut -d' ' -f1-3 /proc/loadavg)"
 bad=0
-time=${1:-20}
-[ $# = 0 ] || shift
-"$root/target/bench_clock/release/clock" "$time" "${ZONEINFO:-/usr/share/zoneinfo}" "$@" || bad=$?
-echo "Nanoseconds of processor time for one, best of several batches. Buffers were warm: a batch repeats one question on the same book and pack."
+"$root/target/bench_clock/release/clock" "$what" "${ZONEINFO:-/usr/share/zoneinfo}" "$@" || bad=$?
+echo "$note"
 echo "load after: $(cut -d' ' -f1-3 /proc/loadavg); $(nproc) processors, $(sed -n 's/^model name[^:]*: //p' /proc/cpuinfo | head -n 1)"
 exit $bad

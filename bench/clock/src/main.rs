@@ -3,6 +3,7 @@
 //! jiff itself too.
 //!
 //! Usage: clock MILLISECONDS [ZONEINFO [BOOK [CALL [WHO]]]]
+//!        clock hardest [ZONEINFO [BOOK]]
 //!
 //! A batch asks one question again and again. The book is built once in a
 //! batch, by each, except where building is what is timed; a batch is so long
@@ -12,6 +13,10 @@
 //! and CALL choose rows; WHO (`ours`, `jiff` or `stand-in`) runs only that one,
 //! in one batch. Ends with 1 where answers differ, but for jiff's on made-up
 //! zones with changes a few minutes apart, which it reads in a way of its own.
+//!
+//! The second form times the hardest stretch of a log (hardest.rs).
+
+mod hardest;
 
 use std::hint::black_box;
 
@@ -102,6 +107,14 @@ fn asked(call: Call) -> (u8, [i64; 4]) {
     }
 }
 
+/// Our answers to questions of one kind, four numbers each, in their place.
+fn answers(on: &Book, kind: u8, numbers: &mut [i64]) {
+    let (book, pack) = (&on.book, &on.pack);
+    unsafe {
+        bench_clock_answers(book.as_ptr(), book.len(), pack.as_ptr(), pack.len(), kind, numbers.as_mut_ptr(), numbers.len());
+    }
+}
+
 /// A batch of COUNT: its time, and the numbers of the last answer.
 type Batch = (f64, Vec<i64>);
 
@@ -112,9 +125,7 @@ fn ours(on: &Book, task: Task, count: usize, room: usize) -> Batch {
             let (kind, numbers) = asked(call);
             let mut work = numbers.repeat(count);
             let since = spent();
-            unsafe {
-                bench_clock_answers(book.as_ptr(), book.len(), pack.as_ptr(), pack.len(), kind, work.as_mut_ptr(), work.len());
-            }
+            answers(on, kind, &mut work);
             (spent() - since, work.split_off(4 * (count - 1)))
         }
         Task::Build | Task::BuildAnew => {
@@ -321,32 +332,23 @@ fn show_head() {
     println!("\n|{}", "---|".repeat(1 + 2 * RUNS.len()));
 }
 
-fn main() -> std::io::Result<()> {
-    let told: Vec<String> = std::env::args().skip(1).collect();
-    let Some(budget) = told.first().and_then(|text| text.parse::<f64>().ok()) else {
-        eprintln!("usage: clock MILLISECONDS [ZONEINFO [BOOK [CALL [WHO]]]]");
+/// One batch of each, by WHO alone.
+fn run_once<'a>(chosen: impl Iterator<Item = (&'a Book, &'static str, Task)>, who: &str) {
+    let Some((_, run)) = RUNS.iter().find(|(name, _)| *name == who) else {
+        eprintln!("clock: no {who} here");
         std::process::exit(2);
     };
-    let (real, close) = (zones(told.get(1).map_or("/usr/share/zoneinfo", String::as_str))?, close_zones());
-    #[cfg(feature = "real")]
-    let _lent = {
-        let owned = |(name, file): &(&str, Vec<u8>)| (name.as_bytes().to_vec(), file.clone());
-        over_jiff::lend(real.iter().chain(&close).map(owned).collect())
-    };
-    let wanted = |place: usize, name: &str| told.get(place).is_none_or(|word| word == name);
-    let books = all_books(&packed(&real), &packed(&close));
-    let chosen = books.iter().filter(|on| wanted(2, on.title));
-    let chosen = chosen.flat_map(|on| tasks().into_iter().map(move |(name, task)| (on, name, task)));
-    let chosen = chosen.filter(|(on, name, _)| is_row(on, name) && wanted(3, name));
-    if let Some(who) = told.get(4) {
-        let Some((_, run)) = RUNS.iter().find(|(name, _)| name == who) else {
-            eprintln!("clock: no {who} here");
-            std::process::exit(2);
-        };
-        for (on, name, task) in chosen {
-            println!("{} {name} {:.0}", on.title, run(on, task, FEW, 4096).0 / FEW as f64);
-        }
-        return Ok(());
+    for (on, name, task) in chosen {
+        println!("{} {name} {:.0}", on.title, run(on, task, FEW, 4096).0 / FEW as f64);
+    }
+}
+
+/// All rows, or those of one call: batches for so many milliseconds each, or one by WHO alone.
+fn time_calls(books: &[&Book], budget: f64, call: Option<&String>, who: Option<&String>) {
+    let chosen = books.iter().flat_map(|&on| tasks().into_iter().map(move |(name, task)| (on, name, task)));
+    let chosen = chosen.filter(|(on, name, _)| is_row(on, name) && call.is_none_or(|word| word == name));
+    if let Some(who) = who {
+        return run_once(chosen, who);
     }
     let mut rows: Vec<Row> = chosen.map(|(on, name, task)| Row::new(on, name, task)).collect();
     for round in 0..ROUNDS {
@@ -358,6 +360,27 @@ fn main() -> std::io::Result<()> {
     rows.iter().for_each(Row::show);
     if !rows.iter().all(Row::is_fine) {
         std::process::exit(1);
+    }
+}
+
+fn main() -> std::io::Result<()> {
+    let told: Vec<String> = std::env::args().skip(1).collect();
+    let budget = told.first().and_then(|text| text.parse::<f64>().ok());
+    if budget.is_none() && told.first().is_none_or(|word| word != "hardest") {
+        eprintln!("usage: clock MILLISECONDS [ZONEINFO [BOOK [CALL [WHO]]]]\n       clock hardest [ZONEINFO [BOOK]]");
+        std::process::exit(2);
+    }
+    let (real, close) = (zones(told.get(1).map_or("/usr/share/zoneinfo", String::as_str))?, close_zones());
+    #[cfg(feature = "real")]
+    let _lent = {
+        let owned = |(name, file): &(&str, Vec<u8>)| (name.as_bytes().to_vec(), file.clone());
+        over_jiff::lend(real.iter().chain(&close).map(owned).collect())
+    };
+    let books = all_books(&packed(&real), &packed(&close));
+    let chosen: Vec<&Book> = books.iter().filter(|on| told.get(2).is_none_or(|word| word == on.title)).collect();
+    match budget {
+        Some(budget) => time_calls(&chosen, budget, told.get(3), told.get(4)),
+        None => hardest::show(&chosen),
     }
     Ok(())
 }

@@ -6,11 +6,11 @@ use Prim.Native.Nat.{ℕ, zero, suc, _+_, _*_, _-_, _/_, _≤_, _<_}
 use native.Mathlib.Omega.{arith}
 use lib.Dec.{eqb}
 use lib.IntN.{ℤ, pos}
-use lib.ListN.{getD, set, take, drop}
+use lib.ListN.{length, getD, set, take, drop}
 use mir.Syntax.{w64}
 use mir.Val.{SFits, toZ, ofZ}
 use mir.Facts.{toZ-ofZ}
-use borrow.Author.Tests.{eq-eqb, ne-eqb}
+use borrow.Author.Tests.{eq-eqb, ne-eqb, lt-ltb, le-ltb}
 use Rattle.model.specs.Answer.{Answer, gives, refuses}
 use Rattle.model.specs.Build.{build}
 use Rattle.model.specs.Calls.{Reply, betweenCall, moveCall, periodCall, listCall, said, numbersAfter}
@@ -29,9 +29,12 @@ use Rattle.schedule.specs.Answers.{timeIs, moveIs}
 use Rattle.schedule_periods.specs.declared.PeriodAnswer.{PeriodAnswer}
 use Rattle.schedule_periods.specs.declared.PeriodAnswer.the-variants as P
 use Rattle.schedule_periods.specs.Replies.{periodIs}
+use Rattle.schedule_hardest.specs.declared.HardestAnswer.{HardestAnswer}
+use Rattle.schedule_hardest.specs.declared.HardestAnswer.the-variants as H
+use Rattle.schedule_hardest.specs.Hardests.{hardestIs}
 use Rattle.bench_clock.specs.declared.AnyAnswer.{AnyAnswer}
 use Rattle.bench_clock.specs.declared.AnyAnswer.the-variants as A
-use Rattle.bench_clock.specs.Asked.{replyIs, answerOfKind, written, writtenAt, withAnswer, groupsFrom, groups, groupsOf, limitIn, limitOf, listedOften, listedOf}
+use Rattle.bench_clock.specs.Asked.{replyIs, answerOfKind, written, writtenAt, withAnswer, groupsFrom, groups, groupsOf, limitIn, limitOf, listedOften, listedOf, atFront}
 
 -- ---- the calls' answers
 
@@ -53,6 +56,13 @@ period-four k h a b e f p q u v = rw (p, q, u, v) (ap said (rw h at k))
 
 pub period-no : {r : PeriodAnswer} {d : Answer Reply} {n p : ℕ} → periodIs r ≡ d → r ≡ P.Refused n p → refuses n p ≡ said d
 period-no k h = ap said (rw h at k)
+
+pub hardest-four : {r : HardestAnswer} {d : Answer Reply} {x y z w : ℤ} → hardestIs r ≡ d → r ≡ H.Is x y z w
+    → (a b e f : ℤ) → a ≡ x → b ≡ y → e ≡ z → f ≡ w → gives (a ∷ b ∷ e ∷ f ∷ []) ≡ said d
+hardest-four k h a b e f p q u v = rw (p, q, u, v) (ap said (rw h at k))
+
+pub hardest-no : {r : HardestAnswer} {d : Answer Reply} {n p : ℕ} → hardestIs r ≡ d → r ≡ H.Refused n p → refuses n p ≡ said d
+hardest-no k h = ap said (rw h at k)
 
 -- ---- by the kind of the question
 
@@ -93,6 +103,15 @@ module _ (i : ℕ) (e : List ℤ) {r : AnyAnswer} where
 
   pub refused-put : {n p : ℕ} → r ≡ A.Refused n p → (a : ℤ) → a ≡ pos n → set e i a ≡ writtenAt i (replyIs r) e
   refused-put t a h = rw (t, h)
+
+-- an answer at the front of the lent numbers
+pub front-put : (e : List ℤ) (r : AnyAnswer) {d : Answer (List ℤ)} {x : List ℤ} → 4 ≤ length e → replyIs r ≡ d → x ≡ writtenAt 0 (replyIs r) e → x ≡ atFront d e
+unfolding atFront
+front-put e r l p q = rw (le-ltb (length e) 4 l) (q ∙ ap (λ d. writtenAt 0 d e) p)
+
+pub front-stays : (e : List ℤ) (d : Answer (List ℤ)) → length e < 4 → e ≡ atFront d e
+unfolding atFront
+front-stays e d l = rw (lt-ltb (length e) 4 l)
 
 -- one question answered, where each number fits
 pub turn-is : (k : ℕ) (s : Schedule) (i : ℕ) (e : List ℤ) (r : AnyAnswer) {x : List ℤ}

@@ -3,13 +3,14 @@ use mathlib.Core.Path.{_≡_}
 use mathlib.Core.Bool.{Bool}
 use mathlib.Core.List.{List, [], _∷_}
 use Prim.Native.Nat.{ℕ, zero, suc, _+_, _/_}
-use lib.Dec.{eqb}
+use lib.Dec.{eqb, ltb}
 use lib.IntN.{ℤ, pos}
 use lib.ListN.{length, getD, set, take}
 use Rattle.model.specs.Answer.{Answer, gives, refuses}
 use Rattle.model.specs.Basic.{if_then_else_}
 use Rattle.model.specs.Build.{build}
 use Rattle.model.specs.Calls.{betweenCall, moveCall, periodCall, listCall, said, numbersAfter}
+use Rattle.model.specs.Hardest.{hardest}
 use Rattle.model.specs.Instant.{second}
 use Rattle.model.specs.Walk.{on, back}
 use Rattle.model.specs.Working.{Schedule}
@@ -81,6 +82,10 @@ abbrev pub listedOf : ℕ → Answer Schedule → ℤ → ℤ → ℤ → ℤ �
 listedOf n (gives s) a b c d e = listedOften n s a b c d e
 listedOf n (refuses m p) a b c d e = e
 
+-- an answer over the first lent numbers; fewer than four stay as they are
+unfoldable pub atFront : Answer (List ℤ) → List ℤ → List ℤ
+atFront r e = if ltb (length e) 4 then e else writtenAt 0 r e
+
 -- ---- what each function promises
 
 -- r is the answer to a question, by its kind
@@ -118,3 +123,11 @@ ListsOften book pack s times a b c d old new = new ≡ listedOften times (schedu
 -- the same from a book and a pack
 abbrev pub ListsOf : List ℕ → List ℕ → ℕ → ℤ → ℤ → ℤ → ℤ → List ℤ → List ℤ → Type 0
 ListsOf book pack times a b c d old new = new ≡ listedOf times (build book pack) a b c d old
+
+-- r is the hardest stretch of a log
+abbrev pub IsHardest : List ℕ → List ℕ → ℤ → ℤ → List ℤ → ℤ → AnyAnswer → Type 0
+IsHardest book pack a b log width r = replyIs r ≡ said (hardest book pack a b log width)
+
+-- the first lent numbers are
+abbrev pub HardestWritten : List ℕ → List ℕ → ℤ → ℤ → List ℤ → ℤ → List ℤ → List ℤ → Type 0
+HardestWritten book pack a b log width old new = new ≡ atFront (said (hardest book pack a b log width)) old

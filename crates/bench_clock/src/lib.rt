@@ -1,15 +1,21 @@
 // The calls for a program that times them (bench/clock): many answers, builds and listings of one book in a call, so that the book is built once
 // for all answers. What is asked stands in the lent numbers and the answers come in their place: so no two of them are known to be equal before.
+// And the hardest stretch of one log, whose call builds the book itself.
 ghost use mathlib.Core.Path.{_≡_};
 ghost use Prim.Native.Nat.{_+_, _≤_};
 ghost use lib.ListN.{length};
 ghost use Rattle.rule.specs.Rules.{ScheduleFits};
 ghost use Rattle.laws_base.specs.Mapped.{Mapped};
 ghost use Rattle.bench_clock.specs.Asked.{replyIs, writtenAt, limitOf, IsAnswer, IsTime, IsMove, IsPeriod, AnsweredAt, AllAnswered, BookAnswered, ListsOften, ListsOf};
+ghost use Rattle.bench_clock.specs.Asked.{IsHardest, HardestWritten};
 use rule::Schedule;
 use schedule::MoveAnswer;
 use schedule::TimeAnswer;
+use schedule_hardest::HardestAnswer;
 use schedule_periods::PeriodAnswer;
+
+// The numbers of a question, and the most of an answer.
+const GROUP_SIZE: usize = 4;
 
 // An answer: two numbers, four, or a refusal's number and place.
 pub enum AnyAnswer {
@@ -127,10 +133,10 @@ fn answer_all(book: &[u8], pack: &[u8], s: Schedule, kind: u8, xs: &mut [i64])
     ensures { λ _. ⌜ AllAnswered (now (book .entry)) (now (pack .entry)) s kind (now (xs .entry)) (now (xs .exit)) ⌝ }
 {
     let mut i: usize = 0;
-    let mut left = xs.len() / 4;
+    let mut left = xs.len() / GROUP_SIZE;
     while 0 < left {
         answer_one(book, pack, s, kind, xs, i);
-        i += 4;
+        i += GROUP_SIZE;
         left -= 1;
     }
 }
@@ -217,4 +223,36 @@ pub extern "C" fn bench_clock_lists(
     }
     let s = r.schedule;
     lists(book, pack, s, times, a, b, c, d, out);
+}
+
+// ---- the hardest stretch of a log
+
+fn hardest(book: &[u8], pack: &[u8], a: i64, b: i64, log: &[i64], width: i64) -> AnyAnswer
+    ensures { λ r. ⌜ IsHardest (now (book .entry)) (now (pack .entry)) a b (now (log .entry)) width r ⌝ }
+{
+    match schedule_hardest::hardest(book, pack, a, b, log, width) {
+        HardestAnswer::Is(p, q, x, y) => AnyAnswer::Four(p, q, x, y),
+        HardestAnswer::Refused(number, place) => AnyAnswer::Refused(number, place),
+    }
+}
+
+// Writes the hardest stretch of a log to the first four lent numbers, or its refusal's number to the first. Fewer than four stay as they are.
+#[no_mangle]
+pub extern "C" fn bench_clock_hardest(
+    book: &[u8],
+    pack: &[u8],
+    a: i64,
+    b: i64,
+    log: &[i64],
+    width: i64,
+    out: &mut [i64],
+)
+    ensures { λ _. ⌜ HardestWritten (book .entry .now) (pack .entry .now) a b (log .entry .now) width
+        (out .entry .now) (out .exit .now) ⌝ }
+{
+    if out.len() < GROUP_SIZE {
+        return;
+    }
+    let r = hardest(book, pack, a, b, log, width);
+    put(out, 0, r);
 }

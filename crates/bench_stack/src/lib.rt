@@ -1,6 +1,7 @@
 // The public calls for a program that measures how much stack each needs (tools/stack.py). Each answers one number, so that the call is not left out.
 use schedule::MoveAnswer;
 use schedule::TimeAnswer;
+use schedule_hardest::HardestAnswer;
 use schedule_listing::Listing;
 use schedule_periods::PeriodAnswer;
 use zone_calls::ChangeAnswer;
@@ -66,6 +67,21 @@ pub extern "C" fn stack_list(
     match schedule_listing::list(book, pack, a, b, c, d, out) {
         Listing::Count(n) => n,
         Listing::Refused(_, place) => place,
+    }
+}
+
+#[no_mangle]
+pub extern "C" fn stack_hardest(
+    book: &[u8],
+    pack: &[u8],
+    a: i64,
+    b: i64,
+    log: &[i64],
+    width: i64,
+) -> i64 {
+    match schedule_hardest::hardest(book, pack, a, b, log, width) {
+        HardestAnswer::Is(sec, _, _, _) => sec,
+        HardestAnswer::Refused(number, _) => number as i64,
     }
 }
 

@@ -1,6 +1,7 @@
 -- Each answer of the functions on durations, from what the code has tested, and what is written of an instant or a duration.
 use mathlib.Core.Path.{_≡_, refl, sym, ap, _∙_}
 use mathlib.Core.Bool.{Bool, true, false, not, _&&_, _||_}
+use mathlib.Core.List.{[], _∷_}
 use Prim.Native.Nat.{ℕ, suc, _+_, _-_, _*_, _/_, _%_, _^_, _≤_, _<_}
 use native.Mathlib.Omega.{arith}
 use lib.Dec.{leb, ltb, eqb}
@@ -211,3 +212,11 @@ seconds-is k h =
     let l : k < epoch = leb-false _ _ t in
     let e : k + (2 ^ 63 - epoch) ≡ 2 ^ 63 - (epoch - k) = omega arith in
     simp t (ap unbiased e ∙ unbiased-less (epoch - k) (omega arith)))
+
+-- the numbers of a duration that was made of a sign and a size
+pub duration-written : (m : Bool) (a b : ℕ) (d : Duration) {x y : ℤ} → b < second → d ≡ signedPair m a b → x ≡ d .secs → y ≡ d .nanos → x ∷ y ∷ [] ≡ M.duration (dur m (a * second + b))
+unfolding M.duration
+duration-written m a b d h e p q =
+    let u : (a * second + b) / second ≡ a = omega arith in
+    let v : (a * second + b) % second ≡ b = omega arith in
+    rw (p, q, e, u, v)

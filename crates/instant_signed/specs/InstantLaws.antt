@@ -8,13 +8,13 @@ use lib.Dec.{leb, ltb}
 use lib.IntN.{ℤ, pos, natAbs}
 use mir.Syntax.{w64}
 use mir.Val.{SFits, toZ, ofZ}
-use mir.Facts.{toZ-ofZ}
 use borrow.Author.Tests.{leb-true, ltb-true}
 use Rattle.model.specs.Answer.{gives, refuses}
 use Rattle.model.specs.Instant.{second, isBelow0, secondFrom, instantOf, instant, firstSecond, lastSecond}
 use Rattle.laws_base.specs.Test.{by-test, and-both, never}
 use Rattle.instant.specs.Instant.{nanos, InRange}
 use Rattle.instant.specs.declared.Instant.{Instant}
+use Rattle.instant_signed.specs.Signed.{by-bits₂}
 use Rattle.instant_signed.specs.Reads.{ofNanos, instantRead, secondsFrom}
 use Rattle.instant_signed.specs.ReadLaws.{isSecond, isRest}
 use Rattle.instant_signed.specs.declared.InstantRead.{InstantRead}
@@ -55,16 +55,12 @@ instant-refused s n e =
 
 -- ---- an instant read from numbers of 64 bits
 
--- a signed number is the one that its 64 bits stand for
-whole : (s n : ℤ) → SFits w64 s → SFits w64 n → {A : Type 0} {r : A} (h : ℤ → ℤ → A) → r ≡ h (toZ w64 (ofZ w64 s)) (toZ w64 (ofZ w64 n)) → r ≡ h s n
-whole s n f g h e = e ∙ (λ i. h (toZ-ofZ {w = w64} f i) (toZ-ofZ {w = w64} g i))
-
 module _ (s n : ℤ) (f : SFits w64 s) (g : SFits w64 n) {r : InstantRead} (e : r ≡ instantRead (instantOf (toZ w64 (ofZ w64 s)) (toZ w64 (ofZ w64 n)))) where
   pub instant-no : r ≡ R.OutOfRange → instantOf s n ≡ refuses 8 0
-  instant-no h = instant-refused s n (sym (whole s n f g (λ a b. instantRead (instantOf a b)) e) ∙ h)
+  instant-no h = instant-refused s n (sym (by-bits₂ (λ a b. instantRead (instantOf a b)) f g e) ∙ h)
 
   pub instant-yes : {t : Instant} → r ≡ R.At t → ReadsInstant s n t
-  instant-yes {t} h = instant-read s n t (sym (whole s n f g (λ a b. instantRead (instantOf a b)) e) ∙ h)
+  instant-yes {t} h = instant-read s n t (sym (by-bits₂ (λ a b. instantRead (instantOf a b)) f g e) ∙ h)
 
 -- ---- an instant written
 

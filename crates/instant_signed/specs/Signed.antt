@@ -1,5 +1,5 @@
 -- Signed numbers of 64 bits as natural numbers that are 2^63 more.
-use mathlib.Core.Path.{_≡_, refl, sym, ap, _∙_, subst}
+use mathlib.Core.Path.{_≡_, refl, sym, ap, ap₂, _∙_, subst}
 use mathlib.Core.Bool.{true, false}
 use Prim.Native.Nat.{ℕ, zero, suc, _+_, _-_, _^_, _≤_, _<_}
 use native.Mathlib.Omega.{arith}
@@ -7,7 +7,8 @@ use lib.Dec.{T}
 use lib.IntN.{ℤ, pos, negsuc, negℤ, _+ℤ_, _-ℤ_, natAbs, subℕ}
 use lib.Signed.{ltZ}
 use mir.Syntax.{w64}
-use mir.Val.{SFits}
+use mir.Val.{SFits, toZ, ofZ}
+use mir.Facts.{toZ-ofZ}
 use borrow.Author.Tests.{ltb-true, lt-ltb, le-ltb}
 
 -- z + 2^63
@@ -17,6 +18,13 @@ biased z = natAbs (z +ℤ pos (2 ^ 63))
 -- k - 2^63
 unfoldable pub unbiased : ℕ → ℤ
 unbiased k = pos k -ℤ pos (2 ^ 63)
+
+-- a signed number is the one that its 64 bits stand for
+pub by-bits : {A : Type 0} {r : A} (g : ℤ → A) {z : ℤ} → SFits w64 z → r ≡ g (toZ w64 (ofZ w64 z)) → r ≡ g z
+by-bits g f e = e ∙ ap g (toZ-ofZ f)
+
+pub by-bits₂ : {A : Type 0} {r : A} (g : ℤ → ℤ → A) {y z : ℤ} → SFits w64 y → SFits w64 z → r ≡ g (toZ w64 (ofZ w64 y)) (toZ w64 (ofZ w64 z)) → r ≡ g y z
+by-bits₂ g e f h = h ∙ ap₂ g (toZ-ofZ e) (toZ-ofZ f)
 
 -- a difference of two natural numbers
 pub sub-nat : (a b : ℕ) → b ≤ a → subℕ a b ≡ pos (a - b)

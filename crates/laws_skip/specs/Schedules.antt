@@ -4,11 +4,11 @@ use mathlib.Core.Path.{_≡_, refl, sym, _∙_, ap}
 use mathlib.Core.Bool.{true}
 use mathlib.Core.Option.{none}
 use mathlib.Core.Logic.{inl}
-use Prim.Native.Nat.{ℕ, _+_, _*_, _-_, _≤_}
+use Prim.Native.Nat.{ℕ, zero, suc, _+_, _*_, _-_, _≤_, min}
 use native.Mathlib.Omega.{arith}
 use Rattle.model.specs.Instant.{week}
 use Rattle.model.specs.Working.{Schedule, blocksOfAll, working}
-use Rattle.model.specs.Walk.{Way, on, back, at, reach, ahead, onward, backward, begun, timeBetween, search}
+use Rattle.model.specs.Walk.{Way, on, back, at, reach, ahead, onward, backward, begun, timeFrom, timeBetween, search}
 use Rattle.model.specs.Skip.{repeats, neededBetween, anyTime}
 use Rattle.laws_blocks.specs.Lists.{Lists}
 use Rattle.laws_blocks.specs.Members.{covers}
@@ -33,6 +33,19 @@ working-lists s lo hi h =
 -- their time is no more than the window's length
 pub working-most : (s : Schedule) (lo hi : ℕ) → lo ≤ hi → total (working s lo hi) ≤ hi - lo
 working-most s lo hi h = lists-most (covers (working s lo hi)) lo hi (working-lists s lo hi h)
+
+-- nor is the time between two instants more than the time between them
+from-most : (s : Schedule) (n lo b : ℕ) → lo ≤ b → timeFrom n (working s) lo b ≤ b - lo
+unfolding timeFrom
+from-most s zero lo b h = omega arith
+from-most s (suc n) lo b h =
+    let hi = min (lo + week) b in
+    let p = working-most s lo hi (omega arith) in
+    let q = from-most s n hi b (omega arith) in
+    omega arith
+
+pub time-most : (s : Schedule) (a b : ℕ) → a ≤ b → timeBetween s a b ≤ b - a
+time-most s a b h = from-most s (begun (b - a)) a b h
 
 pub working-inside : (s : Schedule) (lo hi : ℕ) → lo ≤ hi → Inside lo hi (working s lo hi)
 working-inside s lo hi h = lists-inside (covers (working s lo hi)) lo hi (working-lists s lo hi h)

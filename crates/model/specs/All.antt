@@ -16,9 +16,10 @@ use Rattle.model.specs.Build.{builds}
 use Rattle.model.specs.Walk.{walks}
 use Rattle.model.specs.Skip.{skips}
 use Rattle.model.specs.Calls.{calls}
+use Rattle.model.specs.Hardest.{hardests}
 use Rattle.model.specs.ZoneCalls.{zoneCalls}
 use Rattle.model.specs.Lines.{lines}
 
 unfoldable pub everything : Unit {0}
-unfolding basics bytes calendar instants directory packs footers tzif zones nextChanges books blocks workings builds walks skips calls zoneCalls lines
+unfolding basics bytes calendar instants directory packs footers tzif zones nextChanges books blocks workings builds walks skips calls hardests zoneCalls lines
 everything = tt

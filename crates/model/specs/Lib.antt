@@ -17,6 +17,7 @@ pub mod Build
 pub mod Walk
 pub mod Skip
 pub mod Calls
+pub mod Hardest
 pub mod ZoneCalls
 pub mod Lines
 pub mod All

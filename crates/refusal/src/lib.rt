@@ -1,4 +1,4 @@
-// The numbers of document 01's refusals.
+// The numbers of document 01's refusals, and of document 02's.
 
 // The book breaks its layout; a book limit is passed; the pack breaks its layout.
 pub const BOOK_LAYOUT: u32 = 1;
@@ -23,3 +23,8 @@ pub const INSTANT_OUT_OF_RANGE: u32 = 8;
 pub const DURATION_MALFORMED: u32 = 9;
 
 pub const TOO_FEW_NUMBERS: u32 = 10;
+
+// Of the hardest stretch: the log is malformed, too long or passes the last instant; the width is outside its limits.
+pub const LOG_MALFORMED: u32 = 11;
+
+pub const WIDTH_OUT_OF_RANGE: u32 = 12;

@@ -1,31 +1,26 @@
 -- What the answers of crate `instant_signed` tell of the instants and durations that were read.
 use mathlib.Core.Path.{_≡_, refl, sym, ap, _∙_}
 use mathlib.Core.Bool.{Bool, true, false, not, _&&_, _||_}
-use mathlib.Core.List.{List, [], _∷_}
 use Prim.Native.Nat.{ℕ, _+_, _*_, _-_, _/_, _%_, _^_, _≤_, _<_}
 use native.Mathlib.Omega.{arith}
 use lib.Dec.{ltb}
 use lib.IntN.{ℤ, pos, negsuc, natAbs}
 use mir.Syntax.{w64}
 use mir.Val.{SFits, toZ, ofZ}
-use mir.Facts.{toZ-ofZ}
 use borrow.Author.Tests.{ltb-true}
 use Rattle.laws_base.specs.Test.{by-test, and-both, clash, never}
-use Rattle.model.specs.Answer.{Answer, gives, refuses}
+use Rattle.model.specs.Answer.{gives, refuses}
 use Rattle.model.specs.Instant as M
-use Rattle.model.specs.Instant.{second, lastInstant, isBelow0, areOpposite, durationOf, duration, negated}
+use Rattle.model.specs.Instant.{second, lastInstant, isBelow0, areOpposite, durationOf, negated}
 use Rattle.instant.specs.Instant.{nanos, InRange}
 use Rattle.instant.specs.declared.Instant.{Instant}
-use Rattle.instant_signed.specs.Durations.{signedPair, durationRead, negatedRead, negation}
+use Rattle.instant_signed.specs.Signed.{by-bits₂}
+use Rattle.instant_signed.specs.Durations.{durationRead, negatedRead, negation}
 use Rattle.instant_signed.specs.declared.DurationRead.{DurationRead}
 use Rattle.instant_signed.specs.declared.DurationRead.the-variants as S
 use Rattle.instant_signed.specs.declared.Duration.{Duration}
 use Rattle.instant_signed.specs.declared.DurationMade.{DurationMade}
 use Rattle.instant_signed.specs.declared.DurationMade.the-variants as D
-
--- a signed number is the one that its 64 bits stand for
-whole : (s n : ℤ) → SFits w64 s → SFits w64 n → {A : Type 0} {r : A} (h : ℤ → ℤ → A) → r ≡ h (toZ w64 (ofZ w64 s)) (toZ w64 (ofZ w64 n)) → r ≡ h s n
-whole s n f g h e = e ∙ (λ i. h (toZ-ofZ {w = w64} f i) (toZ-ofZ {w = w64} g i))
 
 -- ---- instants
 
@@ -85,10 +80,10 @@ span-most a b h k = omega arith
 -- a duration that was read
 module _ (s n : ℤ) (f : SFits w64 s) (g : SFits w64 n) {r : DurationRead} (e : r ≡ durationRead (durationOf (toZ w64 (ofZ w64 s)) (toZ w64 (ofZ w64 n)))) where
   pub span-no : r ≡ S.Malformed → durationOf s n ≡ refuses 9 0
-  span-no h = no-span-read s n (sym (whole s n f g (λ a b. durationRead (durationOf a b)) e) ∙ h)
+  span-no h = no-span-read s n (sym (by-bits₂ (λ a b. durationRead (durationOf a b)) f g e) ∙ h)
 
   pub span-yes : {m : Bool} {a b : ℕ} → r ≡ S.Signed m a b → Lasts s n m a b
-  span-yes {m} {a} {b} h = span-read s n m a b f (sym (whole s n f g (λ a b. durationRead (durationOf a b)) e) ∙ h)
+  span-yes {m} {a} {b} h = span-read s n m a b f (sym (by-bits₂ (λ a b. durationRead (durationOf a b)) f g e) ∙ h)
 
 -- ---- the negation of a negative duration of d nanoseconds
 
@@ -121,19 +116,10 @@ module _ (s n : ℤ) (f : SFits w64 s) (g : SFits w64 n) {m : Bool} {a b : ℕ} 
   is-minus = l .means ∙ ap (λ m. gives (span m (a * second + b))) minus
 
   pub negated-yes : {d : Duration} → r ≡ D.Is d → (negated (span true (a * second + b)) ≡ gives (span false (a * second + b))) × (a * second + b < 2 ^ 63 * second)
-  negated-yes {d} h = negated-is s n (a * second + b) is-minus d (sym (whole s n f g negation e) ∙ h)
+  negated-yes {d} h = negated-is s n (a * second + b) is-minus d (sym (by-bits₂ negation f g e) ∙ h)
 
   pub negated-no : r ≡ D.OutOfRange → negated (span true (a * second + b)) ≡ refuses 7 0
-  negated-no h = negated-not s n (a * second + b) is-minus (sym (whole s n f g negation e) ∙ h)
+  negated-no h = negated-not s n (a * second + b) is-minus (sym (by-bits₂ negation f g e) ∙ h)
 
   pub negated-well : {P : Type 0} → r ≡ D.Malformed → P
-  negated-well h = never-malformed s n (a * second + b) is-minus (sym (whole s n f g negation e) ∙ h)
-
--- the numbers of a duration that was made of a sign and a size
-pub pair-shown : (m : Bool) (a b : ℕ) (d : Duration) (x y : ℤ) → b < 1000000000 → d ≡ signedPair m a b → x ≡ d .secs → y ≡ d .nanos
-    → _≡_ {A = Answer (List ℤ)} (gives (x ∷ y ∷ [])) (gives (duration (span m (a * second + b))))
-unfolding duration
-pair-shown m a b d x y h e p q =
-    let u : (a * second + b) / second ≡ a = omega arith in
-    let v : (a * second + b) % second ≡ b = omega arith in
-    rw (p, q, e, u, v)
+  negated-well h = never-malformed s n (a * second + b) is-minus (sym (by-bits₂ negation f g e) ∙ h)

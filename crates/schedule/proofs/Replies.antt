@@ -5,20 +5,20 @@ use mathlib.Core.Bool.{Bool, true, false, not}
 use mathlib.Core.Logic.{_⊎_, ⊎-elim}
 use mathlib.Core.Option.{some}
 use mathlib.Core.List.{List}
-use Prim.Native.Nat.{ℕ, zero, suc, _+_, _-_, _≤_, _<_, _^_, min, max}
+use Prim.Native.Nat.{ℕ, _+_, _-_, _≤_, _<_, _^_, min, max}
 use native.Mathlib.Omega.{arith}
 use lib.Dec.{ltb}
 use lib.IntN.{ℤ}
 use borrow.Author.Tests.{ltb-true, ltb-false, ne-eqb}
 use Rattle.model.specs.Answer.{Answer, gives, refuses, _>>=_}
-use Rattle.model.specs.Instant.{week, lastInstant, instantOf, instant, durationOf, duration, negated}
-use Rattle.model.specs.Working.{Schedule, working}
-use Rattle.model.specs.Walk.{Way, on, back, at, reach, begun, timeFrom, timeBetween, ahead, search}
+use Rattle.model.specs.Instant.{lastInstant, instantOf, instant, durationOf, duration, negated}
+use Rattle.model.specs.Working.{Schedule}
+use Rattle.model.specs.Walk.{Way, on, back, at, reach, begun, timeBetween, ahead, search}
 use Rattle.model.specs.Skip.{repeats, neededBetween, neededSearch, anyTime, someTime}
 use Rattle.model.specs.Calls.{Reply, betweenCall, moved, moveCall, turned}
 use Rattle.model.specs.Build.{build}
 use Rattle.laws_skip.specs.Skips.{needed-most}
-use Rattle.laws_skip.specs.Schedules.{working-most, search-skipping}
+use Rattle.laws_skip.specs.Schedules.{time-most, search-skipping}
 use Rattle.laws_skip.specs.Books.{BuiltWell}
 use Rattle.walk_distance.specs.Distances.{wayOf}
 use Rattle.rule.specs.Rules.{scheduleIs}
@@ -31,21 +31,8 @@ use Rattle.walk_search.specs.declared.Reached.{Reached}
 use Rattle.walk_search.specs.declared.Reached.the-variants as R
 use Rattle.schedule.specs.Answers.{KeepsReply}
 
--- ---- the working time between two instants is no more than the time between them
+-- ---- the working time between two instants is no more than the time between them, so its seconds fit
 
-from-most : (s : Schedule) (n lo b : ℕ) → lo ≤ b → timeFrom n (working s) lo b ≤ b - lo
-unfolding timeFrom
-from-most s zero lo b h = omega arith
-from-most s (suc n) lo b h =
-    let hi = min (lo + week) b in
-    let p = working-most s lo hi (omega arith) in
-    let q = from-most s n hi b (omega arith) in
-    omega arith
-
-time-most : (s : Schedule) (a b : ℕ) → a ≤ b → timeBetween s a b ≤ b - a
-time-most s a b h = from-most s (begun (b - a)) a b h
-
--- so its seconds fit
 pub time-fits : (s : Schedule) (x : Instant) (a b : ℕ) → a ≤ b → b ≤ lastInstant → nanos x ≡ timeBetween s a b → x .sec < 2 ^ 63
 time-fits s x a b h k e = let m = time-most s a b h in omega arith
 

@@ -1,26 +1,21 @@
 -- Each answer of the calls, from what the code has read, walked and written. Assumes nothing.
 use mathlib.Core.Path.{_≡_, refl, sym, _∙_, ap}
 use mathlib.Core.Bool.{Bool, true, false}
-use mathlib.Core.List.{List, [], _∷_, _++_}
+use mathlib.Core.List.{[], _∷_, _++_}
 use Prim.Native.Nat.{ℕ, _+_, _-_, _<_}
 use native.Mathlib.Omega.{arith}
 use lib.IntN.{ℤ, pos}
-use borrow.Author.Tests.{eq-eqb, ne-eqb}
 use Rattle.model.specs.Answer.{Answer, gives, refuses, _>>=_}
 use Rattle.model.specs.Instant.{second, instantOf, instant}
 use Rattle.model.specs.Blocks.{block}
 use Rattle.model.specs.Working as model
 use Rattle.model.specs.Walk.{Way, on, back, at, reach, period}
-use Rattle.model.specs.Build.{build}
 use Rattle.model.specs.Calls.{Reply, ends, periodCall}
 use Rattle.instant.specs.Instant.{nanos, InRange}
 use Rattle.instant.specs.declared.Instant.{Instant}
 use Rattle.instant_signed.specs.InstantLaws.{instant-read, instant-refused, instant-written}
 use Rattle.instant_signed.specs.Reads.{instantRead, secondsFrom}
 use Rattle.instant_signed.specs.declared.InstantRead.the-variants as R
-use Rattle.rule.specs.Rules.{scheduleIs}
-use Rattle.build.specs.Read.{answerIs}
-use Rattle.build.specs.declared.Built.{Built}
 use Rattle.walk_distance.specs.Distances.{wayOf}
 use Rattle.walk_distance.specs.Distances.{Short}
 use Rattle.walk_period.specs.Found.{foundIs, PeriodFits}
@@ -67,15 +62,6 @@ module _ (z : Bool) (t f e : ℕ) (a b : ℕ) {r : Answer Reply} where
   -- going back, from the further border to the nearer one
   pub period-at-back : z ≡ true → a ≡ at (wayOf z) t e → b ≡ at (wayOf z) t f → r ≡ periodGiven (instant a ++ instant b) → r ≡ periodGiven (ends (wayOf z) t (block f e))
   period-at-back h p q u = let x : a ≡ t - e = rw h at p in let y : b ≡ t - f = rw h at q in rw h (rw (x, y) at u)
-
--- ---- from the bytes
-
-module _ (b p : List ℕ) (r : Built) (f : model.Schedule → Answer Reply) (e : answerIs b p r ≡ build b p) where
-  pub not-built : (r .number ≡ 0 → ⊥) → refuses (r .number) (r .place) ≡ (build b p >>= f)
-  not-built n = let z : refuses (r .number) (r .place) ≡ build b p = rw (ne-eqb (r .number) 0 n) at e in rw (← z)
-
-  pub is-built : r .number ≡ 0 → {a : Answer Reply} → a ≡ f (scheduleIs b p (r .schedule)) → a ≡ (build b p >>= f)
-  is-built n q = let z : gives (scheduleIs b p (r .schedule)) ≡ build b p = rw (eq-eqb (r .number) 0 n) at e in rw (← z) q
 
 -- ---- distances that fit
 

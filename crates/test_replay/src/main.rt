@@ -1,10 +1,16 @@
 // Replays stored cases. A case is a book, a pack, query lines and the answers that are expected (tools/vector_cases.py writes them); the files
 // cases-00.bin, cases-01.bin and so on hold them one behind the other. Each case's lines are answered as the clock answers them, and the answers
 // are compared. Writes a line for each case that differs, and at the end how many cases and lines are equal and how many cases differ.
-ghost use Prim.Native.Nat.{_+_, _*_, _≤_, _<_};
+ghost use Prim.Native.Nat.{_≤_};
 ghost use lib.ListN.{length};
+ghost use Rattle.test_cases.specs.Cases.{longestFile};
 use answer_line::LONGEST;
-use libc::STDOUT_FILENO;
+use test_cases::number;
+use test_cases::one_more;
+use test_cases::text;
+
+// The parts of a case: 0 the book, 1 the pack, 2 the lines, 3 the answers.
+const PARTS: usize = 4;
 
 // What was seen so far.
 pub struct Seen {
@@ -13,27 +19,9 @@ pub struct Seen {
     pub different: u64,
 }
 
-// Writes a text to standard output.
-fn text(s: &[u8]) {
-    io::write_all(STDOUT_FILENO, s);
-}
-
-// Writes a number in decimal digits.
-fn number(n: u64) {
-    io::print_decimal(STDOUT_FILENO, n);
-}
-
 // The digit of k, 0 to 9.
 fn digit(k: usize) -> u8 {
     b'0' + (k % 10) as u8
-}
-
-// n + 1, or the greatest number.
-fn one_more(n: u64) -> u64 {
-    if n == u64::MAX {
-        return n;
-    }
-    n + 1
 }
 
 // Do the bytes of part stand in whole from the place at on?
@@ -89,43 +77,14 @@ fn agrees(book: &[u8], pack: &[u8], input: &[u8], expected: &[u8], out: &mut [u8
 
 // ---- files of cases
 
-// The length of part k of the case at the place at: 0 the book, 1 the pack, 2 the lines, 3 the answers.
-fn length_at(file: &[u8], at: usize, k: usize) -> usize
-    requires { ⌜ (at ≤ 65536) × (k < 4) ⌝ }
-    ensures { λ r. ⌜ r < 4294967296 ⌝ }
-{
-    big_endian::be32_at(file, at + 4 * k) as usize
-}
-
-// The place of part k of the case at the place at; part 4 is the next case.
-fn place_of(file: &[u8], at: usize, k: usize) -> usize
-    requires { ⌜ (at ≤ 65536) × (k ≤ 4) ⌝ }
-    ensures { λ r. ⌜ (at < r) × (r ≤ at + 16 + k * 4294967296) ⌝ }
-{
-    let mut r = at + 16;
-    let mut i: usize = 0;
-    while i < k {
-        r += length_at(file, at, i);
-        i += 1;
-    }
-    r
-}
-
-// Part k of the case at the place at.
-fn part_of(file: &[u8], at: usize, k: usize) -> &[u8]
-    requires { ⌜ (at ≤ 65536) × (k < 4) ⌝ }
-{
-    big_endian::part(file, place_of(file, at, k), length_at(file, at, k))
-}
-
 // Replays the case at the place at.
 fn replay_case(file: &[u8], at: usize, seen: Seen, out: &mut [u8]) -> Seen
-    requires { ⌜ at ≤ 65536 ⌝ }
+    requires { ⌜ at ≤ longestFile ⌝ }
 {
-    let book = part_of(file, at, 0);
-    let pack = part_of(file, at, 1);
-    let input = part_of(file, at, 2);
-    let expected = part_of(file, at, 3);
+    let book = test_cases::part_of(file, PARTS, at, 0);
+    let pack = test_cases::part_of(file, PARTS, at, 1);
+    let input = test_cases::part_of(file, PARTS, at, 2);
+    let expected = test_cases::part_of(file, PARTS, at, 3);
     let cases = one_more(seen.cases);
     if agrees(book, pack, input, expected, out) {
         return Seen {
@@ -146,13 +105,13 @@ fn replay_case(file: &[u8], at: usize, seen: Seen, out: &mut [u8]) -> Seen
 
 // Replays the cases of a file.
 fn replay_file(file: &[u8], seen: Seen, out: &mut [u8]) -> Seen
-    requires { ⌜ length (now file) ≤ 65536 ⌝ }
+    requires { ⌜ length (now file) ≤ longestFile ⌝ }
 {
     let mut r = seen;
     let mut at: usize = 0;
     while at < file.len() {
         r = replay_case(file, at, r, out);
-        at = place_of(file, at, 4);
+        at = test_cases::place_of(file, PARTS, at, PARTS);
     }
     r
 }

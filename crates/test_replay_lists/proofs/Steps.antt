@@ -1,11 +1,10 @@
--- One lent number tested, from what the code reads of it; and a part of a list. Assumes nothing.
+-- One lent number tested, from what the code reads of it. Assumes nothing.
 use mathlib.Core.Path.{_≡_, ap, ap₂, _∙_}
 use mathlib.Core.List.{List}
-use Prim.Native.Nat.{ℕ, _+_, _*_, _≤_}
-use native.Mathlib.Omega.{arith}
+use Prim.Native.Nat.{ℕ, _+_, _*_}
 use lib.Dec.{eqb}
 use lib.IntN.{ℤ, pos}
-use lib.ListN.{length, getD, take, drop, length-take, length-drop}
+use lib.ListN.{getD}
 use mir.Syntax.{w64}
 use mir.Val.{SFits, toZ, ofZ}
 use mir.Facts.{toZ-ofZ}
@@ -21,7 +20,3 @@ module _ (e : List ℤ) (i : ℕ) {x : ℕ} (f : SFits w64 (getD e i (pos 0))) (
   pub stored-is : (q : List ℕ) {y : ℕ} → y ≡ be64 q (44 + 8 * i) → eqb x y ≡ isStored e q i
   unfolding isStored
   stored-is q h = ap₂ eqb (p ∙ ap biased (toZ-ofZ f)) h
-
--- a part is no longer than the whole
-pub part-few : (a n : ℕ) (s : List ℕ) {r : List ℕ} → r ≡ take n (drop a s) → length r ≤ length s
-part-few a n s e = rw e (let p = length-take n (drop a s) in let q = length-drop a s in omega arith)

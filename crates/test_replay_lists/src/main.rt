@@ -6,35 +6,14 @@ ghost use mathlib.Core.Path.{_≡_};
 ghost use Prim.Native.Nat.{_+_, _*_, _-_, _≤_, _<_};
 ghost use lib.ListN.{length};
 ghost use Rattle.big_endian.specs.Walk.{allFrom};
+ghost use Rattle.test_cases.specs.Cases.{longestFile};
 ghost use Rattle.test_replay_lists.specs.Compared.{isMark, isStored};
-use libc::STDOUT_FILENO;
 use schedule_listing::Listing;
+use test_cases::LONGEST;
+use test_cases::Seen;
 
-// What was seen so far.
-pub struct Seen {
-    pub cases: u64,
-    pub given: u64,
-    pub refused: u64,
-    pub different: u64,
-}
-
-// Writes a text to standard output.
-fn text(s: &[u8]) {
-    io::write_all(STDOUT_FILENO, s);
-}
-
-// Writes a number in decimal digits.
-fn number(n: u64) {
-    io::print_decimal(STDOUT_FILENO, n);
-}
-
-// n + 1, or the greatest number.
-fn one_more(n: u64) -> u64 {
-    if n == u64::MAX {
-        return n;
-    }
-    n + 1
-}
+// The parts of a case: 0 the book, 1 the pack, 2 the questions.
+const PARTS: usize = 3;
 
 // ---- the lent numbers
 
@@ -94,11 +73,6 @@ fn stored_to(out: &[i64], q: &[u8], n: usize) -> bool
 
 // ---- one question
 
-// The signed number at a place of the question, which is stored as the one that is 2^63 more.
-fn signed_at(q: &[u8], at: usize) -> i64 {
-    instant_signed::lower(big_endian::be64_at(q, at))
-}
-
 // How many numbers question q lends.
 fn room_of(q: &[u8]) -> usize {
     big_endian::size_at(q, 32)
@@ -153,10 +127,10 @@ fn asked(book: &[u8], pack: &[u8], q: &[u8], out: &mut [i64]) -> bool {
     let r = schedule_listing::list(
         book,
         pack,
-        signed_at(q, 0),
-        signed_at(q, 8),
-        signed_at(q, 16),
-        signed_at(q, 24),
+        test_cases::signed_at(q, 0),
+        test_cases::signed_at(q, 8),
+        test_cases::signed_at(q, 16),
+        test_cases::signed_at(q, 24),
         out,
     );
     match r {
@@ -186,30 +160,20 @@ fn length_of(q: &[u8]) -> usize
 
 // Asks question q and counts it.
 fn ask(book: &[u8], pack: &[u8], q: &[u8], seen: Seen, out: &mut [i64]) -> Seen {
-    let mut r = seen;
     if !agrees(book, pack, q, out) {
-        text(b"case ");
-        number(seen.cases);
-        text(b": a listing differs\n");
-        r.different = one_more(seen.different);
-        return r;
+        return test_cases::different(seen, b"listing");
     }
-    if 0 < refusal_of(q) {
-        r.refused = one_more(seen.refused);
-        return r;
-    }
-    r.given = one_more(seen.given);
-    r
+    test_cases::equal(seen, refusal_of(q))
 }
 
 // Asks all questions.
 fn ask_all(book: &[u8], pack: &[u8], questions: &[u8], seen: Seen, out: &mut [i64]) -> Seen
-    requires { ⌜ length (now questions) ≤ 65536 ⌝ }
+    requires { ⌜ length (now questions) ≤ longestFile ⌝ }
 {
     let mut r = seen;
     let mut at: usize = 0;
     while at < questions.len() {
-        let q = big_endian::part(questions, at, 65536);
+        let q = big_endian::part(questions, at, LONGEST);
         r = ask(book, pack, q, r, out);
         at += length_of(q);
     }
@@ -218,76 +182,27 @@ fn ask_all(book: &[u8], pack: &[u8], questions: &[u8], seen: Seen, out: &mut [i6
 
 // ---- the file of cases
 
-// The length of part k of the case at the place at: 0 the book, 1 the pack, 2 the questions.
-fn size_of(file: &[u8], at: usize, k: usize) -> usize
-    requires { ⌜ (at ≤ 65536) × (k < 3) ⌝ }
-    ensures { λ r. ⌜ r < 4294967296 ⌝ }
-{
-    big_endian::size_at(file, at + 4 * k)
-}
-
-// The place of part k of the case at the place at; part 3 is the next case.
-fn place_of(file: &[u8], at: usize, k: usize) -> usize
-    requires { ⌜ (at ≤ 65536) × (k ≤ 3) ⌝ }
-    ensures { λ r. ⌜ (at < r) × (r ≤ at + 12 + k * 4294967296) ⌝ }
-{
-    let mut r = at + 12;
-    let mut i: usize = 0;
-    while i < k {
-        r += size_of(file, at, i);
-        i += 1;
-    }
-    r
-}
-
-// Part k of the case at the place at.
-fn part_of(file: &[u8], at: usize, k: usize) -> &[u8]
-    requires { ⌜ (at ≤ 65536) × (k < 3) ⌝ }
-    ensures { λ r. ⌜ length (now r) ≤ length (now (file .entry)) ⌝ }
-{
-    big_endian::part(file, place_of(file, at, k), size_of(file, at, k))
-}
-
 // Asks the questions of the case at the place at.
 fn ask_case(file: &[u8], at: usize, seen: Seen, out: &mut [i64]) -> Seen
-    requires { ⌜ (length (now file) ≤ 65536) × (at ≤ 65536) ⌝ }
+    requires { ⌜ (length (now file) ≤ longestFile) × (at ≤ longestFile) ⌝ }
 {
-    let book = part_of(file, at, 0);
-    let pack = part_of(file, at, 1);
-    let questions = part_of(file, at, 2);
-    let mut next = seen;
-    next.cases = one_more(seen.cases);
-    ask_all(book, pack, questions, next, out)
+    let book = test_cases::part_of(file, PARTS, at, 0);
+    let pack = test_cases::part_of(file, PARTS, at, 1);
+    let questions = test_cases::part_of(file, PARTS, at, 2);
+    ask_all(book, pack, questions, test_cases::next_case(seen), out)
 }
 
 // Asks the questions of all cases of a file.
 fn ask_file(file: &[u8], out: &mut [i64]) -> Seen
-    requires { ⌜ length (now file) ≤ 65536 ⌝ }
+    requires { ⌜ length (now file) ≤ longestFile ⌝ }
 {
-    let mut seen = Seen {
-        cases: 0,
-        given: 0,
-        refused: 0,
-        different: 0,
-    };
+    let mut seen = test_cases::nothing();
     let mut at: usize = 0;
     while at < file.len() {
         seen = ask_case(file, at, seen, out);
-        at = place_of(file, at, 3);
+        at = test_cases::place_of(file, PARTS, at, PARTS);
     }
     seen
-}
-
-// Writes what was seen.
-fn tell(seen: Seen) {
-    number(seen.cases);
-    text(b" cases, ");
-    number(seen.given);
-    text(b" listings and ");
-    number(seen.refused);
-    text(b" refusals equal, ");
-    number(seen.different);
-    text(b" different\n");
 }
 
 fn main() {
@@ -296,9 +211,9 @@ fn main() {
         os::fail(b"lists.bin");
         return;
     }
-    let mut buffer = [0u8; 65536];
+    let mut buffer = [0u8; LONGEST];
     let n = io::read_full(file, &mut buffer);
     libc::close(file);
     let mut out = [0i64; 2048];
-    tell(ask_file(&buffer[..n], &mut out));
+    test_cases::tell(ask_file(&buffer[..n], &mut out), b"listings");
 }

@@ -30,7 +30,7 @@ fn repeated(book: &[u8], pack: &[u8], s: Schedule, known: bool, lo: Instant, b: 
 }
 
 // The working time from a to b, and how many windows were resolved for it. A window's blocks are found in lent memory.
-fn between_into(
+pub fn between_into(
     book: &[u8],
     pack: &[u8],
     s: Schedule,

@@ -1,6 +1,6 @@
 -- `schedule_periods::period` meets its contract: what `build` refuses comes first. Assumes nothing.
 use mir.Facts.{toZ-ofZ}
-use Rattle.schedule_periods.proofs.Answers.{not-built, is-built}
+use Rattle.build.specs.First.{not-built, is-built}
 use borrow.Author.Needs.{needs}
 use Rattle.schedule_periods.proofs.period.Statement.{statement}
 use Rattle.schedule_periods.proofs.period.Tie as tie

@@ -1,14 +1,10 @@
-use mathlib.Core.Path.{_≡_, refl, sym, _∙_}
+-- `test_replay::replay_file` meets its contract.
+use mathlib.Core.Path.{_≡_, refl, _∙_}
 use native.Mathlib.Omega.{arith}
-use borrow.Author.Needs.{needs}
 use lib.ListN.{length}
 use Prim.Native.Nat.{_-_}
 use Rattle.test_replay.proofs.replay_file.Statement.{statement}
 use Rattle.test_replay.proofs.replay_file.Tie as tie
-use Rattle.test_replay.proofs.replay_file.Reads as reads
-use Rattle.test_replay.proofs.replay_file.Lts as lts
-use Rattle.test_replay.proofs.place_of.Reads as place-of-reads
-use Rattle.test_replay.proofs.replay_case.Reads as replay-case-reads
 
 abbrev Inv-loop : tie.InvT-loop
 Inv-loop file out₀ r₀ at₀ out r at = length out ≡ length out₀
@@ -16,31 +12,24 @@ Inv-loop file out₀ r₀ at₀ out r at = length out ≡ length out₀
 abbrev μ-loop : tie.MeasureT-loop
 μ-loop file out₀ r₀ at₀ out r at = length file - at
 
--- src/main.rt:150:5
 loop-holds : tie.Need-loop-holds Inv-loop μ-loop
 loop-holds c = refl
 
--- src/main.rt:151:9
 replay-case-requires : tie.Need-replay-case-requires Inv-loop μ-loop
 replay-case-requires c κs = omega arith
 
--- src/main.rt:152:9
 place-of-requires : tie.Need-place-of-requires Inv-loop μ-loop
-place-of-requires c κs = (omega arith, omega arith)
+place-of-requires c κs = (omega arith, omega arith, omega arith, omega arith)
 
--- src/main.rt:150:5
 loop-less : tie.Need-loop-less Inv-loop μ-loop
 loop-less c = omega arith
 
--- src/main.rt:150:5
 loop-again : tie.Need-loop-again Inv-loop μ-loop
 loop-again c = c .before .before .before .replay-case .kept .1 .1 .1 .0 ∙ c .before .before .before .before .before .before .loop .inv
 
--- src/main.rt:145:1
 same-length : tie.Need-same-length Inv-loop μ-loop
 same-length c = c .before .loop .inv
 
--- src/main.rt:145:1
 returns : tie.Need-returns Inv-loop μ-loop
 returns c = tt
 

@@ -1,13 +1,10 @@
+-- `test_replay::stands_at` meets its contract.
 use borrow.Author.Needs.{needs}
 use native.Mathlib.Omega.{arith}
 use lib.ListN.{length}
-use Prim.Native.Nat.{_+_, _*_, _-_, _≤_, _<_}
+use Prim.Native.Nat.{_-_, _≤_}
 use Rattle.test_replay.proofs.stands_at.Statement.{statement}
 use Rattle.test_replay.proofs.stands_at.Tie as tie
-use Rattle.test_replay.proofs.stands_at.Reads as reads
-use Rattle.test_replay.proofs.stands_at.Lts as lts
-use Rattle.big_endian.proofs.byte_at.Reads as byte-at-reads
-use Rattle.big_endian.proofs.part.Reads as part-reads
 
 abbrev Inv-loop : tie.InvT-loop
 Inv-loop whole at part rest i₀ i = i ≤ length part
@@ -15,43 +12,33 @@ Inv-loop whole at part rest i₀ i = i ≤ length part
 abbrev μ-loop : tie.MeasureT-loop
 μ-loop whole at part rest i₀ i = length part - i
 
--- src/main.rt:38:9
 part-requires : tie.Need-part-requires Inv-loop μ-loop
 part-requires c κs = search needs
 
--- src/main.rt:40:9
 returns : tie.Need-returns Inv-loop μ-loop
 returns c = search needs
 
--- src/main.rt:43:5
 loop-holds : tie.Need-loop-holds Inv-loop μ-loop
 loop-holds c = omega arith
 
--- src/main.rt:44:12
 byte-at-requires : tie.Need-byte-at-requires Inv-loop μ-loop
 byte-at-requires c κs = search needs
 
--- src/main.rt:44:36
 byte-at-requires-2 : tie.Need-byte-at-requires-2 Inv-loop μ-loop
 byte-at-requires-2 c κs = search needs
 
--- src/main.rt:45:13
 returns-2 : tie.Need-returns-2 Inv-loop μ-loop
 returns-2 c = search needs
 
--- src/main.rt:47:9
 add-i : tie.Need-add-i Inv-loop μ-loop
 add-i c = omega arith
 
--- src/main.rt:43:5
 loop-less : tie.Need-loop-less Inv-loop μ-loop
 loop-less c = omega arith
 
--- src/main.rt:43:5
 loop-again : tie.Need-loop-again Inv-loop μ-loop
 loop-again c = omega arith
 
--- src/main.rt:37:1
 returns-3 : tie.Need-returns-3 Inv-loop μ-loop
 returns-3 c = search needs
 

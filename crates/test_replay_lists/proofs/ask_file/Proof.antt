@@ -1,4 +1,4 @@
--- `test_replay_lists::ask_file` meets its contract. Assumes nothing.
+-- `test_replay_lists::ask_file` meets its contract.
 use Prim.Native.Nat.{_-_}
 use lib.ListN.{length}
 use mathlib.Core.Path.{_≡_, refl, _∙_}
@@ -13,14 +13,17 @@ Inv-loop file out₀ seen₀ at₀ out seen at = length out ≡ length out₀
 abbrev μ-loop : tie.MeasureT-loop
 μ-loop file out₀ seen₀ at₀ out seen at = length file - at
 
+nothing-requires : tie.Need-nothing-requires Inv-loop μ-loop
+nothing-requires c κs = tt
+
 loop-holds : tie.Need-loop-holds Inv-loop μ-loop
 loop-holds c = refl
 
 ask-case-requires : tie.Need-ask-case-requires Inv-loop μ-loop
-ask-case-requires c κs = let h = (c .before .loop-test .taken) in let k = (c .before .before .before .before .pre) in (k, omega arith)
+ask-case-requires c κs = let h = (c .before .loop-test .taken) in let k = (c .before .before .before .before .before .pre) in (k, omega arith)
 
 place-of-requires : tie.Need-place-of-requires Inv-loop μ-loop
-place-of-requires c κs = let h = (c .before .before .before .loop-test .taken) in let k = (c .before .before .before .before .before .before .pre) in (omega arith, omega arith)
+place-of-requires c κs = let h = (c .before .before .before .loop-test .taken) in let k = (c .before .before .before .before .before .before .before .pre) in (omega arith, omega arith, omega arith, omega arith)
 
 loop-less : tie.Need-loop-less Inv-loop μ-loop
 loop-less c = let h = (c .before .before .before .before .loop-test .taken) in let g = (c .place-of .ensures) in omega arith
@@ -40,6 +43,7 @@ ask-file-spec =
     (tie.spec
     Inv-loop
     μ-loop
+    nothing-requires
     loop-holds
     ask-case-requires
     place-of-requires
