@@ -3,20 +3,25 @@
 #
 #   run.sh [MILLISECONDS [BOOK [CALL]]]
 #   run.sh hardest [BOOK]
+#   run.sh walks
 #
 # MILLISECONDS (20) of processor time for each row of the table and each that is timed, in each of eight rounds; the best batch counts, so that other
 # work on the machine disturbs little. BOOK and CALL choose rows. Settings from the environment: ZONEINFO, where the zone files are (/usr/share/zoneinfo);
 # JIFF, a folder that has jiff or where it is to be brought (target/jiff; compare/jiff.sh). Without jiff the stand-in alone is timed beside ours.
 # Builds target/staticlib/libbench_clock.a by `rt staticlib bench_clock`, unless it is newer than the code. Ends with 1 where answers differ.
 #
-# The second form times the hardest stretch of a log beside the plain form, both by our code; jiff has no part in it.
+# The second form times the hardest stretch of a log beside the plain form, both by our code; jiff has no part in it. The third has gdb count the walks
+# that one such call makes; it ends with 1 where they are more than two for each of the log's 4,096 runs, and with 3 where there is no gdb.
 set -eu
 here=$(cd "$(dirname "$0")" && pwd)
 root=$(cd "$here/../.." && pwd)
 work=$(mktemp -d /tmp/bench_clock.XXXXXX)
 trap 'rm -r "$work"' EXIT
-# What compare/jiff.sh ends with where jiff can't be had.
+# What compare/jiff.sh ends with where jiff can't be had, and this where there is no gdb.
 unreachable=3
+most_walks=8192
+clock=$root/target/bench_clock/release/clock
+zoneinfo=${ZONEINFO:-/usr/share/zoneinfo}
 
 library=$root/target/staticlib/libbench_clock.a
 if [ ! -f "$library" ] || [ -n "$(find "$root/crates" -name '*.rt' -newer "$library" | head -n 1)" ]; then
@@ -39,11 +44,29 @@ build_with_jiff() {
     ln -sfn "$(cd "$jiff" && pwd)/usr/share/cargo/registry" "$root/target/registry"
     build --manifest-path "$root/target/bench_clock_jiff/Cargo.toml"
 }
+# A walk is a call of walk_between::between_into, which the compiler leaves as a function of its own in this library.
+count_walks() {
+    bad=0
+    for book in office-berlin-30 all-limits; do
+        for days in 400 30; do
+            gdb -q -batch -ex 'break walk_between::between_into' -ex 'ignore 1 1000000' -ex run -ex 'info breakpoints' \
+                --args "$clock" hardest "$zoneinfo" "$book" "$days" >"$work/gdb" 2>&1
+            walks=$(sed -n 's/.*already hit \([0-9]*\) times.*/\1/p' "$work/gdb")
+            echo "$book, windows of $days days: ${walks:-no} walks"
+            [ "${walks:-0}" -gt 0 ] && [ "$walks" -le "$most_walks" ] || bad=1
+        done
+    done
+    exit $bad
+}
 jiff=${JIFF:-$root/target/jiff}
 what=${1:-20}
 [ $# = 0 ] || shift
 note="Nanoseconds of processor time for one, best of several batches. Buffers were warm: a batch repeats one question on the same book and pack."
-if [ "$what" = hardest ]; then
+if [ "$what" = walks ]; then
+    command -v gdb >"$work/gdb" || { echo "run.sh: there is no gdb" >&2; exit "$unreachable"; }
+    build_alone
+    count_walks
+elif [ "$what" = hardest ]; then
     build_alone
     note="Milliseconds of processor time: the plain form once, of hardest the best of ten calls."
 else
@@ -62,7 +85,7 @@ fi
 
 echo "load before: $(cut -d' ' -f1-3 /proc/loadavg)"
 bad=0
-"$root/target/bench_clock/release/clock" "$what" "${ZONEINFO:-/usr/share/zoneinfo}" "$@" || bad=$?
+"$clock" "$what" "$zoneinfo" "$@" || bad=$?
 echo "$note"
 echo "load after: $(cut -d' ' -f1-3 /proc/loadavg); $(nproc) processors, $(sed -n 's/^model name[^:]*: //p' /proc/cpuinfo | head -n 1)"
 exit $bad

@@ -57,13 +57,6 @@ fn log() -> Vec<Run> {
 /// An answer: seconds and nanoseconds of the time, then of the window's start.
 type Answer = [i64; GROUP];
 
-/// What one has done: the time that it took, how many `between` it needs, and its answer.
-struct Done {
-    time: f64,
-    asked: usize,
-    answer: Answer,
-}
-
 /// The parts of runs in the window that starts with run FIRST.
 fn parts(runs: &[Run], width: i64, first: usize) -> impl Iterator<Item = Run> + '_ {
     let end = runs[first].0 + width;
@@ -71,8 +64,8 @@ fn parts(runs: &[Run], width: i64, first: usize) -> impl Iterator<Item = Run> + 
     inside.map(move |&(from, to)| (from, to.min(end)))
 }
 
-/// All windows, each in a batch of its own; of equal ones the earliest stays.
-fn plain(on: &Book, runs: &[Run], width: i64) -> Done {
+/// All windows, each in a batch of its own; of equal ones the earliest stays. The time that it took, how many `between` it asked, and its answer.
+fn plain(on: &Book, runs: &[Run], width: i64) -> (f64, usize, Answer) {
     let since = spent();
     let (mut most, mut start, mut asked) = (-1, 0, 0);
     for first in 0..runs.len() {
@@ -85,24 +78,13 @@ fn plain(on: &Book, runs: &[Run], width: i64) -> Done {
         }
         asked += numbers.len() / GROUP;
     }
-    let answer = [most / NANO, most % NANO, start, 0];
-    Done {
-        time: spent() - since,
-        asked,
-        answer,
-    }
-}
-
-/// How many `between` our call needs: one for each run that is no longer than the width, and one for each window that ends in a run.
-fn needed(runs: &[Run], width: i64) -> usize {
-    let whole = runs.iter().filter(|run| run.1 - run.0 <= width).count();
-    let cuts = |first: &Run| runs.iter().any(|run| run.0 < first.0 + width && first.0 + width < run.1);
-    whole + runs.iter().filter(|first| cuts(first)).count()
+    (spent() - since, asked, [most / NANO, most % NANO, start, 0])
 }
 
 /// One call: the time that it took, and its answer.
-fn hardest(on: &Book, log: &[i64], width: i64) -> (f64, Answer) {
+fn hardest(on: &Book, runs: &[Run], width: i64) -> (f64, Answer) {
     let (book, pack) = (&on.book, &on.pack);
+    let log: Vec<i64> = runs.iter().flat_map(|&(from, to)| [from, to - from]).collect();
     let mut answer = [-1; GROUP];
     let since = spent();
     unsafe {
@@ -123,38 +105,46 @@ fn hardest(on: &Book, log: &[i64], width: i64) -> (f64, Answer) {
     (spent() - since, answer)
 }
 
-fn ours(on: &Book, runs: &[Run], width: i64) -> Done {
-    let log: Vec<i64> = runs.iter().flat_map(|&(from, to)| [from, to - from]).collect();
-    let (_, answer) = hardest(on, &log, width);
-    let times = (0..OFTEN).map(|_| hardest(on, &log, width).0);
-    Done {
-        time: times.fold(f64::INFINITY, f64::min),
-        asked: needed(runs, width),
-        answer,
-    }
-}
-
-/// One row of the table. The answers must be equal, and ours must need no more than two `between` for each run.
+/// One row of the table. The answers must be equal.
 fn show_row(on: &Book, runs: &[Run], days: i64) {
-    let (ours, plain) = (ours(on, runs, days * DAY), plain(on, runs, days * DAY));
-    if ours.answer != plain.answer || ours.asked > 2 * runs.len() {
-        eprintln!(
-            "clock: {}: {:?}, and by the plain form {:?}; {} calls of `between`",
-            on.title, ours.answer, plain.answer, ours.asked
-        );
+    let (mut time, answer) = hardest(on, runs, days * DAY);
+    for _ in 1..OFTEN {
+        time = time.min(hardest(on, runs, days * DAY).0);
+    }
+    let (plain_time, asked, plain_answer) = plain(on, runs, days * DAY);
+    if answer != plain_answer {
+        eprintln!("clock: {}: {answer:?}, and by the plain form {plain_answer:?}", on.title);
         std::process::exit(1);
     }
-    print!("| {} | {days} days | {} | {} |", on.title, plain.asked, ours.asked);
-    println!(" {:.1} | {:.1} | {:.0} |", plain.time / MILLI, ours.time / MILLI, plain.time / ours.time);
+    println!(
+        "| {} | {days} days | {asked} | {:.1} | {:.1} | {:.0} |",
+        on.title,
+        plain_time / MILLI,
+        time / MILLI,
+        plain_time / time
+    );
+}
+
+/// The books that are asked about, of those that were chosen, each with each width.
+fn rows<'a>(books: &'a [&Book]) -> impl Iterator<Item = (&'a Book, i64)> {
+    let chosen = books.iter().filter(|on| TITLES.contains(&on.title));
+    chosen.flat_map(|&on| WIDTHS.map(|days| (on, days)))
 }
 
 /// Times both forms on the books, with each width.
 pub fn show(books: &[&Book]) {
     let runs = log();
-    println!("| Book | Width | `between`, plain form | `between`, `hardest` | Plain form, ms | `hardest`, ms | Plain form / `hardest` |");
-    println!("|{}", "---|".repeat(7));
-    let chosen = books.iter().filter(|on| TITLES.contains(&on.title));
-    for (on, days) in chosen.flat_map(|on| WIDTHS.map(|days| (on, days))) {
+    println!("| Book | Width | `between`, plain form | Plain form, ms | `hardest`, ms | Plain form / `hardest` |");
+    println!("|{}", "---|".repeat(6));
+    for (on, days) in rows(books) {
         show_row(on, &runs, days);
+    }
+}
+
+/// One call of ours with windows of so many days, for a debugger that counts what it does.
+pub fn call_once(books: &[&Book], days: &str) {
+    let runs = log();
+    for (on, wide) in rows(books).filter(|(_, wide)| wide.to_string() == days) {
+        println!("{:?}", hardest(on, &runs, wide * DAY).1);
     }
 }

@@ -3,7 +3,7 @@
 //! jiff itself too.
 //!
 //! Usage: clock MILLISECONDS [ZONEINFO [BOOK [CALL [WHO]]]]
-//!        clock hardest [ZONEINFO [BOOK]]
+//!        clock hardest [ZONEINFO [BOOK [DAYS]]]
 //!
 //! A batch asks one question again and again. The book is built once in a
 //! batch, by each, except where building is what is timed; a batch is so long
@@ -14,7 +14,8 @@
 //! in one batch. Ends with 1 where answers differ, but for jiff's on made-up
 //! zones with changes a few minutes apart, which it reads in a way of its own.
 //!
-//! The second form times the hardest stretch of a log (hardest.rs).
+//! The second form times the hardest stretch of a log (hardest.rs); with DAYS it
+//! makes one call of ours, with windows so wide, and times nothing.
 
 mod hardest;
 
@@ -367,7 +368,7 @@ fn main() -> std::io::Result<()> {
     let told: Vec<String> = std::env::args().skip(1).collect();
     let budget = told.first().and_then(|text| text.parse::<f64>().ok());
     if budget.is_none() && told.first().is_none_or(|word| word != "hardest") {
-        eprintln!("usage: clock MILLISECONDS [ZONEINFO [BOOK [CALL [WHO]]]]\n       clock hardest [ZONEINFO [BOOK]]");
+        eprintln!("usage: clock MILLISECONDS [ZONEINFO [BOOK [CALL [WHO]]]]\n       clock hardest [ZONEINFO [BOOK [DAYS]]]");
         std::process::exit(2);
     }
     let (real, close) = (zones(told.get(1).map_or("/usr/share/zoneinfo", String::as_str))?, close_zones());
@@ -378,9 +379,10 @@ fn main() -> std::io::Result<()> {
     };
     let books = all_books(&packed(&real), &packed(&close));
     let chosen: Vec<&Book> = books.iter().filter(|on| told.get(2).is_none_or(|word| word == on.title)).collect();
-    match budget {
-        Some(budget) => time_calls(&chosen, budget, told.get(3), told.get(4)),
-        None => hardest::show(&chosen),
+    match (budget, told.get(3)) {
+        (Some(budget), call) => time_calls(&chosen, budget, call, told.get(4)),
+        (None, Some(days)) => hardest::call_once(&chosen, days),
+        (None, None) => hardest::show(&chosen),
     }
     Ok(())
 }
