@@ -20,7 +20,7 @@ use Rattle.instant.specs.declared.Instant.{Instant}
 use Rattle.walk_hardest.specs.Held.{LogAsked, wholeAt, KnownTimes, CanHold, HoldsRuns, HoldsNoMore, PartAsked, partOf, FirstStart, stretchIs, harderOf, hardestIn}
 use Rattle.walk_hardest.specs.declared.Held.{Held}
 use Rattle.walk_hardest.specs.declared.Stretch.{Stretch}
-use Rattle.walk_hardest.proofs.Holding.{held-small}
+use Rattle.walk_hardest.proofs.Holding.{held-small, whole-short, whole-most}
 
 module _ (s : Schedule) (t : Instant) (log : List ℤ) (w : ℕ) (whole : List ℕ) where
   -- at the window that starts with run i
@@ -47,7 +47,7 @@ module _ (s : Schedule) (t : Instant) (log : List ℤ) (w : ℕ) (whole : List �
       fits = log-anywhere (nanos t) log (a .fits);
       width = a .width;
       room = known .room;
-      short = λ j h e. (let l = a .fits .each j h .lasts in let k = known .each j h e in let m = time-short s (nanos t) (runStart log j) (runEnd log j) (omega arith) in omega arith);
+      short = λ j h. (let l = a .fits .each j h .lasts in let k = known .each j h in let m = whole-most s (nanos t) log w j (omega arith) in omega arith);
     }
 
     module _ (i : ℕ) (inside : i < runCount log) (r : Held) (k : HoldsRuns log w whole i r) (no-more : HoldsNoMore log w i (r .next)) where
@@ -76,7 +76,7 @@ module _ (s : Schedule) (t : Instant) (log : List ℤ) (w : ℕ) (whole : List �
               let b = k .to in
               let e = k .whole j p q in
               let g = starts-rise (nanos t) log (a .fits) i j p (omega arith) in
-              known .each j (omega arith) (omega arith)
+              known .each j (omega arith) ∙ whole-short s (nanos t) log w j (omega arith)
 
       -- which fits
       pub value-small : {p : ℕ} → p ≡ partOf s (nanos t) log w i (r .next) → r .time + p < 2 ^ 64

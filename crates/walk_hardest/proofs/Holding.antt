@@ -4,16 +4,18 @@ use mathlib.Core.List.{List}
 use Prim.Native.Nat.{ℕ, suc, _+_, _*_, _-_, _≤_, _<_, _^_}
 use native.Mathlib.Omega.{arith}
 use native.Mathlib.Decide.{decLt}
+use lib.Dec.{ltb}
 use lib.IntN.{ℤ}
 use lib.ListN.{length, set}
 use lib.Seq.{getD-set-same, getD-set-other}
 use borrow.Author.Tests.{lt-ltb, le-ltb}
 use Rattle.model.specs.Instant.{second}
 use Rattle.model.specs.Working.{Schedule}
+use Rattle.laws_base.specs.Test.{by-test}
 use Rattle.laws_hardest.specs.Sums.{sumTo, sumTo-next, sumTo-grows}
 use Rattle.laws_hardest.specs.Logs.{runCount, runStart, runEnd}
-use Rattle.laws_hardest.specs.Windows.{starts-rise, held-short}
-use Rattle.walk_hardest.specs.Held.{wholeAt, IsWhole, KnownTo, KnownTimes, CanHold, HoldsRuns, harderOf}
+use Rattle.laws_hardest.specs.Windows.{logTime, time-short, starts-rise, held-short}
+use Rattle.walk_hardest.specs.Held.{wholeAt, wholeTime, KnownTo, KnownTimes, CanHold, HoldsRuns, harderOf}
 use Rattle.walk_hardest.specs.declared.Held.{Held}
 use Rattle.walk_hardest.specs.declared.Stretch.{Stretch}
 
@@ -31,10 +33,7 @@ module _ (log : List ℤ) (w : ℕ) (whole : List ℕ) (can : CanHold log w whol
       let b = k .to in
       let c = k .sum in
       let m = held-short 0 log (wholeAt whole) (can .fits) i (h .next) (runStart log i + w) a b inside (k .whole)
-      (λ j p q.
-      let r = starts-rise 0 log (can .fits) i j p (omega arith) in
-      let e = k .whole j p q in
-      can .short j (omega arith) (omega arith))
+      (λ j p q. can .short j (omega arith))
       (omega arith) in
       omega arith
 
@@ -81,9 +80,21 @@ module _ (log : List ℤ) (w : ℕ) (whole : List ℕ) (can : CanHold log w whol
 
 -- ---- the times of whole runs
 
+module _ (s : Schedule) (t : ℕ) (log : List ℤ) (w j : ℕ) where
+  pub whole-short : runEnd log j ≤ runStart log j + w → wholeTime s t log w j ≡ logTime s t (runStart log j) (runEnd log j)
+  whole-short h = rw (le-ltb (runStart log j + w) (runEnd log j) h)
+
+  pub whole-long : runStart log j + w < runEnd log j → wholeTime s t log w j ≡ 0
+  whole-long h = rw (lt-ltb (runStart log j + w) (runEnd log j) h)
+
+  -- no more than the run lasts
+  pub whole-most : runStart log j ≤ runEnd log j → wholeTime s t log w j + runStart log j * second ≤ runEnd log j * second
+  whole-most h =
+      by-test (ltb (runStart log j + w) (runEnd log j)) (λ q. rw q (omega arith)) (λ q. rw q (time-short s t (runStart log j) (runEnd log j) h))
+
 module _ (s : Schedule) (t : ℕ) (log : List ℤ) (w : ℕ) (whole : List ℕ) (n : ℕ) where
   -- one more
-  pub known-more : (x : ℕ) → KnownTo s t log w whole n → n < length whole → IsWhole s t log w n x → KnownTo s t log w (set whole n x) (n + 1)
+  pub known-more : (x : ℕ) → KnownTo s t log w whole n → n < length whole → x ≡ wholeTime s t log w n → KnownTo s t log w (set whole n x) (n + 1)
   known-more x k h e = λ j l. elim (decLt j n) [
     | yes p ↦ rw (getD-set-other whole n j x 0 (λ q. omega arith)) (k j p)
     | no p ↦ (let z : j ≡ n = omega arith in rw (z, getD-set-same whole n x 0 h) e)

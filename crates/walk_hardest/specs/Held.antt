@@ -44,13 +44,13 @@ CanWalkLog book pack s t log w on off out = ScheduleFits book pack s × LogAsked
 abbrev pub wholeAt : List ℕ → ℕ → ℕ
 wholeAt whole j = getD whole j 0
 
--- x is the working time of run j, if that is no longer than the width
-abbrev pub IsWhole : Schedule → ℕ → List ℤ → ℕ → ℕ → ℕ → Type 0
-IsWhole s t log w j x = runEnd log j ≤ runStart log j + w → x ≡ logTime s t (runStart log j) (runEnd log j)
+-- the working time of run j; none of a run that is longer than the width, which no window holds whole
+abbrev pub wholeTime : Schedule → ℕ → List ℤ → ℕ → ℕ → ℕ
+wholeTime s t log w j = if ltb (runStart log j + w) (runEnd log j) then 0 else logTime s t (runStart log j) (runEnd log j)
 
--- the first n of `whole` are
+-- the first n of `whole` are these
 abbrev pub KnownTo : Schedule → ℕ → List ℤ → ℕ → List ℕ → ℕ → Type 0
-KnownTo s t log w whole n = (j : ℕ) → j < n → IsWhole s t log w j (wholeAt whole j)
+KnownTo s t log w whole n = (j : ℕ) → j < n → wholeAt whole j ≡ wholeTime s t log w j
 
 pub record KnownTimes (s : Schedule) (t : ℕ) (log : List ℤ) (w : ℕ) (whole : List ℕ) : Type 0 where
   pub room : runCount log ≤ length whole
@@ -63,7 +63,7 @@ pub record CanHold (log : List ℤ) (w : ℕ) (whole : List ℕ) : Type 0 where
   pub fits : LogFits 0 log
   pub width : w ≤ mostWidth
   pub room : runCount log ≤ length whole
-  pub short : (j : ℕ) → j < runCount log → runEnd log j ≤ runStart log j + w → wholeAt whole j + runStart log j * second ≤ runEnd log j * second
+  pub short : (j : ℕ) → j < runCount log → wholeAt whole j + runStart log j * second ≤ runEnd log j * second
 
 -- the window that starts with run i holds the runs up to the next one whole, and this is the sum of their times
 pub record HoldsRuns (log : List ℤ) (w : ℕ) (times : List ℕ) (i : ℕ) (h : Held) : Type 0 where

@@ -10,7 +10,7 @@ ghost use Rattle.model.specs.Hardest.{mostWidth};
 ghost use Rattle.laws_hardest.specs.Logs.{runCount, runStart, LogFits};
 ghost use Rattle.laws_hardest.specs.Windows.{logTime};
 ghost use Rattle.window_week.specs.Room.{HasRoom};
-ghost use Rattle.walk_hardest.specs.Held.{LogPart, LogAsked, CanWalkLog, IsWhole, KnownTimes, CanGoOn, HoldsRuns, HoldsNoMore, PartAsked, partOf};
+ghost use Rattle.walk_hardest.specs.Held.{LogPart, LogAsked, CanWalkLog, wholeTime, KnownTimes, CanGoOn, HoldsRuns, HoldsNoMore, PartAsked, partOf};
 ghost use Rattle.walk_hardest.specs.Held.{FirstStart, harderOf, FindsHardest};
 use instant::Instant;
 use instant::Length;
@@ -51,7 +51,7 @@ fn time_of(
     instant::nanoseconds(r.time)
 }
 
-// The working time of run j, if it is no longer than the width.
+// The working time of run j; 0 of a run that is longer than the width.
 fn whole_time(
     book: &[u8],
     pack: &[u8],
@@ -66,8 +66,8 @@ fn whole_time(
 ) -> u64
     requires { ⌜ CanWalkLog (now book) (now pack) s t (now log) width (now on) (now off) (now out)
         × (j < runCount (now log)) ⌝ }
-    ensures { λ r. ⌜ IsWhole (scheduleIs (now (book .entry)) (now (pack .entry)) s)
-        (nanos t) (now (log .entry)) width j r ⌝ }
+    ensures { λ r. ⌜ r ≡ wholeTime (scheduleIs (now (book .entry)) (now (pack .entry)) s)
+        (nanos t) (now (log .entry)) width j ⌝ }
 {
     let run = run_log::run_at(log, j);
     if width < run.end - run.start {
@@ -76,7 +76,7 @@ fn whole_time(
     time_of(book, pack, s, t, run.start, run.end, on, off, out)
 }
 
-// The working times of all runs that are no longer than the width.
+// The working times of all runs, without those that are longer than the width.
 fn whole_times(
     book: &[u8],
     pack: &[u8],
