@@ -20,7 +20,7 @@ WINGS = [
 ]  # fmt: skip
 WING = {
     "model": "meaning", "number": "base", "refusal": "base", "big_endian": "base", "instant": "base", "instant_signed": "base", "civil": "base",
-    "directory": "base", "rule": "book", "answer_line": "query",
+    "directory": "base", "run_log": "base", "rule": "book", "answer_line": "query",
 }  # fmt: skip
 COLOURS = ["#4e79a7", "#b07aa1", "#59a14f", "#d37222", "#9c755f", "#2f8f8b", "#c23b52", "#6b6ecf", "#8c8c1a"]
 
@@ -120,7 +120,7 @@ def lay_lines(needs, rows):
 def neighbours(nodes, joints):
     """The nodes that each node is joined to, with a weight: what pulls most is the line itself, so that long lines are straight."""
     near = {node: [] for row in nodes for node in row}
-    for one, other in joints:
+    for one, other in sorted(joints, key=str):
         weight = 1 if one[1] is None and other[1] is None else 8 if one[1] is not None and other[1] is not None else 2
         near[one].append((other, weight))
         near[other].append((one, weight))

@@ -1,9 +1,10 @@
 // What the programs that ask stored questions share: the file of cases, the numbers of a question, and what was seen. A file has its cases one behind the
 // other; a case is the lengths of its parts, four bytes each, and then the parts.
+ghost use mathlib.Core.Path.{_≡_};
 ghost use Prim.Native.Nat.{_+_, _*_, _≤_, _<_};
 ghost use lib.ListN.{length};
 ghost use Rattle.big_endian.specs.Be.{fourBytes};
-ghost use Rattle.test_cases.specs.Cases.{longestFile, mostParts};
+ghost use Rattle.test_cases.specs.Cases.{longestFile, mostParts, isNumberAt, isRefusalAt};
 use libc::STDOUT_FILENO;
 
 // The most bytes that a file of cases has.
@@ -62,6 +63,26 @@ pub fn part_of(file: &[u8], parts: usize, at: usize, k: usize) -> &[u8]
 // The signed number at a place of a question, which is stored as the one that is 2^63 more.
 pub fn signed_at(q: &[u8], at: usize) -> i64 {
     instant_signed::lower(big_endian::be64_at(q, at))
+}
+
+// ---- one answer
+
+// Is x the number that question q has at a place?
+pub fn is_stored(q: &[u8], at: usize, x: i64) -> bool
+    ensures { λ r. ⌜ r ≡ isNumberAt (now (q .entry)) at «x» ⌝ }
+{
+    instant_signed::lift(x) == big_endian::be64_at(q, at)
+}
+
+// Is this the refusal that question q has at a place: its number, and behind it its own place?
+pub fn is_refusal(q: &[u8], at: usize, number: u32, place: usize) -> bool
+    requires { ⌜ at ≤ longestFile ⌝ }
+    ensures { λ r. ⌜ r ≡ isRefusalAt (now (q .entry)) at number place ⌝ }
+{
+    if number as usize != big_endian::size_at(q, at) {
+        return false;
+    }
+    place == big_endian::size_at(q, at + 4)
 }
 
 // ---- what was seen

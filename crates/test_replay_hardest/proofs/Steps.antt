@@ -1,5 +1,5 @@
 -- An answer compared with the stored one, number by number, from what the code reads. Assumes nothing.
-use mathlib.Core.Path.{_≡_, sym, ap, ap₂, _∙_}
+use mathlib.Core.Path.{_≡_, sym, ap, _∙_}
 use mathlib.Core.Bool.{Bool, true, false}
 use mathlib.Core.List.{List}
 use Prim.Native.Nat.{ℕ, _<_}
@@ -10,16 +10,12 @@ use lib.ListN.{length, take, length-take}
 use mir.Syntax.{w64}
 use mir.Val.{SFits, toZ, ofZ}
 use mir.Facts.{toZ-ofZ}
-use Rattle.big_endian.specs.Be.{be32, be64}
-use Rattle.instant_signed.specs.Signed.{biased, by-bits}
+use Rattle.big_endian.specs.Be.{be32}
+use Rattle.instant_signed.specs.Signed.{by-bits}
+use Rattle.test_cases.specs.Cases.{isNumberAt, isRefusalAt}
 use Rattle.schedule_hardest.specs.declared.HardestAnswer.{HardestAnswer}
 use Rattle.schedule_hardest.specs.declared.HardestAnswer.the-variants as H
-use Rattle.test_replay_hardest.specs.Compared.{refusalAt, placeAt, durationSec, durationNs, startSec, startNs, isNumberAt, isStretch, isRefusal, isExpected}
-
--- one number
-pub stored-is : (q : List ℕ) (at : ℕ) {z : ℤ} {x y : ℕ} → SFits w64 z → x ≡ biased (toZ w64 (ofZ w64 z)) → y ≡ be64 q at → eqb x y ≡ isNumberAt q at z
-unfolding isNumberAt
-stored-is q at f p h = ap₂ eqb (by-bits biased f p) h
+use Rattle.test_replay_hardest.specs.Compared.{refusalAt, durationSec, durationNs, startSec, startNs, isStretch, isExpected}
 
 -- what was found of a number
 pub found : (q : List ℕ) (at : ℕ) {z : ℤ} {r b : Bool} → SFits w64 z → r ≡ isNumberAt q at (toZ w64 (ofZ w64 z)) → r ≡ b → isNumberAt q at z ≡ b
@@ -55,17 +51,6 @@ module _ (q : List ℕ) (d n s m : ℤ) where
         unfolding isStretch
         last-number e = rw (a, b, g, e)
 
--- ---- a refusal
-
-module _ (q : List ℕ) (n p : ℕ) {r : ℕ} (e : r ≡ be32 q refusalAt) where
-  pub other-number : eqb n r ≡ false → false ≡ isRefusal q n p
-  unfolding isRefusal
-  other-number h = let g : eqb n (be32 q refusalAt) ≡ false = ap (eqb n) (sym e) ∙ h in rw g
-
-  pub same-number : eqb n r ≡ true → {x : ℕ} → x ≡ be32 q placeAt → eqb p x ≡ isRefusal q n p
-  unfolding isRefusal
-  same-number h {x} y = let g : eqb n (be32 q refusalAt) ≡ true = ap (eqb n) (sym e) ∙ h in rw (g, y)
-
 -- ---- an answer
 
 pub as-stretch : (q : List ℕ) (a : HardestAnswer) (d n s m : ℤ) {r : Bool} → a ≡ H.Is d n s m → SFits w64 d → SFits w64 n → SFits w64 s → SFits w64 m →
@@ -73,7 +58,7 @@ pub as-stretch : (q : List ℕ) (a : HardestAnswer) (d n s m : ℤ) {r : Bool} �
 unfolding isExpected
 as-stretch q a d n s m e f g h k p = rw (e, ← toZ-ofZ f, ← toZ-ofZ g, ← toZ-ofZ h, ← toZ-ofZ k) p
 
-pub as-refusal : (q : List ℕ) (a : HardestAnswer) (n p : ℕ) {r : Bool} → a ≡ H.Refused n p → r ≡ isRefusal q n p → r ≡ isExpected q a
+pub as-refusal : (q : List ℕ) (a : HardestAnswer) (n p : ℕ) {r : Bool} → a ≡ H.Refused n p → r ≡ isRefusalAt q refusalAt n p → r ≡ isExpected q a
 unfolding isExpected
 as-refusal q a n p e h = rw e h
 

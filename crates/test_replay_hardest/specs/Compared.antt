@@ -4,18 +4,15 @@ use mathlib.Core.List.{List}
 use Prim.Native.Nat.{ℕ}
 use lib.Dec.{eqb}
 use lib.IntN.{ℤ}
-use Rattle.big_endian.specs.Be.{be32, be64}
+use Rattle.big_endian.specs.Be.{be32}
 use Rattle.big_endian.specs.Walk.{both}
-use Rattle.instant_signed.specs.Signed.{biased}
+use Rattle.test_cases.specs.Cases.{isNumberAt, isRefusalAt}
 use Rattle.schedule_hardest.specs.declared.HardestAnswer.{HardestAnswer}
 use Rattle.schedule_hardest.specs.declared.HardestAnswer.the-variants as H
 
 -- where the answer's numbers stand in a question
 abbrev pub refusalAt : ℕ
 refusalAt = 24
-
-abbrev pub placeAt : ℕ
-placeAt = 28
 
 abbrev pub durationSec : ℕ
 durationSec = 32
@@ -29,21 +26,13 @@ startSec = 48
 abbrev pub startNs : ℕ
 startNs = 56
 
--- the number is the one that the question has in eight bytes at a place
-unfoldable pub isNumberAt : List ℕ → ℕ → ℤ → Bool
-isNumberAt q at x = eqb (biased x) (be64 q at)
-
 -- no refusal is expected, and the duration and the start are those that the question has
 unfoldable pub isStretch : List ℕ → ℤ → ℤ → ℤ → ℤ → Bool
 isStretch q d n s m =
     both (eqb (be32 q refusalAt) 0)
     (both (isNumberAt q durationSec d) (both (isNumberAt q durationNs n) (both (isNumberAt q startSec s) (isNumberAt q startNs m))))
 
--- the refusal's number and place are those that the question has
-unfoldable pub isRefusal : List ℕ → ℕ → ℕ → Bool
-isRefusal q number place = both (eqb number (be32 q refusalAt)) (eqb place (be32 q placeAt))
-
 -- the answer is the one that the question has
 unfoldable pub isExpected : List ℕ → HardestAnswer → Bool
 isExpected q (H.Is d n s m) = isStretch q d n s m
-isExpected q (H.Refused number place) = isRefusal q number place
+isExpected q (H.Refused number place) = isRefusalAt q refusalAt number place

@@ -6,7 +6,7 @@ ghost use Prim.Native.Nat.{_≤_, _<_};
 ghost use lib.ListN.{length};
 ghost use Rattle.big_endian.specs.Be.{be32, fourBytes};
 ghost use Rattle.test_cases.specs.Cases.{longestFile};
-ghost use Rattle.test_replay_hardest.specs.Compared.{refusalAt, isNumberAt, isStretch, isRefusal, isExpected};
+ghost use Rattle.test_replay_hardest.specs.Compared.{refusalAt, isStretch, isExpected};
 use schedule_hardest::HardestAnswer;
 use test_cases::LONGEST;
 use test_cases::Seen;
@@ -17,7 +17,7 @@ const PARTS: usize = 3;
 // The most numbers that a log of the file has.
 const MOST_NUMBERS: usize = 8194;
 
-// Where the numbers of a question stand: the instant, the width, the refusal, the duration, the window's start, how many numbers the log has, and these.
+// Where the numbers of a question stand: the instant, the width, the refusal and its place, the duration, the window's start, how many numbers the log has, and these.
 const INSTANT_SEC: usize = 0;
 
 const INSTANT_NS: usize = 8;
@@ -25,8 +25,6 @@ const INSTANT_NS: usize = 8;
 const WIDTH: usize = 16;
 
 const REFUSAL: usize = 24;
-
-const PLACE: usize = 28;
 
 const DURATION_SEC: usize = 32;
 
@@ -49,13 +47,6 @@ fn refusal_of(q: &[u8]) -> usize
     big_endian::size_at(q, REFUSAL)
 }
 
-// Is x the number that question q has at a place?
-fn is_stored(q: &[u8], at: usize, x: i64) -> bool
-    ensures { λ r. ⌜ r ≡ isNumberAt (now (q .entry)) at «x» ⌝ }
-{
-    instant_signed::lift(x) == big_endian::be64_at(q, at)
-}
-
 // Is a stretch expected, with this duration and this start?
 fn is_stretch(q: &[u8], d_sec: i64, d_ns: i64, start_sec: i64, start_ns: i64) -> bool
     ensures { λ r. ⌜ r ≡ isStretch (now (q .entry)) «d_sec» «d_ns» «start_sec» «start_ns» ⌝ }
@@ -63,26 +54,16 @@ fn is_stretch(q: &[u8], d_sec: i64, d_ns: i64, start_sec: i64, start_ns: i64) ->
     if refusal_of(q) != 0 {
         return false;
     }
-    if !is_stored(q, DURATION_SEC, d_sec) {
+    if !test_cases::is_stored(q, DURATION_SEC, d_sec) {
         return false;
     }
-    if !is_stored(q, DURATION_NS, d_ns) {
+    if !test_cases::is_stored(q, DURATION_NS, d_ns) {
         return false;
     }
-    if !is_stored(q, START_SEC, start_sec) {
+    if !test_cases::is_stored(q, START_SEC, start_sec) {
         return false;
     }
-    is_stored(q, START_NS, start_ns)
-}
-
-// Is this refusal expected?
-fn is_refusal(q: &[u8], number: u32, place: usize) -> bool
-    ensures { λ r. ⌜ r ≡ isRefusal (now (q .entry)) number place ⌝ }
-{
-    if number as usize != refusal_of(q) {
-        return false;
-    }
-    place == big_endian::size_at(q, PLACE)
+    test_cases::is_stored(q, START_NS, start_ns)
 }
 
 // Is the answer the one that is expected?
@@ -93,7 +74,9 @@ fn is_expected(q: &[u8], answer: HardestAnswer) -> bool
         HardestAnswer::Is(d_sec, d_ns, start_sec, start_ns) => {
             is_stretch(q, d_sec, d_ns, start_sec, start_ns)
         }
-        HardestAnswer::Refused(number, place) => is_refusal(q, number, place),
+        HardestAnswer::Refused(number, place) => {
+            test_cases::is_refusal(q, REFUSAL, number, place)
+        },
     }
 }
 

@@ -1,5 +1,6 @@
 -- One lent number tested, from what the code reads of it. Assumes nothing.
-use mathlib.Core.Path.{_≡_, ap, ap₂, _∙_}
+use mathlib.Core.Path.{_≡_, ap}
+use mathlib.Core.Bool.{Bool}
 use mathlib.Core.List.{List}
 use Prim.Native.Nat.{ℕ, _+_, _*_}
 use lib.Dec.{eqb}
@@ -7,16 +8,14 @@ use lib.IntN.{ℤ, pos}
 use lib.ListN.{getD}
 use mir.Syntax.{w64}
 use mir.Val.{SFits, toZ, ofZ}
-use mir.Facts.{toZ-ofZ}
-use Rattle.big_endian.specs.Be.{be64}
-use Rattle.instant_signed.specs.Signed.{biased}
+use Rattle.instant_signed.specs.Signed.{biased, by-bits}
+use Rattle.test_cases.specs.Cases.{isNumberAt}
 use Rattle.test_replay_lists.specs.Compared.{isMark, isStored}
 
-module _ (e : List ℤ) (i : ℕ) {x : ℕ} (f : SFits w64 (getD e i (pos 0))) (p : x ≡ biased (toZ w64 (ofZ w64 (getD e i (pos 0))))) where
-  pub mark-is : eqb x i ≡ isMark e i
-  unfolding isMark
-  mark-is = ap (λ (y : ℕ). eqb y i) (p ∙ ap biased (toZ-ofZ f))
+pub mark-is : (e : List ℤ) (i : ℕ) {x : ℕ} → SFits w64 (getD e i (pos 0)) → x ≡ biased (toZ w64 (ofZ w64 (getD e i (pos 0)))) → eqb x i ≡ isMark e i
+unfolding isMark
+mark-is e i f p = ap (λ (y : ℕ). eqb y i) (by-bits biased f p)
 
-  pub stored-is : (q : List ℕ) {y : ℕ} → y ≡ be64 q (44 + 8 * i) → eqb x y ≡ isStored e q i
-  unfolding isStored
-  stored-is q h = ap₂ eqb (p ∙ ap biased (toZ-ofZ f)) h
+pub stored-is : (e : List ℤ) (i : ℕ) (q : List ℕ) {r : Bool} → SFits w64 (getD e i (pos 0)) → r ≡ isNumberAt q (44 + 8 * i) (toZ w64 (ofZ w64 (getD e i (pos 0)))) → r ≡ isStored e q i
+unfolding isStored
+stored-is e i q f p = by-bits (isNumberAt q (44 + 8 * i)) f p

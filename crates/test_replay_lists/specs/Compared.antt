@@ -5,8 +5,8 @@ use Prim.Native.Nat.{ℕ, _+_, _*_}
 use lib.Dec.{eqb}
 use lib.IntN.{ℤ, pos}
 use lib.ListN.{getD}
-use Rattle.big_endian.specs.Be.{be64}
 use Rattle.instant_signed.specs.Signed.{biased}
+use Rattle.test_cases.specs.Cases.{isNumberAt}
 
 -- number i is i less 2^63
 unfoldable pub isMark : List ℤ → ℕ → Bool
@@ -14,4 +14,4 @@ isMark e i = eqb (biased (getD e i (pos 0))) i
 
 -- number i is the one that the question has in eight bytes, from place 44 on
 unfoldable pub isStored : List ℤ → List ℕ → ℕ → Bool
-isStored e q i = eqb (biased (getD e i (pos 0))) (be64 q (44 + 8 * i))
+isStored e q i = isNumberAt q (44 + 8 * i) (getD e i (pos 0))

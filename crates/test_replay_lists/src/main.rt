@@ -53,7 +53,7 @@ fn stored_at(out: &[i64], q: &[u8], i: usize) -> bool
     requires { ⌜ (i < length (now out)) × (i < 4294967296) ⌝ }
     ensures { λ r. ⌜ r ≡ isStored (now (out .entry)) (now (q .entry)) i ⌝ }
 {
-    instant_signed::lift(out[i]) == big_endian::be64_at(q, 44 + 8 * i)
+    test_cases::is_stored(q, 44 + 8 * i, out[i])
 }
 
 // Are the first n numbers those that question q has?
@@ -92,10 +92,7 @@ fn count_of(q: &[u8]) -> usize
 
 // Is the refusal the one that is expected, and has no number changed?
 fn is_refused(out: &[i64], q: &[u8], number: u32, place: usize) -> bool {
-    if number as usize != refusal_of(q) {
-        return false;
-    }
-    if place != count_of(q) {
+    if !test_cases::is_refusal(q, 36, number, place) {
         return false;
     }
     marked_from(out, 0)

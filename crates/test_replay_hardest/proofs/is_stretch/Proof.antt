@@ -1,7 +1,8 @@
 -- `test_replay_hardest::is_stretch` meets its contract.
 use Rattle.test_replay_hardest.proofs.Steps.{told, found, none-expected, other-sec, other-ns, other-start, last-number}
 use Rattle.instant_signed.specs.Signed.{by-bits}
-use Rattle.test_replay_hardest.specs.Compared.{isNumberAt, startNs}
+use Rattle.test_cases.specs.Cases.{isNumberAt}
+use Rattle.test_replay_hardest.specs.Compared.{startNs}
 use mathlib.Core.Path.{_∙_}
 use borrow.Author.Tests.{eq-eqb, ne-eqb, not-true, not-false}
 use borrow.Author.Needs.{needs}

@@ -1,8 +1,8 @@
--- `test_replay_hardest::is_stored` meets its contract.
-use Rattle.test_replay_hardest.proofs.Steps.{stored-is}
+-- `test_cases::is_stored` meets its contract.
+use Rattle.test_cases.proofs.Answers.{stored-is}
 use borrow.Author.Needs.{needs}
-use Rattle.test_replay_hardest.proofs.is_stored.Statement.{statement}
-use Rattle.test_replay_hardest.proofs.is_stored.Tie as tie
+use Rattle.test_cases.proofs.is_stored.Statement.{statement}
+use Rattle.test_cases.proofs.is_stored.Tie as tie
 
 lift-requires : tie.Need-lift-requires
 lift-requires c κs = search needs
