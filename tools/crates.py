@@ -120,7 +120,7 @@ def lay_lines(needs, rows):
 def neighbours(nodes, joints):
     """The nodes that each node is joined to, with a weight: what pulls most is the line itself, so that long lines are straight."""
     near = {node: [] for row in nodes for node in row}
-    for one, other in sorted(joints, key=str):
+    for one, other in joints:
         weight = 1 if one[1] is None and other[1] is None else 8 if one[1] is not None and other[1] is not None else 2
         near[one].append((other, weight))
         near[other].append((one, weight))

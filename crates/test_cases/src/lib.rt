@@ -1,5 +1,5 @@
-// What the programs that ask stored questions share: the file of cases, the numbers of a question, and what was seen. A file has its cases one behind the
-// other; a case is the lengths of its parts, four bytes each, and then the parts.
+// What the programs that ask stored questions share: the file of cases, the numbers of a question, the comparison with its answer, and what was seen. A file
+// has its cases one behind the other; a case is the lengths of its parts, four bytes each, and then the parts.
 ghost use mathlib.Core.Path.{_≡_};
 ghost use Prim.Native.Nat.{_+_, _*_, _≤_, _<_};
 ghost use lib.ListN.{length};
