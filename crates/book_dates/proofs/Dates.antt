@@ -6,9 +6,16 @@ use Prim.Native.Nat.{ℕ, zero, suc, _+_, _*_, _-_, _≤_, _<_}
 use native.Mathlib.Omega.{arith}
 use lib.ListN.{length, getD}
 use Rattle.big_endian.specs.Be.{be16}
+use lib.IntN.{ℤ}
 use Rattle.civil.specs.declared.Date.{Date}
-use Rattle.model.specs.Calendar.{isDate, dayNumber}
-use Rattle.book_dates.specs.Days.{yearInBytes, writtenYear, IsWritten, dayAt, datesAt, isDay}
+use Rattle.civil.specs.declared.DayRead.{DayRead}
+use Rattle.civil.specs.declared.DayRead.the-variants.{Day, NoDate}
+use Rattle.civil.specs.Dates.{dayRead}
+use Rattle.civil.specs.DateLaws.{read-day, read-none, read-day-in, read-number}
+use Rattle.laws_calendar.specs.Numbers.{IsDayNumber, day-given}
+use Rattle.model.specs.Calendar.{isDate, firstDay, lastDay}
+use Rattle.model.specs.DayNumber.{dayOf}
+use Rattle.book_dates.specs.Days.{yearInBytes, writtenYear, IsWritten, dateAt, dayAt, datesAt, isDay}
 use Rattle.book_dates.proofs.Reading.{dateTest, datesTest}
 
 -- ---- a date
@@ -23,13 +30,27 @@ module _ (b : List ℕ) (p : ℕ) {d : Date} {r : Bool} (w : IsWritten b p d) (e
   unfolding dateTest
   date-told = er ∙ rw (w .year, w .month, w .day)
 
-  pub no-day : r ≡ false → 0 ≡ dayAt b p
-  unfolding dayAt dateTest
-  no-day q = let e : isDate (writtenYear b p) (getD b (p + 2) 0) (getD b (p + 3) 0) ≡ false = sym date-told ∙ q in rw e
+-- its day
+pub day-told : (b : List ℕ) (p : ℕ) {d : Date} {r : DayRead} → IsWritten b p d → r ≡ dayRead d → r ≡ dateAt b p
+unfolding dateAt
+day-told b p w er = er ∙ (λ i. dayRead (record { year = w .year i; month = w .month i; day = w .day i }))
 
-  pub day-number : {n : ℕ} → r ≡ true → n ≡ dayNumber (d .year) (d .month) (d .day) → n ≡ dayAt b p
-  unfolding dayAt dateTest
-  day-number q h = let e : isDate (writtenYear b p) (getD b (p + 2) 0) (getD b (p + 3) 0) ≡ true = sym date-told ∙ q in rw e (h ∙ rw (w .year, w .month, w .day))
+-- z is the number of the day written at p
+pub record IsDayAt (b : List ℕ) (p : ℕ) (z : ℤ) : Type 0 where
+  pub day : dayAt b p ≡ dayOf z
+  pub number : IsDayNumber z
+  pub low : firstDay ≤ dayOf z
+  pub high : dayOf z ≤ lastDay
+
+pub day-there : (b : List ℕ) (p : ℕ) (z : ℤ) → dateAt b p ≡ Day z → IsDayAt b p z
+unfolding dateAt dayAt
+day-there b p z e =
+    let q = read-day _ z e in let i = read-day-in _ z e in
+    record { day = rw (q .0) (sym (day-given (q .1))); number = read-number _ z e; low = i .0; high = i .1 }
+
+pub no-day-there : (b : List ℕ) (p : ℕ) → dateAt b p ≡ NoDate → dayAt b p ≡ 0
+unfolding dateAt dayAt
+no-day-there b p e = rw (read-none _ e)
 
 -- ---- the dates of a record, each a date
 

@@ -34,21 +34,21 @@ module _ (b : List ℕ) (bytes : (k : ℕ) → getD b k 0 < 256) where
       rw (w .0, w .1, w .2, w .3)
 
   -- the date written at p
-  abbrev dateAt : ℕ → Date
-  dateAt p = date (writtenYear b p) (getD b (p + 2) 0) (getD b (p + 3) 0)
+  abbrev written : ℕ → Date
+  written p = date (writtenYear b p) (getD b (p + 2) 0) (getD b (p + 3) 0)
 
   is-date : (p : ℕ) → p + 4 ≤ length b → isDay b p ≡ true → isDate (writtenYear b p) (getD b (p + 2) 0) (getD b (p + 3) 0) ≡ true
   unfolding dateTest
   is-date p h t = day-says b p h refl ∙ t
 
-  date-back : (p : ℕ) → p + 4 ≤ length b → isDay b p ≡ true → dateOf (dayAt b p) ≡ dateAt p
+  date-back : (p : ℕ) → p + 4 ≤ length b → isDay b p ≡ true → dateOf (dayAt b p) ≡ written p
   unfolding dayAt
   date-back p h t = let e = is-date p h t in rw e (date-of-day (is-had (date-facts e)))
 
   same-word : (p q : ℕ) → p + 4 ≤ length b → q + 4 ≤ length b → isDay b p ≡ true → isDay b q ≡ true → dayAt b p ≡ dayAt b q → be32 b p ≡ be32 b q
   unfolding be32 writtenYear be16
   same-word p q h k t u e =
-      let d : dateAt p ≡ dateAt q = sym (date-back p h t) ∙ ap dateOf e ∙ date-back q k u in
+      let d : written p ≡ written q = sym (date-back p h t) ∙ ap dateOf e ∙ date-back q k u in
       let v : IsDate (writtenYear b p) (getD b (p + 2) 0) (getD b (p + 3) 0) = date-facts (is-date p h t) in
       let x : ℕ = getD b p 0 * 256 + getD b (p + 1) 0 in
       let y : ℕ = getD b q 0 * 256 + getD b (q + 1) 0 in

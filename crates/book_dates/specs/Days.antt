@@ -11,7 +11,8 @@ use Rattle.model.specs.Basic.{if_then_else_, each}
 use Rattle.model.specs.Book.{dateIn}
 use Rattle.model.specs.Bytes.{pieces}
 use Rattle.model.specs.Calendar.{isDate, dayNumber}
-use Rattle.civil.specs.Dates.{yearBias}
+use Rattle.civil.specs.Dates.{yearBias, dayRead}
+use Rattle.civil.specs.declared.DayRead.{DayRead}
 
 -- of the numbers that two bytes can hold, how many are negative where they have a sign
 abbrev pub negatives : ℕ
@@ -31,7 +32,11 @@ pub record IsWritten (b : List ℕ) (p : ℕ) (d : Date) : Type 0 where
   pub month : d .month ≡ getD b (p + 2) 0
   pub day : d .day ≡ getD b (p + 3) 0
 
--- the day number of the date written at p, 0 where it is no date
+-- the number of the day of the date written at p
+unfoldable pub dateAt : List ℕ → ℕ → DayRead
+dateAt b p = dayRead (record { year = writtenYear b p; month = getD b (p + 2) 0; day = getD b (p + 3) 0 })
+
+-- that day as the definitions count it, 0 where it is no date
 unfoldable pub dayAt : List ℕ → ℕ → ℕ
 dayAt b p =
     if isDate (writtenYear b p) (getD b (p + 2) 0) (getD b (p + 3) 0) then dayNumber (writtenYear b p) (getD b (p + 2) 0) (getD b (p + 3) 0) else 0

@@ -6,9 +6,10 @@ ghost use Prim.Native.Nat.{_+_, _*_, _≤_, _<_};
 ghost use lib.ListN.{length};
 ghost use Rattle.model.specs.Basic.{among, distinct};
 ghost use Rattle.big_endian.specs.Be.{twoBytes};
-ghost use Rattle.book_dates.specs.Days.{yearInBytes, IsWritten, dayAt, datesAt, isDay, areDays, HasDates};
+ghost use Rattle.book_dates.specs.Days.{yearInBytes, IsWritten, dateAt, datesAt, isDay, areDays, HasDates};
 ghost use Rattle.book_dates.specs.Words.{wordsAt, rises, markCount, slotOf};
 use civil::Date;
+use civil::DayRead;
 
 // The bytes of a date.
 pub const DATE_SIZE: usize = 4;
@@ -55,16 +56,12 @@ fn date_ok(l: &[u8], p: usize) -> bool
     civil::is_date(d.year, d.month, d.day)
 }
 
-// The number of the day that is written at p, 0 where that is no date.
-pub fn date_at(b: &[u8], p: usize) -> u32
+// The day that is written at p.
+pub fn date_at(b: &[u8], p: usize) -> DayRead
     requires { ⌜ p + 4 ≤ length (now b) ⌝ }
-    ensures { λ r. ⌜ r ≡ dayAt (now (b .entry)) p ⌝ }
+    ensures { λ r. ⌜ r ≡ dateAt (now (b .entry)) p ⌝ }
 {
-    let d = written_at(b, p);
-    if !civil::is_date(d.year, d.month, d.day) {
-        return 0;
-    }
-    civil::day_number(d.year, d.month, d.day)
+    civil::day_of(written_at(b, p))
 }
 
 // ---- n dates from p on

@@ -15,9 +15,9 @@ use Rattle.instant.specs.Instant.{nanos}
 use Rattle.instant.specs.declared.Instant.{Instant}
 use Rattle.block_list.specs.declared.Block.{Block}
 use Rattle.zone_local.specs.Dates.{pieceOf}
-use Rattle.window_dates.specs.Windows.{IsLocalDates}
+use Rattle.window_dates.specs.Windows.{IsLocalDates, fromDay, uptoDay}
 use Rattle.window_dates.specs.declared.LocalDates.{LocalDates}
-use Rattle.window_dates.proofs.Fill.{shown, date-on, date-off, dates-done, restOf, rest-more, rest-end, rules-are}
+use Rattle.window_dates.proofs.Fill.{shown, datesFrom, dates-whole, date-on, date-off, dates-done, restOf, rest-more, rest-end, rules-are}
 use Rattle.window_piece.proofs.Frames.{rule-shows}
 use Rattle.build_blocks.specs.Shown.{heldBlock, anyBlock}
 
@@ -47,46 +47,44 @@ held-any x t l e =
 
 -- ---- the dates of a rule
 
--- what the dates from d to last show
-abbrev pub datesShow : Rule → ℕ → ℕ → ℕ → ℕ → List Block′
-datesShow r lo hi last d = shown (r .on) (pieceOf r lo hi) (run d (last + 1 - d))
+-- what the dates from the i-th on show
+abbrev pub datesShow : Rule → ℕ → ℕ → ℕ → ℕ → ℕ → List Block′
+datesShow r lo hi first k i = shown (r .on) (pieceOf r lo hi) (datesFrom first k i)
 
--- the dates in front of d show nothing
-pub record Passed (r : Rule) (lo hi first last d : ℕ) : Type 0 where
-  pub same : datesShow r lo hi last d ≡ datesShow r lo hi last first
-  pub upto : first ≤ d
+-- the dates in front of the i-th show nothing
+pub record Passed (r : Rule) (lo hi first k i : ℕ) : Type 0 where
+  pub same : datesShow r lo hi first k i ≡ shown (r .on) (pieceOf r lo hi) (run first k)
 
-pub passed-starts : (r : Rule) (lo hi first last : ℕ) → Passed r lo hi first last first
-passed-starts r lo hi first last = record { same = refl; upto = omega arith }
+pub passed-starts : (r : Rule) (lo hi first k : ℕ) → Passed r lo hi first k 0
+passed-starts r lo hi first k = record { same = ap (shown (r .on) (pieceOf r lo hi)) (dates-whole first k) }
 
-module _ (r : Rule) (lo hi first last d : ℕ) (m : Passed r lo hi first last d) where
-  -- what the dates from the first on show
+module _ (r : Rule) (lo hi first k i : ℕ) (m : Passed r lo hi first k i) where
+  -- what all of them show
   abbrev whole : List Block′
-  whole = datesShow r lo hi last first
+  whole = shown (r .on) (pieceOf r lo hi) (run first k)
 
-  pub date-shows : d ≤ last → (r .on d && anyBlock (pieceOf r lo hi d)) ≡ true → true ≡ anyBlock whole
+  pub date-shows : i < k → (r .on (first + i) && anyBlock (pieceOf r lo hi (first + i))) ≡ true → true ≡ anyBlock whole
   date-shows h t =
-      let p = and-both (r .on d) (anyBlock (pieceOf r lo hi d)) t in
-      let e = date-on (r .on) (pieceOf r lo hi) d last [] whole (m .same) h (p .0) (pieceOf r lo hi d) refl in
-      sym (sym (ap anyBlock e) ∙ any-append (pieceOf r lo hi d) (datesShow r lo hi last (d + 1)) ∙ rw (p .1))
+      let p = and-both (r .on (first + i)) (anyBlock (pieceOf r lo hi (first + i))) t in
+      let e = date-on (r .on) (pieceOf r lo hi) first k i [] whole (m .same) h (p .0) (pieceOf r lo hi (first + i)) refl in
+      sym (sym (ap anyBlock e) ∙ any-append (pieceOf r lo hi (first + i)) (datesShow r lo hi first k (i + 1)) ∙ rw (p .1))
 
-  pub date-passed : d ≤ last → (r .on d && anyBlock (pieceOf r lo hi d)) ≡ false → Passed r lo hi first last (d + 1)
+  pub date-passed : i < k → (r .on (first + i) && anyBlock (pieceOf r lo hi (first + i))) ≡ false → Passed r lo hi first k (i + 1)
   date-passed h t =
-      let u = m .upto in
-      by-test (r .on d)
+      by-test (r .on (first + i))
       (λ p.
-      let q : anyBlock (pieceOf r lo hi d) ≡ false = rw p at t in
-      record { same = date-on (r .on) (pieceOf r lo hi) d last [] whole (m .same) h p [] (sym (none (pieceOf r lo hi d) q)); upto = omega arith })
-      (λ p. record { same = date-off (r .on) (pieceOf r lo hi) d last [] whole (m .same) h p; upto = omega arith })
+      let q : anyBlock (pieceOf r lo hi (first + i)) ≡ false = rw p at t in
+      record { same = date-on (r .on) (pieceOf r lo hi) first k i [] whole (m .same) h p [] (sym (none (pieceOf r lo hi (first + i)) q)) })
+      (λ p. record { same = date-off (r .on) (pieceOf r lo hi) first k i [] whole (m .same) h p })
 
-  pub dates-passed : last < d → false ≡ anyBlock whole
+  pub dates-passed : k ≤ i → false ≡ anyBlock whole
   unfolding anyBlock
-  dates-passed h = ap anyBlock (dates-done (r .on) (pieceOf r lo hi) d last [] whole (m .same) h)
+  dates-passed h = ap anyBlock (dates-done (r .on) (pieceOf r lo hi) first k i [] whole (m .same) h)
 
 -- the dates of a window show what the rule has in it
 pub dates-all : (r : Rule) (lo hi : Instant) (days : LocalDates) → IsLocalDates (r .zone) lo hi days
-    → datesShow r (nanos lo) (nanos hi) (days .last) (days .first) ≡ blocksOf (nanos lo) (nanos hi) r
-dates-all r lo hi days q = rule-shows r (nanos lo) (nanos hi) (days .first) (days .last) (q .first-is) (q .last-is)
+    → shown (r .on) (pieceOf r (nanos lo) (nanos hi)) (run (fromDay days) (uptoDay days + 1 - fromDay days)) ≡ blocksOf (nanos lo) (nanos hi) r
+dates-all r lo hi days q = rule-shows r (nanos lo) (nanos hi) (fromDay days) (uptoDay days) (q .first-is) (q .last-is)
 
 -- ---- the rules of a counted array
 

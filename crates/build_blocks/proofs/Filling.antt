@@ -17,9 +17,9 @@ use Rattle.block_list.specs.declared.Block.{Block}
 use Rattle.block_list.specs.Listed.{capacity, blockIs, firstBlocks}
 use Rattle.laws_base.specs.Front.{front-push, front-set}
 use Rattle.zone_local.specs.Dates.{pieceOf}
-use Rattle.window_dates.specs.Windows.{IsLocalDates, mostWindowDates}
+use Rattle.window_dates.specs.Windows.{IsLocalDates, fromDay, uptoDay, mostWindowDates}
 use Rattle.window_dates.specs.declared.LocalDates.{LocalDates}
-use Rattle.window_dates.proofs.Fill.{shown, date-on, date-off, dates-done, restOf, rest-more, rest-end}
+use Rattle.window_dates.proofs.Fill.{shown, datesFrom, dates-whole, date-on, date-off, dates-done, restOf, rest-more, rest-end}
 use Rattle.window_piece.proofs.Frames.{rule-shows}
 use Rattle.window_piece.proofs.Laws.{onward-append}
 use Rattle.build_blocks.specs.Shown.{heldBlock, mostShown}
@@ -52,50 +52,50 @@ onward-shown t on f (d ∷ l) =
     (λ e. rw e (ap (λ (x : List Block′). onward t (f d) ++ x) (onward-shown t on f l) ∙ sym (onward-append t (f d) (shown on f l))))
     (λ e. rw e (onward-shown t on f l))
 
--- the blocks in front of w, and those that the dates from d to last show
-abbrev pub datesFrom : Rule → ℕ → ℕ → ℕ → List Block → ℕ → ℕ → List Block′
-datesFrom r lo hi last out w d = firstBlocks w out ++ shown (r .on) (showing r lo hi) (run d (last + 1 - d))
+-- the blocks in front of w, and those that the dates of a list show
+abbrev pub withDates : Rule → ℕ → ℕ → List Block → ℕ → List ℕ → List Block′
+withDates r lo hi out w dates = firstBlocks w out ++ shown (r .on) (showing r lo hi) dates
 
--- the dates from d on are to come: `whole` is what the list holds in the end, `top` how many it then has at most
-pub record Dating (r : Rule) (lo hi last : ℕ) (whole : List Block′) (top : ℕ) (out : List Block) (w d : ℕ) : Type 0 where
-  pub same : datesFrom r lo hi last out w d ≡ whole
-  pub count : w + (last + 1 - d) ≤ top
+-- of k dates in a row, those from the i-th on are to come: `whole` is what the list holds in the end, `top` how many it then has at most
+pub record Dating (r : Rule) (lo hi first k : ℕ) (whole : List Block′) (top : ℕ) (out : List Block) (w i : ℕ) : Type 0 where
+  pub same : withDates r lo hi out w (datesFrom first k i) ≡ whole
+  pub count : w + (k - i) ≤ top
   pub long : length out ≡ capacity
 
-pub dating-starts : (r : Rule) (lo hi last : ℕ) (out : List Block) (w d : ℕ) → length out ≡ capacity
-    → Dating r lo hi last (datesFrom r lo hi last out w d) (w + (last + 1 - d)) out w d × (d ≤ d)
-dating-starts r lo hi last out w d l = (record { same = refl; count = omega arith; long = l }, omega arith)
+pub dating-starts : (r : Rule) (lo hi first k : ℕ) (out : List Block) (w : ℕ) → length out ≡ capacity
+    → Dating r lo hi first k (withDates r lo hi out w (run first k)) (w + k) out w 0
+dating-starts r lo hi first k out w l = record { same = ap (withDates r lo hi out w) (dates-whole first k); count = omega arith; long = l }
 
-module _ (r : Rule) (lo hi last : ℕ) (whole : List Block′) (top : ℕ) (out : List Block) (w d : ℕ) (m : Dating r lo hi last whole top out w d) where
-  pub dating-room : d ≤ last → top ≤ capacity → w < capacity
-  dating-room h k = let a = m .count in omega arith
+module _ (r : Rule) (lo hi first k : ℕ) (whole : List Block′) (top : ℕ) (out : List Block) (w i : ℕ) (m : Dating r lo hi first k whole top out w i) where
+  pub dating-room : i < k → top ≤ capacity → w < capacity
+  dating-room h u = let a = m .count in omega arith
 
   -- a date that is on: what it shows is stored at w and counted by `past`
-  pub dating-on : top ≤ capacity → d ≤ last → r .on d ≡ true → (x : Block) → heldBlock x ≡ showing r lo hi d
-      → (k : ℕ) → k ≡ (if ltb (x .start) (x .end) then w + 1 else w) → Dating r lo hi last whole top (set out w x) k (d + 1)
-  dating-on u h t x e k c =
+  pub dating-on : top ≤ capacity → i < k → r .on (first + i) ≡ true → (x : Block) → heldBlock x ≡ showing r lo hi (first + i)
+      → (n : ℕ) → n ≡ (if ltb (x .start) (x .end) then w + 1 else w) → Dating r lo hi first k whole top (set out w x) n (i + 1)
+  dating-on u h t x e n c =
       let a = m .count in let b = m .long in
-      let p = past-count out w x k c in
+      let p = past-count out w x n c in
       let q : w < length out = omega arith in
       record {
-        same = date-on (r .on) (showing r lo hi) d last (firstBlocks w out) whole (m .same) h t (firstBlocks k (set out w x)) (stored out w x k c q ∙ ap (λ (l : List Block′). firstBlocks w out ++ l) e);
+        same = date-on (r .on) (showing r lo hi) first k i (firstBlocks w out) whole (m .same) h t (firstBlocks n (set out w x)) (stored out w x n c q ∙ ap (λ (l : List Block′). firstBlocks w out ++ l) e);
         count = omega arith;
         long = length-set out w x ∙ m .long;
       }
 
-  pub dating-off : d ≤ last → r .on d ≡ false → Dating r lo hi last whole top out w (d + 1)
-  dating-off h t = let a = m .count in record { same = date-off (r .on) (showing r lo hi) d last (firstBlocks w out) whole (m .same) h t; count = omega arith; long = m .long }
+  pub dating-off : i < k → r .on (first + i) ≡ false → Dating r lo hi first k whole top out w (i + 1)
+  dating-off h t = let a = m .count in record { same = date-off (r .on) (showing r lo hi) first k i (firstBlocks w out) whole (m .same) h t; count = omega arith; long = m .long }
 
 -- the dates of a window are done: what the rule has in it is behind the blocks that were there
-pub dating-done : (r : Rule) (lo hi : Instant) (days : LocalDates) → IsLocalDates (r .zone) lo hi days → (out₀ : List Block) (w₀ : ℕ) (out : List Block) (w d : ℕ)
-    → Dating r (nanos lo) (nanos hi) (days .last) (datesFrom r (nanos lo) (nanos hi) (days .last) out₀ w₀ (days .first)) (w₀ + (days .last + 1 - days .first)) out w d
-    → days .last < d → (firstBlocks w out ≡ firstBlocks w₀ out₀ ++ onward (nanos lo) (blocksOf (nanos lo) (nanos hi) r)) × (w ≤ w₀ + mostWindowDates)
-dating-done r lo hi days q out₀ w₀ out w d m h =
-    let a = m .count in let f = q .few in (
-      dates-done (r .on) (showing r (nanos lo) (nanos hi)) d (days .last) (firstBlocks w out) (datesFrom r (nanos lo) (nanos hi) (days .last) out₀ w₀ (days .first)) (m .same) h
+pub dating-done : (r : Rule) (lo hi : Instant) (days : LocalDates) → IsLocalDates (r .zone) lo hi days → (first k : ℕ) → first ≡ fromDay days → k ≡ uptoDay days + 1 - first
+    → (out₀ : List Block) (w₀ : ℕ) (out : List Block) (w i : ℕ) → Dating r (nanos lo) (nanos hi) first k (withDates r (nanos lo) (nanos hi) out₀ w₀ (run first k)) (w₀ + k) out w i
+    → k ≤ i → (firstBlocks w out ≡ firstBlocks w₀ out₀ ++ onward (nanos lo) (blocksOf (nanos lo) (nanos hi) r)) × (w ≤ w₀ + mostWindowDates)
+dating-done r lo hi days q first k e c out₀ w₀ out w i m h =
+    let a = m .count in let f = q .few in let l = q .last-is in (
+      dates-done (r .on) (showing r (nanos lo) (nanos hi)) first k i (firstBlocks w out) (withDates r (nanos lo) (nanos hi) out₀ w₀ (run first k)) (m .same) h
           ∙ ap (λ (l : List Block′). firstBlocks w₀ out₀ ++ l)
-          (onward-shown (nanos lo) (r .on) (pieceOf r (nanos lo) (nanos hi)) (run (days .first) (days .last + 1 - days .first))
-          ∙ ap (onward (nanos lo)) (rule-shows r (nanos lo) (nanos hi) (days .first) (days .last) (q .first-is) (q .last-is))),
+          (onward-shown (nanos lo) (r .on) (pieceOf r (nanos lo) (nanos hi)) (run first k)
+          ∙ ap (onward (nanos lo)) (ap (λ (n : ℕ). shown (r .on) (pieceOf r (nanos lo) (nanos hi)) (run first n)) c ∙ rule-shows r (nanos lo) (nanos hi) first (uptoDay days) (e ∙ q .first-is) l)),
       omega arith,
     )
 
@@ -125,8 +125,8 @@ module _ {A : Type 0} (lo hi : ℕ) (h : A → Rule) (n : ℕ) (rules : List A) 
 
   module _ (out : List Block) (w i : ℕ) (m : Ruling out w i) where
     -- there is room for the dates of one more rule
-    pub ruling-room : (first last : ℕ) → last + 1 ≤ first + mostWindowDates → n ≤ 16 → i < n → w + (last + 1 - first) ≤ capacity
-    ruling-room first last f r t = let c = m .count in omega arith
+    pub ruling-room : (k : ℕ) → k ≤ mostWindowDates → n ≤ 16 → i < n → w + k ≤ capacity
+    ruling-room k f r t = let c = m .count in omega arith
 
     pub ruling-turn : i < n → (x : A) (out′ : List Block) (w′ : ℕ) → length out′ ≡ capacity → firstBlocks w′ out′ ≡ firstBlocks w out ++ rule (getD rules i x) → w′ ≤ w + mostWindowDates → Ruling out′ w′ (i + 1)
     ruling-turn t x out′ w′ l e c =

@@ -13,7 +13,7 @@ use Rattle.block.specs.declared.Block.{Block as Item}
 use Rattle.rule.specs.Rules.{ruleIs, RuleFits}
 use Rattle.rule.specs.declared.Rule.{Rule}
 use Rattle.zone_local.specs.Dates as date
-use Rattle.window_dates.specs.Windows.{Window}
+use Rattle.window_dates.specs.Windows.{Window, fromDay, uptoDay}
 use Rattle.window_piece.specs.Filled.{midnight}
 use Rattle.window_piece.proofs.Fills.{put-onward}
 use Rattle.window_piece.proofs.Frames.{date-plain}
@@ -48,7 +48,7 @@ module _ (t : ℕ) (y : Item) (x : Block) where
 
 module _ (p : List ℕ) (r : Rule) (lo hi : Instant) (x : Shifts) (o : RuleFits p r) (w : Window 14 lo hi) (m : IsShifts p r lo hi x) (d k : ℕ) where
   -- by the frame
-  pub piece-plain : 0 < x .frame .first → x .days .first ≤ d → d ≤ x .days .last → k ≡ midnight (x .frame .first) (x .days .first) d → (b : Block)
+  pub piece-plain : 0 < x .frame .first → fromDay (x .days) ≤ d → d ≤ uptoDay (x .days) → k ≡ midnight (x .frame .first) (fromDay (x .days)) d → (b : Block)
       → heldBlock b ≡ onward (x .frame .lo) (clipped (x .frame .lo) (x .frame .hi) (k + x .from) (k + x .to))
       → heldBlock b ≡ onward (nanos lo) (date.pieceOf (ruleIs p r) (nanos lo) (nanos hi) d)
   piece-plain known f l z b e =

@@ -19,7 +19,7 @@ use Rattle.rule.specs.Rules.{ruleIs, RuleFits}
 use Rattle.laws_base.specs.Every.{Every}
 use Rattle.rule.specs.declared.Rule.{Rule}
 use Rattle.zone_local.specs.Dates.{tillTime}
-use Rattle.window_dates.specs.Windows.{Window, IsLocalDates, rulePiece}
+use Rattle.window_dates.specs.Windows.{Window, IsLocalDates, fromDay, uptoDay, rulePiece}
 use Rattle.window_piece.specs.Filled.{twoDays, IsFrame}
 use Rattle.build_blocks.specs.declared.Shifts.{Shifts}
 
@@ -50,7 +50,7 @@ pub record IsShifts (pack : List ℕ) (r : Rule) (lo hi : Instant) (x : Shifts) 
 
 -- a rule, and a date that a window of at most 14 days has in its zone
 abbrev pub ShiftsDate : List ℕ → Rule → Shifts → ℕ → Instant → Instant → Type 0
-ShiftsDate pack r x d lo hi = RuleFits pack r × Window 14 lo hi × IsShifts pack r lo hi x × (x .days .first ≤ d) × (d ≤ x .days .last)
+ShiftsDate pack r x d lo hi = RuleFits pack r × Window 14 lo hi × IsShifts pack r lo hi x × (fromDay (x .days) ≤ d) × (d ≤ uptoDay (x .days))
 
 -- the first n of at most 16 rules, and a window of at most 14 days
 abbrev pub RulesIn : List ℕ → List Rule → ℕ → Instant → Instant → Type 0

@@ -5,6 +5,7 @@ ghost use Prim.Native.Nat.{_+_, _<_};
 ghost use lib.Dec.{ltb};
 ghost use Rattle.model.specs.Basic.{if_then_else_};
 ghost use Rattle.model.specs.Blocks.{clipped};
+ghost use Rattle.model.specs.DayNumber.{dayOf};
 ghost use Rattle.model.specs.Walk.{onward};
 ghost use Rattle.instant.specs.Instant.{nanos};
 ghost use Rattle.block_list.specs.Listed.{capacity};
@@ -89,25 +90,25 @@ fn shifts_of(pack: &[u8], r: Rule, lo: Instant, hi: Instant) -> Shifts
 }
 
 // What the rule shows of a date in the window: by the frame, where one offset holds around the window; else each end is looked up.
-fn piece_at(pack: &[u8], r: Rule, x: Shifts, day: u32, lo: Instant, hi: Instant) -> Block
-    requires { ⌜ ShiftsDate (now pack) r x day lo hi ⌝ }
-    ensures { λ b. ⌜ heldBlock b ≡ onward (nanos lo) (rulePiece (now (pack .entry)) r lo hi day) ⌝ }
+fn piece_at(pack: &[u8], r: Rule, x: Shifts, day: i32, lo: Instant, hi: Instant) -> Block
+    requires { ⌜ ShiftsDate (now pack) r x (dayOf day) lo hi ⌝ }
+    ensures { λ b. ⌜ heldBlock b ≡ onward (nanos lo) (rulePiece (now (pack .entry)) r lo hi (dayOf day)) ⌝ }
 {
     let f = x.frame;
     let days = x.days;
     if f.first == 0 {
         return away(window_dates::piece_of(pack, r, days, day, lo, hi), lo);
     }
-    let k = f.first + (day - days.first) as u64 * window_piece::DAY_NANOS;
+    let k = f.first + civil::days_from(days.first, day) as u64 * window_piece::DAY_NANOS;
     clipped(k + x.from, k + x.to, f.lo, f.hi)
 }
 
 // ---- whether there is a block
 
 // Does the rule show anything of the date in the window?
-fn shows_at(pack: &[u8], r: Rule, x: Shifts, day: u32, lo: Instant, hi: Instant) -> bool
-    requires { ⌜ ShiftsDate (now pack) r x day lo hi ⌝ }
-    ensures { λ b. ⌜ b ≡ showsAt (now (pack .entry)) r lo hi day ⌝ }
+fn shows_at(pack: &[u8], r: Rule, x: Shifts, day: i32, lo: Instant, hi: Instant) -> bool
+    requires { ⌜ ShiftsDate (now pack) r x (dayOf day) lo hi ⌝ }
+    ensures { λ b. ⌜ b ≡ showsAt (now (pack .entry)) r lo hi (dayOf day) ⌝ }
 {
     if !rule::applies(r.days, day) {
         return false;
@@ -123,13 +124,14 @@ fn shows(pack: &[u8], r: Rule, lo: Instant, hi: Instant) -> bool
 {
     let x = shifts_of(pack, r, lo, hi);
     let days = x.days;
-    let last = days.last;
-    let mut day = days.first;
-    while day <= last {
-        if shows_at(pack, r, x, day, lo, hi) {
+    let first = days.first;
+    let count = civil::day_count(first, days.last);
+    let mut k: u32 = 0;
+    while k < count {
+        if shows_at(pack, r, x, civil::later(first, k), lo, hi) {
             return true;
         }
-        day += 1;
+        k += 1;
     }
     false
 }
@@ -187,16 +189,18 @@ pub fn shift_blocks(
         let r = rules[i];
         let x = shifts_of(pack, r, lo, hi);
         let days = x.days;
-        let last = days.last;
-        let mut d = days.first;
-        while d <= last {
+        let first = days.first;
+        let count = civil::day_count(first, days.last);
+        let mut k: u32 = 0;
+        while k < count {
+            let d = civil::later(first, k);
             if rule::applies(r.days, d) {
                 let y = piece_at(pack, r, x, d, lo, hi);
                 out.items[w] = y;
                 w = past(w, y);
-                d += 1;
+                k += 1;
             } else {
-                d += 1;
+                k += 1;
             }
         }
         i += 1;

@@ -6,13 +6,16 @@ use native.Mathlib.Omega.{arith}
 use native.Mathlib.Nat.{div-eq-of-lt, zero-mul, one-mul}
 use lib.Dec.{T, eqb}
 use lib.Bits.{bitAnd}
+use lib.IntN.{ℤ}
 use lib.Pow.{pow-pos, pow-mono}
 use borrow.Author.Tests.{lt-ltb, le-ltb, eq-eqb, ne-eqb}
 use Rattle.model.specs.Calendar.{isLeap, daysInMonth, isDate, dayNumber, firstDay, lastDay, contains}
+use Rattle.model.specs.DayNumber.{signedDay, dayOf}
 use Rattle.model.specs.Instant.{second, daySeconds}
 use Rattle.laws_base.specs.Test.{by-test, never}
 use Rattle.laws_base.specs.Claim.{Claim, le, eq, if, allBelow, at-each, all₂, at-each₂}
 use Rattle.laws_calendar.specs.Dates.{Has, is-had, date-facts, date-test, day-from, day-to}
+use Rattle.laws_calendar.specs.Numbers.{IsDayNumber, number-within, day-given}
 use Rattle.civil.specs.Dates.{calendarYears, dayRead, timeRead}
 use Rattle.civil.specs.declared.Date.{Date}
 use Rattle.civil.specs.declared.DayRead.the-variants.{Day, NoDate}
@@ -42,25 +45,39 @@ in-28 y m d a b c e f g =
 pub has-date : (y m d : ℕ) → isDate y m d ≡ true → (y < calendarYears) × Has y m d
 has-date y m d e = let v = date-facts {y = y} {m = m} {d = d} e in (omega arith, is-had v)
 
-pub day-yes : (d : Date) (n : ℕ) → isDate (d .year) (d .month) (d .day) ≡ true → n ≡ dayNumber (d .year) (d .month) (d .day) → Day n ≡ dayRead d
+pub day-yes : (d : Date) (z : ℤ) → isDate (d .year) (d .month) (d .day) ≡ true → z ≡ signedDay (dayNumber (d .year) (d .month) (d .day)) → Day z ≡ dayRead d
 unfolding dayRead
-day-yes d n e h = rw e (ap Day h)
+day-yes d z e h = rw e (ap Day h)
 
 pub day-no : (d : Date) → isDate (d .year) (d .month) (d .day) ≡ false → NoDate ≡ dayRead d
 unfolding dayRead
 day-no d e = rw e
 
--- a date's day is in the range
-pub read-day-in : (d : Date) (n : ℕ) → dayRead d ≡ Day n → (firstDay ≤ n) × (n ≤ lastDay)
+-- what a date's day tells: it is a date, and the number is its day's
+pub read-day : (d : Date) (z : ℤ) → dayRead d ≡ Day z → (isDate (d .year) (d .month) (d .day) ≡ true) × (z ≡ signedDay (dayNumber (d .year) (d .month) (d .day)))
 unfolding dayRead
-read-day-in d n e =
+read-day d z e =
     by-test (isDate (d .year) (d .month) (d .day))
-    (λ t.
-    let v = date-facts {y = d .year} {m = d .month} {d = d .day} t in
-    let q : Day (dayNumber (d .year) (d .month) (d .day)) ≡ Day n = rw t at e in
-    let p : dayNumber (d .year) (d .month) (d .day) ≡ n = cc in
-    (omega (arith, day-from v), omega (arith, day-to v)))
-    (λ t. let q : NoDate ≡ Day n = rw t at e in never (cc))
+    (λ t. let q : Day (signedDay (dayNumber (d .year) (d .month) (d .day))) ≡ Day z = rw t at e in (t, cc))
+    (λ t. let q : NoDate ≡ Day z = rw t at e in never (cc))
+
+pub read-none : (d : Date) → dayRead d ≡ NoDate → isDate (d .year) (d .month) (d .day) ≡ false
+unfolding dayRead
+read-none d e =
+    by-test (isDate (d .year) (d .month) (d .day))
+    (λ t. let q : Day (signedDay (dayNumber (d .year) (d .month) (d .day))) ≡ NoDate = rw t at e in never (cc))
+    (λ t. t)
+
+-- so the day is in the range, and the number that of a day
+pub read-day-in : (d : Date) (z : ℤ) → dayRead d ≡ Day z → (firstDay ≤ dayOf z) × (dayOf z ≤ lastDay)
+read-day-in d z e =
+    let q = read-day d z e in
+    let v = date-facts {y = d .year} {m = d .month} {d = d .day} (q .0) in
+    let i = day-given (q .1) in
+    (omega (arith, day-from v), omega (arith, day-to v))
+
+pub read-number : (d : Date) (z : ℤ) → dayRead d ≡ Day z → IsDayNumber z
+read-number d z e = let b = read-day-in d z e in number-within z (omega (arith, b .0)) (omega (arith, b .1))
 
 -- ---- times of day
 

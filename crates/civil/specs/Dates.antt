@@ -3,6 +3,9 @@ use Rattle.model.specs.Basic.{if_then_else_}
 use mathlib.Core.Bool.{_&&_}
 use Prim.Native.Nat.{ℕ, _+_, _*_, _<_}
 use lib.Dec.{ltb}
+use lib.IntN.{ℤ}
+use Rattle.model.specs.DayNumber.{signedDay, dayOf}
+use Rattle.laws_calendar.specs.Numbers.{IsDayNumber}
 use Rattle.model.specs.Calendar as M
 use Rattle.model.specs.Calendar.{isDate, dayNumber}
 use Rattle.model.specs.Instant.{second, daySeconds}
@@ -21,6 +24,11 @@ calendarYears = 20800
 abbrev pub calendarDays : ℕ
 calendarDays = 7597044
 
+-- the number of one of them
+pub record InCalendar (z : ℤ) : Type 0 where
+  pub number : IsDayNumber z
+  pub below : dayOf z < calendarDays
+
 -- books write a year in two bytes as a signed number; this added to a year is that number with 2^15 added
 abbrev pub yearBias : ℕ
 yearBias = 22368
@@ -31,7 +39,7 @@ dated d = record { year = d .year; month = d .month; day = d .day }
 
 -- the day of a date
 unfoldable pub dayRead : Date → DayRead
-dayRead d = if isDate (d .year) (d .month) (d .day) then Day (dayNumber (d .year) (d .month) (d .day)) else NoDate
+dayRead d = if isDate (d .year) (d .month) (d .day) then Day (signedDay (dayNumber (d .year) (d .month) (d .day))) else NoDate
 
 -- a time of day in nanoseconds. Document 01: "Time of day: second 0 to 86,399 and nanoseconds."
 unfoldable pub timeRead : ℕ → ℕ → TimeRead

@@ -72,13 +72,14 @@ pub month-leap : (r : ℕ) → r < 366 → (r < 60 → r / 31 + 1 ≡ monthOf tr
 unfolding month-by
 month-leap r h = at-each (month-by true 60) 366 by-leap r h
 
-pub year-early : (n : ℕ) → n < daysBeforeYear (400 * (n + 1) / 146097) → 400 * (n + 1) / 146097 - 1 ≡ yearOf n
+-- the year of day n, of which r days have passed before it
+pub year-early : (n r : ℕ) → r ≡ n → n < daysBeforeYear (400 * (r + 1) / 146097) → 400 * (r + 1) / 146097 - 1 ≡ yearOf n
 unfolding yearOf
-year-early n h = simp (lt-ltb _ _ h)
+year-early n r e h = let k : n < daysBeforeYear (400 * (n + 1) / 146097) = rw e at h in rw e (simp (lt-ltb _ _ k))
 
-pub year-late : (n : ℕ) → daysBeforeYear (400 * (n + 1) / 146097) ≤ n → 400 * (n + 1) / 146097 ≡ yearOf n
+pub year-late : (n r : ℕ) → r ≡ n → daysBeforeYear (400 * (r + 1) / 146097) ≤ n → 400 * (r + 1) / 146097 ≡ yearOf n
 unfolding yearOf
-year-late n h = simp (le-ltb _ _ h)
+year-late n r e h = let k : daysBeforeYear (400 * (n + 1) / 146097) ≤ n = rw e at h in rw e (simp (le-ltb _ _ k))
 
 pub day-below : {y m d : ℕ} → y < calendarYears → Has y m d → dayNumber y m d < calendarDays
 day-below {y} {m} {d} h v = omega (arith, has-within v, year-mono {a = y + 1} {b = calendarYears} (omega arith), end-is)

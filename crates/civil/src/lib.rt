@@ -1,9 +1,13 @@
-// The calendar over unsigned numbers: years counted from -10400 and days from its first of January. Times of day and weekday sets.
+// The calendar. Days are numbered from 1970-01-01, with a sign, and years counted from -10400. Times of day and weekday sets. Day numbers are added,
+// subtracted and compared by the first functions here and nowhere else.
 ghost use mathlib.Core.Path.{_≡_};
-ghost use Prim.Native.Nat.{_+_, _-_, _≤_, _<_, _^_};
+ghost use Prim.Native.Nat.{_+_, _-_, _*_, _/_, _≤_, _<_, _^_};
+ghost use Rattle.model.specs.DayNumber.{signedDay, dayOf};
+ghost use Rattle.model.specs.Instant.{daySeconds};
 ghost use Rattle.model.specs.Calendar.{isLeap, daysBeforeYear, daysInMonth, daysBeforeMonth, isDate, dayNumber, weekday, monthOf, yearOf, dateIn, dateOf, contains};
 ghost use Rattle.laws_calendar.specs.Dates.{leapDay, Has};
-ghost use Rattle.civil.specs.Dates.{dated, dayRead, timeRead, calendarYears, calendarDays};
+ghost use Rattle.laws_calendar.specs.Numbers.{numbered, IsDayNumber, isBefore};
+ghost use Rattle.civil.specs.Dates.{dated, dayRead, timeRead, calendarYears, InCalendar};
 use instant::DAY;
 use instant::SECOND;
 
@@ -14,8 +18,9 @@ pub struct Date {
     pub day: u32,
 }
 
-// The days of the calendar's years, which are 0 to 20799.
-pub const CALENDAR_DAYS: u32 = 7597044;
+// The number of -10400-01-01, the first day of the calendar's years. Days are divided as they are counted from it: the division of a negative number
+// rounds toward zero.
+const START: i32 = -4518050;
 
 // The years of the first and of the last date, -9999 and 9999.
 const FIRST_YEAR: u32 = 401;
@@ -26,7 +31,10 @@ const LAST_YEAR: u32 = 20399;
 pub const YEAR_BIAS: u32 = 22368;
 
 // The days of 400 years.
-const DAYS_OF_400_YEARS: u32 = 146097;
+const DAYS_OF_400_YEARS: u64 = 146097;
+
+// The weekday of -10400-01-01, a Saturday.
+const FIRST_WEEKDAY: u32 = 5;
 
 // The days that every month has.
 const SHORTEST_MONTH: u32 = 28;
@@ -42,6 +50,69 @@ const LENGTHS: [u32; 13] = [0, 31, 28, 31, 30, 31, 30, 31, 31, 30, 31, 30, 31];
 
 const STARTS: [u32; 13] = [0, 0, 31, 59, 90, 120, 151, 181, 212, 243, 273, 304, 334];
 
+// ---- day numbers
+
+// The day n days after a day.
+pub fn later(day: i32, n: u32) -> i32
+    requires { ⌜ IsDayNumber day × (dayOf day + n < numbered) ⌝ }
+    ensures { λ r. ⌜ r ≡ signedDay (dayOf day + n) ⌝ }
+{
+    day + n as i32
+}
+
+// The day n days before a day.
+pub fn earlier(day: i32, n: u32) -> i32
+    requires { ⌜ IsDayNumber day × (n ≤ dayOf day) ⌝ }
+    ensures { λ r. ⌜ r ≡ signedDay (dayOf day - n) ⌝ }
+{
+    day - n as i32
+}
+
+// How many days b is after a.
+pub fn days_from(a: i32, b: i32) -> u32
+    requires { ⌜ IsDayNumber a × IsDayNumber b × (dayOf a ≤ dayOf b) ⌝ }
+    ensures { λ r. ⌜ r ≡ dayOf b - dayOf a ⌝ }
+{
+    (b - a) as u32
+}
+
+// a is before b.
+pub fn precedes(a: i32, b: i32) -> bool
+    requires { ⌜ IsDayNumber a × IsDayNumber b ⌝ }
+    ensures { λ r. ⌜ r ≡ isBefore a b ⌝ }
+{
+    a < b
+}
+
+// How many days there are from the first to the last: none if the last is before the first.
+pub fn day_count(first: i32, last: i32) -> u32
+    requires { ⌜ IsDayNumber first × IsDayNumber last ⌝ }
+    ensures { λ r. ⌜ r ≡ dayOf last + 1 - dayOf first ⌝ }
+{
+    if precedes(last, first) {
+        return 0;
+    }
+    days_from(first, last) + 1
+}
+
+// The first second of a day. Seconds are counted from -10400-01-01T00:00:00Z.
+pub fn midnight(day: i32) -> u64
+    requires { ⌜ IsDayNumber day ⌝ }
+    ensures { λ r. ⌜ r ≡ dayOf day * daySeconds ⌝ }
+{
+    days_from(START, day) as u64 * DAY
+}
+
+// The day of a second.
+pub fn day_at(sec: u64) -> i32
+    requires { ⌜ sec < numbered * daySeconds ⌝ }
+    ensures { λ r. ⌜ r ≡ signedDay (sec / daySeconds) ⌝ }
+{
+    later(START, (sec / DAY) as u32)
+}
+
+// ---- years and months
+
 // The year is a leap year.
 pub fn is_leap(year: u32) -> bool
     ensures { λ r. ⌜ r ≡ isLeap year ⌝ }
@@ -55,12 +126,15 @@ pub fn is_leap(year: u32) -> bool
     year % 400 == 0
 }
 
-// The number of the year's first day.
-pub fn days_before_year(year: u32) -> u32
+// The first day of a year.
+pub fn year_start(year: u32) -> i32
     requires { ⌜ year ≤ calendarYears + 1 ⌝ }
-    ensures { λ r. ⌜ r ≡ daysBeforeYear year ⌝ }
+    ensures { λ r. ⌜ r ≡ signedDay (daysBeforeYear year) ⌝ }
 {
-    365 * year + ((year + 3) / 4 + (year + 399) / 400 - (year + 99) / 100)
+    later(
+        START,
+        365 * year + ((year + 3) / 4 + (year + 399) / 400 - (year + 99) / 100),
+    )
 }
 
 // The days of a month, 1 to 12, in a leap year or a common one.
@@ -95,27 +169,31 @@ pub fn days_before_month(leap: bool, month: u32) -> u32
 }
 
 // The weekday of a day: Monday is 0.
-pub fn weekday_of(day: u32) -> u32
-    ensures { λ r. ⌜ r ≡ weekday day ⌝ }
+pub fn weekday_of(day: i32) -> u32
+    requires { ⌜ IsDayNumber day ⌝ }
+    ensures { λ r. ⌜ r ≡ weekday (dayOf day) ⌝ }
 {
-    (day % 7 + 5) % 7
+    (days_from(START, day) + FIRST_WEEKDAY) % 7
 }
 
 // The number of a day that the year has.
-pub fn day_number(year: u32, month: u32, day: u32) -> u32
+pub fn day_number(year: u32, month: u32, day: u32) -> i32
     requires { ⌜ (year < calendarYears) × Has year month day ⌝ }
-    ensures { λ r. ⌜ r ≡ dayNumber year month day ⌝ }
+    ensures { λ r. ⌜ r ≡ signedDay (dayNumber year month day) ⌝ }
 {
-    days_before_year(year) + days_before_month(is_leap(year), month) + (day - 1)
+    later(
+        year_start(year),
+        days_before_month(is_leap(year), month) + (day - 1),
+    )
 }
 
-// The year of a day of the calendar's years.
-pub fn year_of(day: u32) -> u32
-    requires { ⌜ day < calendarDays ⌝ }
-    ensures { λ r. ⌜ r ≡ yearOf day ⌝ }
+// The year of a day of the calendar's years: the years of mean length that have passed, or one less.
+pub fn year_of(day: i32) -> u32
+    requires { ⌜ InCalendar day ⌝ }
+    ensures { λ r. ⌜ r ≡ yearOf (dayOf day) ⌝ }
 {
-    let e = 400 * (day + 1) / DAYS_OF_400_YEARS;
-    if day < days_before_year(e) {
+    let e = (400 * (days_from(START, day) as u64 + 1) / DAYS_OF_400_YEARS) as u32;
+    if precedes(day, year_start(e)) {
         return e - 1;
     }
     e
@@ -153,12 +231,12 @@ fn date_in(year: u32, r: u32) -> Date
 }
 
 // The date of a day of the calendar's years.
-pub fn date_of(day: u32) -> Date
-    requires { ⌜ day < calendarDays ⌝ }
-    ensures { λ r. ⌜ r ≡ dated (dateOf day) ⌝ }
+pub fn date_of(day: i32) -> Date
+    requires { ⌜ InCalendar day ⌝ }
+    ensures { λ r. ⌜ r ≡ dated (dateOf (dayOf day)) ⌝ }
 {
     let year = year_of(day);
-    date_in(year, day - days_before_year(year))
+    date_in(year, days_from(year_start(year), day))
 }
 
 // A date of the years -9999 to 9999. Every month has 28 days: the year is asked only for the days behind them.
@@ -191,7 +269,7 @@ pub fn is_date(year: u32, month: u32, day: u32) -> bool
 
 // The number of a day, or none: the numbers are no date.
 pub enum DayRead {
-    Day(u32),
+    Day(i32),
     NoDate,
 }
 

@@ -1,12 +1,12 @@
 -- Laws of tests: cases on a Bool, and what a passed test says.
-use mathlib.Core.Path.{_≡_, refl}
+use mathlib.Core.Path.{_≡_, refl, sym, _∙_}
 use mathlib.Core.Bool.{Bool, true, false, not, _&&_, _||_}
 use mathlib.Core.List.{List, _∷_}
 use mathlib.Core.Logic.{_⊎_, inl, inr}
-use Prim.Native.Nat.{ℕ, _≤_}
+use Prim.Native.Nat.{ℕ, _≤_, _<_}
 use native.Mathlib.Omega.{arith}
-use lib.Dec.{T, leb}
-use borrow.Author.Tests.{leb-true, le-leb}
+use lib.Dec.{T, leb, ltb}
+use borrow.Author.Tests.{leb-true, le-leb, ltb-true, ltb-false, lt-ltb, le-ltb}
 use Rattle.model.specs.Basic.{isIn, all}
 
 -- a test passes or fails; `rw` then opens what it decides
@@ -52,6 +52,10 @@ not-true false e = refl
 pub true-not : (b : Bool) → b ≡ false → not b ≡ true
 true-not true e = clash true refl e
 true-not false e = refl
+
+-- tests on numbers in the same order
+pub same-test : (m n k l : ℕ) → (m < n → k < l) → (n ≤ m → l ≤ k) → ltb m n ≡ ltb k l
+same-test m n k l f g = by-test (ltb m n) (λ t. t ∙ sym (lt-ltb k l (f (ltb-true m n t)))) (λ t. t ∙ sym (le-ltb k l (g (ltb-false m n t))))
 
 -- a number between two others
 pub in-bounds : (lo hi n : ℕ) → isIn lo hi n ≡ true → (lo ≤ n) × (n ≤ hi)

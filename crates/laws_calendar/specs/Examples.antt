@@ -1,9 +1,11 @@
--- Known dates, computed: the ends of the range, the days that the definitions name by number, and some weekdays.
+-- Known dates, computed: the ends of the range, the days that the definitions name by number, some weekdays, and day numbers.
 -- A year is counted from -10400: 401 is -9999, 10400 is 0, 12370 is 1970, 20399 is 9999.
 use mathlib.Core.Path.{_≡_, refl}
 use mathlib.Core.Bool.{true, false}
 use Prim.Native.Nat.{_*_}
+use lib.IntN.{pos, negsuc}
 use Rattle.model.specs.Calendar.{isDate, date, dayNumber, dateOf, weekday, firstDay, dayOfYearZero, lastDay, calendar}
+use Rattle.model.specs.DayNumber.{signedDay, dayOf}
 use Rattle.model.specs.Instant.{epoch, daySeconds}
 
 first-day : dayNumber 401 1 1 ≡ firstDay
@@ -58,3 +60,21 @@ too-early = refl
 too-late : isDate 20400 1 1 ≡ false
 unfolding calendar
 too-late = refl
+
+-- day numbers count from 1970-01-01
+first-number : signedDay (dayNumber 401 1 1) ≡ negsuc 4371586
+unfolding calendar signedDay
+first-number = refl
+
+epoch-number : signedDay (dayNumber 12370 1 1) ≡ pos 0
+unfolding calendar signedDay
+epoch-number = refl
+
+last-number : signedDay (dayNumber 20399 12 31) ≡ pos 2932896
+unfolding calendar signedDay
+last-number = refl
+
+-- 1969-12-31, the day before
+day-before : dateOf (dayOf (negsuc 0)) ≡ date 12369 12 31
+unfolding calendar dayOf
+day-before = refl

@@ -1,3 +1,4 @@
 pub mod Years
 pub mod Dates
+pub mod Numbers
 pub mod Examples

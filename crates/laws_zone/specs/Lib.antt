@@ -1,6 +1,7 @@
 pub mod Sound
 pub mod FooterChanges
 pub mod Days
+pub mod DayNumbers
 pub mod Grammar
 pub mod Changes
 pub mod Resolve

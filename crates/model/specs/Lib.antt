@@ -1,6 +1,7 @@
 pub mod Basic
 pub mod Bytes
 pub mod Calendar
+pub mod DayNumber
 pub mod Answer
 pub mod Instant
 pub mod Offset

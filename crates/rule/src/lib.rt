@@ -2,6 +2,8 @@
 // dates in the lent book: a rule says where they stand.
 ghost use mathlib.Core.Path.{_≡_};
 ghost use Rattle.model.specs.Calendar.{contains, weekday};
+ghost use Rattle.model.specs.DayNumber.{dayOf};
+ghost use Rattle.laws_calendar.specs.Numbers.{IsDayNumber};
 use civil::Time;
 use zone::Zone;
 
@@ -42,8 +44,9 @@ pub struct Schedule {
 }
 
 // Whether a rule with this set of weekdays takes of the date.
-pub fn applies(days: u8, day: u32) -> bool
-    ensures { λ r. ⌜ r ≡ contains days (weekday day) ⌝ }
+pub fn applies(days: u8, day: i32) -> bool
+    requires { ⌜ IsDayNumber day ⌝ }
+    ensures { λ r. ⌜ r ≡ contains days (weekday (dayOf day)) ⌝ }
 {
     civil::contains(days, civil::weekday_of(day))
 }

@@ -5,11 +5,16 @@ use mathlib.Core.Bool.{Bool, true, false, _&&_}
 use mathlib.Core.List.{List, map}
 use Prim.Native.Nat.{ℕ, _+_, _*_, _-_, _≤_, _<_}
 use lib.Dec.{leb}
-use Rattle.model.specs.Basic.{isIn, any, all}
+use lib.IntN.{ℤ}
+use Rattle.model.specs.Basic.{if_then_else_, isIn, any, all}
+use Rattle.model.specs.DayNumber.{dayOf}
 use Rattle.model.specs.Instant.{second, day, week, firstInstant, lastInstant, firstSecond, lastSecond, daySeconds}
 use Rattle.model.specs.Working.{Rule, Holidays, Schedule}
 use Rattle.model.specs.Skip.{ruleSteady, noneNear, repeats}
+use Rattle.laws_calendar.specs.Numbers.{IsDayNumber}
 use Rattle.laws_skip.specs.Runs.{repeatsTo}
+use Rattle.civil.specs.declared.DayRead.{DayRead}
+use Rattle.civil.specs.declared.DayRead.the-variants.{Day, NoDate}
 use Rattle.instant.specs.Instant.{nanos, InRange}
 use Rattle.instant.specs.declared.Instant.{Instant}
 use Rattle.rule.specs.declared.Rule.{Rule as Item}
@@ -55,23 +60,33 @@ abbrev pub isMet : Bool → ℕ → ℕ → Bool
 isMet false a b = leb a b
 isMet true a b = leb b a
 
--- the date that stands for none, and those that do not
-abbrev pub noDate : Bool → ℕ
-noDate false = 4294967295
-noDate true = 0
-
-abbrev pub HasDate : Bool → ℕ → Type 0
-HasDate false y = y < 4294967295
-HasDate true y = 0 < y
+-- y is met from a date that was read; where that is none, it is not
+abbrev pub metBy : Bool → DayRead → ℕ → Bool
+metBy back (Day z) y = isMet back (dayOf z) y
+metBy back NoDate y = false
 
 -- the dates from `from` to y
 abbrev pub isOnWay : Bool → ℕ → ℕ → ℕ → Bool
 isOnWay false from y = isIn from y
 isOnWay true from y = isIn y from
 
--- r is the nearest date of l from `from` on, or back from it: a date of l lies on the way to y where r does
-abbrev pub Nearest : Bool → ℕ → List ℕ → ℕ → Type 0
-Nearest back from l r = (y : ℕ) → HasDate back y → any (isOnWay back from y) l ≡ isMet back r y
+-- a date that was read is one of them
+abbrev pub readOnWay : Bool → ℕ → ℕ → DayRead → Bool
+readOnWay back from y (Day z) = isOnWay back from y (dayOf z)
+readOnWay back from y NoDate = false
+
+-- a date that was read has the number of a day
+pub record Numbered (r : DayRead) : Type 0 where
+  pub number : (z : ℤ) → r ≡ Day z → IsDayNumber z
+
+-- r is the nearer of two dates: y is met from r where it is from `near`, or where `date` lies on the way to it
+pub record Nearer (back : Bool) (from : ℕ) (near date r : DayRead) : Type 0 where
+  pub numbered : Numbered r
+  pub met : (y : ℕ) → metBy back r y ≡ (if metBy back near y then true else readOnWay back from y date)
+
+-- r is the nearest date of l from `from` on, or back from it: a date of l lies on the way to y where y is met from r
+abbrev pub Nearest : Bool → ℕ → List ℕ → DayRead → Type 0
+Nearest back from l r = (y : ℕ) → 0 < y → any (isOnWay back from y) l ≡ metBy back r y
 
 -- the greatest offset of a zone in seconds: 25 h 59 min 59 s
 abbrev pub mostOffset : ℕ

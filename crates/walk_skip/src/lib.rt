@@ -1,13 +1,16 @@
 // How many borders of windows in a row pass the skip test, on from an instant or back from it. One test of all: the span from eleven days before
 // the first border to eleven days behind the last one lies in the range, no work or break zone changes its offset in it, and no holiday lies among its dates.
 ghost use mathlib.Core.Path.{_≡_};
-ghost use Prim.Native.Nat.{_+_, _*_, _≤_};
+ghost use Prim.Native.Nat.{_+_, _*_, _≤_, _<_};
 ghost use lib.ListN.{length, take};
 ghost use Rattle.instant.specs.Instant.{nanos, InRange};
+ghost use Rattle.model.specs.DayNumber.{dayOf};
 ghost use Rattle.model.specs.Instant.{lastSecond};
+ghost use Rattle.laws_calendar.specs.Numbers.{IsDayNumber};
 ghost use Rattle.book.specs.Meaning.{datesAt};
 ghost use Rattle.rule.specs.Rules.{scheduleIs, HolidaysFit, ScheduleFits};
-ghost use Rattle.walk_skip.specs.Repeating.{isMet, noDate, Nearest, DateAhead, DateBehind, Repeating, HolidayRoom, HolidaysAsked, HolidaysRoom, RulesAsked, RulesRoom, RangeRoom, BorderRoom};
+ghost use Rattle.walk_skip.specs.Repeating.{isMet, Numbered, Nearer, Nearest, DateAhead, DateBehind, Repeating, HolidayRoom, HolidaysAsked, HolidaysRoom, RulesAsked, RulesRoom, RangeRoom, BorderRoom};
+use civil::DayRead;
 use instant::Instant;
 use rule::HolidayDates;
 use rule::Rule;
@@ -27,60 +30,64 @@ const UNLIMITED: u64 = 1000000000000;
 // The greatest offset of a zone in seconds: 25 h 59 min 59 s.
 const OFFSET: u64 = zone_offset::GREATEST_64 - zone_offset::BIAS_64;
 
-// The date that stands for none going on: beyond all others.
-const NO_DATE: u32 = 4294967295;
-
 // Going on from the date a, or back from it, the date b is met: at a or beyond it.
-fn meets(back: bool, a: u32, b: u32) -> bool
-    ensures { λ r. ⌜ r ≡ isMet back a b ⌝ }
+fn meets(back: bool, a: i32, b: i32) -> bool
+    requires { ⌜ IsDayNumber a × IsDayNumber b ⌝ }
+    ensures { λ r. ⌜ r ≡ isMet back (dayOf a) (dayOf b) ⌝ }
 {
     if back {
-        return b <= a;
+        return !civil::precedes(a, b);
     }
-    a <= b
+    !civil::precedes(b, a)
 }
 
-// The date that stands for none, going on or back.
-fn no_date(back: bool) -> u32
-    ensures { λ r. ⌜ r ≡ noDate back ⌝ }
+// The nearer of two dates, going on from the date `from` or back from it: the second counts only where it is met from there.
+fn nearer(back: bool, from: i32, near: DayRead, date: DayRead) -> DayRead
+    requires { ⌜ IsDayNumber from × Numbered near × Numbered date ⌝ }
+    ensures { λ r. ⌜ Nearer back (dayOf from) near date r ⌝ }
 {
-    if back {
-        return 0;
+    let DayRead::Day(d) = date else {
+        return near;
+    };
+    if !meets(back, from, d) {
+        return near;
     }
-    NO_DATE
+    let DayRead::Day(n) = near else {
+        return date;
+    };
+    if meets(back, n, d) {
+        return near;
+    }
+    date
 }
 
 // The nearest of the n dates at p, going on from the date `from` or back from it.
-fn nearest_date(book: &[u8], p: usize, n: usize, back: bool, from: u32) -> u32
-    requires { ⌜ p + 4 * n ≤ length (now book) ⌝ }
-    ensures { λ r. ⌜ Nearest back from (datesAt (now (book .entry)) p n) r ⌝ }
+fn nearest_date(book: &[u8], p: usize, n: usize, back: bool, from: i32) -> DayRead
+    requires { ⌜ (p + 4 * n ≤ length (now book)) × IsDayNumber from × (0 < dayOf from) ⌝ }
+    ensures { λ r. ⌜ Numbered r × Nearest back (dayOf from) (datesAt (now (book .entry)) p n) r ⌝ }
 {
     let mut at = p;
     let mut left = n;
-    let mut near = no_date(back);
+    let mut near = DayRead::NoDate;
     while 0 < left {
-        let d = book_dates::date_at(book, at);
+        let date = book_dates::date_at(book, at);
+        near = nearer(back, from, near, date);
         at += book_dates::DATE_SIZE;
         left -= 1;
-        if meets(back, from, d) {
-            if !meets(back, near, d) {
-                near = d;
-            }
-        }
     }
     near
 }
 
 // How far behind the second hi the date d is not among the dates, where `last` is the last of them: 0 if it is among them at hi.
 // The last date lies at most one day behind the local one.
-fn days_ahead(d: u32, last: u32, hi: u64) -> u64
-    requires { ⌜ hi ≤ lastSecond ⌝ }
-    ensures { λ r. ⌜ DateAhead d last hi r ⌝ }
+fn days_ahead(d: i32, last: i32, hi: u64) -> u64
+    requires { ⌜ IsDayNumber d × IsDayNumber last × (hi ≤ lastSecond) ⌝ }
+    ensures { λ r. ⌜ DateAhead (dayOf d) (dayOf last) hi r ⌝ }
 {
-    if d <= last {
+    if !civil::precedes(last, d) {
         return 0;
     }
-    let start = d as u64 * instant::DAY;
+    let start = civil::midnight(d);
     let end = hi + OFFSET + instant::DAY;
     if end < start {
         return start - end;
@@ -90,21 +97,22 @@ fn days_ahead(d: u32, last: u32, hi: u64) -> u64
 
 // How far before the second lo the date d is not among the dates, where `first` is the first of them: 0 if it is among them at lo.
 // The first date lies at most two days before the local one.
-fn days_behind(d: u32, first: u32, lo: u64) -> u64
-    requires { ⌜ lo ≤ lastSecond ⌝ }
-    ensures { λ r. ⌜ DateBehind d first lo r ⌝ }
+fn days_behind(d: i32, first: i32, lo: u64) -> u64
+    requires { ⌜ IsDayNumber d × IsDayNumber first × (lo ≤ lastSecond) ⌝ }
+    ensures { λ r. ⌜ DateBehind (dayOf d) (dayOf first) lo r ⌝ }
 {
-    if first <= d {
+    if !civil::precedes(d, first) {
         return 0;
     }
-    let end = (d as u64 + 3) * instant::DAY + OFFSET;
+    let end = civil::midnight(d) + 3 * instant::DAY + OFFSET;
     if end <= lo {
         return lo - end + 1;
     }
     1
 }
 
-// How far the span from a to b may be widened before a date of the record is among its dates: 0 if one is already.
+// How far the span from a to b may be widened before a date of the record is among its dates: 0 if one is already. Back, without a date, it may be
+// widened as far as the range goes.
 fn holiday_room(
     book: &[u8],
     pack: &[u8],
@@ -121,10 +129,14 @@ fn holiday_room(
     let first = zone_local::first_date(f, z, a);
     let last = zone_local::last_date(f, z, b);
     if back {
-        let d = nearest_date(book, h.dates, h.count, true, last);
+        let DayRead::Day(d) = nearest_date(book, h.dates, h.count, true, last) else {
+            return a.sec - instant::FIRST + 1;
+        };
         return days_behind(d, first, a.sec);
     }
-    let d = nearest_date(book, h.dates, h.count, false, first);
+    let DayRead::Day(d) = nearest_date(book, h.dates, h.count, false, first) else {
+        return UNLIMITED;
+    };
     days_ahead(d, last, b.sec)
 }
 

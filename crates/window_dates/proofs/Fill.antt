@@ -1,5 +1,5 @@
 -- The dates of a window and of a rule in it, and the rules of a counted array. Assumes nothing.
-use Prim.Native.Nat.{ℕ, zero, suc, _+_, _*_, _-_, _/_, _≤_, _<_}
+use Prim.Native.Nat.{ℕ, suc, _+_, _*_, _-_, _/_, _≤_, _<_}
 use mathlib.Core.Path.{_≡_, refl, sym, _∙_, ap}
 use mathlib.Core.Bool.{Bool, true, false}
 use mathlib.Core.List.{List, [], _∷_, _++_, map, append-assoc, append-nil}
@@ -11,28 +11,30 @@ use lib.ListN.{length, take, drop, getD, drop-of-length-le}
 use lib.Seq.{drop-cons, getD-take, length-take-le}
 use Rattle.model.specs.Basic.{any, among, distinct, filter, run, joined}
 use Rattle.model.specs.Blocks.{Block}
+use Rattle.model.specs.Calendar.{contains, weekday}
 use Rattle.model.specs.Tzif.{Zone}
-use Rattle.model.specs.Instant.{second}
+use Rattle.model.specs.DayNumber.{signedDay}
+use Rattle.model.specs.Instant.{second, lastInstant}
 use Rattle.model.specs.Zone.{offsetAt}
 use Rattle.zone_local.proofs.Facts.{local-is, first-back, last-on, kept-small}
 use Rattle.model.specs.Working.{Rule, localDay, firstDate, lastDate, startOf, endOf, blocksOf, blocksOfAll}
 use Rattle.laws_base.specs.Test.{by-test}
+use Rattle.laws_calendar.specs.Numbers.{is-number, day-given}
 use Rattle.laws_zone.specs.Sound.{Sound}
 use Rattle.laws_zone.specs.Zones.{fits-sound}
-use Rattle.laws_demand3.specs.Local.{offsetNanos, first-from, last-upto}
+use Rattle.laws_demand3.specs.Local.{offsetNanos, offset-high, day-is, first-from, first-upto, last-upto}
 use Rattle.laws_skip.specs.Counts.{dates-most}
 use Rattle.zone.specs.Zones.{zoneIs, ZoneOk}
 use Rattle.zone.specs.declared.Zone.{Zone as Zone′}
-use Rattle.civil.specs.Dates.{timeIn}
+use Rattle.civil.specs.Dates.{calendarDays, timeIn}
 use Rattle.instant.specs.Instant.{nanos}
 use Rattle.instant.specs.declared.Instant.{Instant}
 use Rattle.block.specs.declared.Block.{Block as Item}
 use Rattle.zone_local.specs.Dates.{IsDay, held, pieceOf, during, KeepsOffset, IsIn}
 use Rattle.rule.specs.declared.Rule.{Rule as Rule′}
-use Rattle.window_dates.specs.Windows.{Window, IsLocalDates, OffsetHolds, dayBy}
+use Rattle.window_dates.specs.Windows.{Window, IsLocalDates, OffsetHolds, dayBy, fromDay, uptoDay}
 use Rattle.window_dates.specs.declared.LocalDates.{LocalDates}
 use Rattle.rule.specs.Rules.{fileAt, ruleIs}
-use Rattle.laws_base.specs.Every.{Every}
 
 -- ---- the dates of a rule
 
@@ -40,36 +42,48 @@ use Rattle.laws_base.specs.Every.{Every}
 abbrev pub shown : (ℕ → Bool) → (ℕ → List Block) → List ℕ → List Block
 shown on f l = joined (map f (filter on l))
 
-run-step : (d last : ℕ) → d ≤ last → run d (last + 1 - d) ≡ d ∷ run (d + 1) (last + 1 - (d + 1))
-unfolding run
-run-step d last h =
-    let e : last + 1 - d ≡ suc (last + 1 - (d + 1)) = omega arith in
-    ap (run d) e ∙ ap (λ (k : ℕ). d ∷ run k (last + 1 - (d + 1))) (sym (add-one d))
+-- what the weekday of one day tells of another that is the same
+pub told-on : (set : ℕ) {d e : ℕ} {b a : Bool} → d ≡ e → b ≡ contains set (weekday d) → b ≡ a → contains set (weekday e) ≡ a
+told-on set h p q = sym (p ∙ ap (λ (x : ℕ). contains set (weekday x)) h) ∙ q
 
-run-done : (d last : ℕ) → last < d → run d (last + 1 - d) ≡ []
-unfolding run
-run-done d last h = let e : last + 1 - d ≡ 0 = omega arith in ap (run d) e
+-- of k dates in a row, those from the i-th on
+abbrev pub datesFrom : ℕ → ℕ → ℕ → List ℕ
+datesFrom first k i = run (first + i) (k - i)
 
-module _ (on : ℕ → Bool) (f : ℕ → List Block) (d last : ℕ) (done whole : List Block)
-    (same : done ++ shown on f (run d (last + 1 - d)) ≡ whole) where
+pub dates-whole : (first k : ℕ) → datesFrom first k 0 ≡ run first k
+dates-whole first k = let a : first + 0 ≡ first = omega arith in let b : k - 0 ≡ k = omega arith in rw (a, b)
+
+run-suc : (d m n : ℕ) → n ≡ suc m → run d n ≡ d ∷ run (d + 1) m
+unfolding run
+run-suc d m n e = ap (run d) e ∙ ap (λ (x : ℕ). d ∷ run x m) (sym (add-one d))
+
+dates-step : (first k i : ℕ) → i < k → datesFrom first k i ≡ (first + i) ∷ datesFrom first k (i + 1)
+dates-step first k i h =
+    run-suc (first + i) (k - (i + 1)) (k - i) (omega arith) ∙ ap (λ (d : ℕ). (first + i) ∷ run d (k - (i + 1))) (omega arith)
+
+dates-none : (first k i : ℕ) → k ≤ i → datesFrom first k i ≡ []
+unfolding run
+dates-none first k i h = let e : k - i ≡ 0 = omega arith in ap (run (first + i)) e
+
+module _ (on : ℕ → Bool) (f : ℕ → List Block) (first k i : ℕ) (done whole : List Block) (same : done ++ shown on f (datesFrom first k i) ≡ whole) where
   -- a date that is on, with what it shows behind the blocks so far
-  pub date-on : d ≤ last → on d ≡ true → (l : List Block) → l ≡ done ++ f d → l ++ shown on f (run (d + 1) (last + 1 - (d + 1))) ≡ whole
+  pub date-on : i < k → on (first + i) ≡ true → (l : List Block) → l ≡ done ++ f (first + i) → l ++ shown on f (datesFrom first k (i + 1)) ≡ whole
   unfolding joined filter
   date-on h t l e =
-      let q : shown on f (d ∷ run (d + 1) (last + 1 - (d + 1))) ≡ f d ++ shown on f (run (d + 1) (last + 1 - (d + 1))) = rw t in
-      ap (λ (x : List Block). x ++ shown on f (run (d + 1) (last + 1 - (d + 1)))) e
-      ∙ append-assoc done (f d) (shown on f (run (d + 1) (last + 1 - (d + 1))))
-      ∙ ap (λ (x : List Block). done ++ x) (sym (ap (shown on f) (run-step d last h) ∙ q)) ∙ same
+      let q : shown on f ((first + i) ∷ datesFrom first k (i + 1)) ≡ f (first + i) ++ shown on f (datesFrom first k (i + 1)) = rw t in
+      ap (λ (x : List Block). x ++ shown on f (datesFrom first k (i + 1))) e
+      ∙ append-assoc done (f (first + i)) (shown on f (datesFrom first k (i + 1)))
+      ∙ ap (λ (x : List Block). done ++ x) (sym (ap (shown on f) (dates-step first k i h) ∙ q)) ∙ same
 
-  pub date-off : d ≤ last → on d ≡ false → done ++ shown on f (run (d + 1) (last + 1 - (d + 1))) ≡ whole
+  pub date-off : i < k → on (first + i) ≡ false → done ++ shown on f (datesFrom first k (i + 1)) ≡ whole
   unfolding joined filter
   date-off h t =
-      let q : shown on f (d ∷ run (d + 1) (last + 1 - (d + 1))) ≡ shown on f (run (d + 1) (last + 1 - (d + 1))) = rw t in
-      ap (λ (x : List Block). done ++ x) (sym (ap (shown on f) (run-step d last h) ∙ q)) ∙ same
+      let q : shown on f ((first + i) ∷ datesFrom first k (i + 1)) ≡ shown on f (datesFrom first k (i + 1)) = rw t in
+      ap (λ (x : List Block). done ++ x) (sym (ap (shown on f) (dates-step first k i h) ∙ q)) ∙ same
 
-  pub dates-done : last < d → done ≡ whole
+  pub dates-done : k ≤ i → done ≡ whole
   unfolding joined filter
-  dates-done h = sym (append-nil done) ∙ ap (λ (x : List Block). done ++ x) (sym (ap (shown on f) (run-done d last h))) ∙ same
+  dates-done h = sym (append-nil done) ∙ ap (λ (x : List Block). done ++ x) (sym (ap (shown on f) (dates-none first k i h))) ∙ same
 
 -- ---- the rules of a counted array
 
@@ -110,18 +124,35 @@ piece-any r lo hi d = refl
 pub zone-moved : (f g : List ℕ) (z : Zone′) → f ≡ g → ZoneOk g z → ZoneOk f z
 zone-moved f g z e o = rw e o
 
+-- the first date of a window is one of the calendar's
+first-small : (z : Zone) → Sound z → (t : ℕ) → t ≤ lastInstant → firstDate z t < calendarDays
+first-small z s t h =
+    let a = first-upto z s t in let b = day-is z s t in let c = offset-high z s t in
+    omega arith
+
 pub days-are : (f g : List ℕ) (z : Zone′) (lo hi : Instant) (d : LocalDates) → f ≡ g → ZoneOk g z → Window 14 lo hi
-    → d .first ≡ firstDate (zoneIs f z) (nanos lo) → d .last ≡ lastDate (zoneIs f z) (nanos hi)
+    → d .first ≡ signedDay (firstDate (zoneIs f z) (nanos lo)) → d .last ≡ signedDay (lastDate (zoneIs f z) (nanos hi))
     → KeepsOffset (zoneIs f z) (nanos lo) (nanos hi) (d .offset) → IsLocalDates (zoneIs g z) lo hi d
 days-are f g z lo hi d e o w p q v =
     let s : Sound (zoneIs g z) = fits-sound (zoneIs g z) (o .fits) in
-    let p′ : d .first ≡ firstDate (zoneIs g z) (nanos lo) = p ∙ ap (λ (f : List ℕ). firstDate (zoneIs f z) (nanos lo)) e in
-    let q′ : d .last ≡ lastDate (zoneIs g z) (nanos hi) = q ∙ ap (λ (f : List ℕ). lastDate (zoneIs f z) (nanos hi)) e in
+    let p′ : d .first ≡ signedDay (firstDate (zoneIs g z) (nanos lo)) = p ∙ ap (λ (f : List ℕ). signedDay (firstDate (zoneIs f z) (nanos lo))) e in
+    let q′ : d .last ≡ signedDay (lastDate (zoneIs g z) (nanos hi)) = q ∙ ap (λ (f : List ℕ). signedDay (lastDate (zoneIs f z) (nanos hi))) e in
+    let p″ = day-given p′ in let q″ = day-given q′ in
     let a = w .low .low in let b = w .high .high in let c = w .high .ns in
     let l = first-from (zoneIs g z) s (nanos lo) (omega arith) in
     let u = last-upto (zoneIs g z) s (nanos hi) (omega arith) in
     let k = dates-most (zoneIs g z) s (nanos lo) (nanos hi) 14 (w .short) in
-    record { first-is = p′; last-is = q′; low = omega arith; high = omega arith; few = omega arith; kept = rw e at v }
+    record {
+      first-is = p″;
+      last-is = q″;
+      low = omega arith;
+      high = omega arith;
+      few = omega arith;
+      first-number = is-number p′ (omega (arith, first-small (zoneIs g z) s (nanos lo) (omega (arith, w .low .high, w .low .ns))));
+      first-below = omega (arith, first-small (zoneIs g z) s (nanos lo) (omega (arith, w .low .high, w .low .ns)));
+      last-number = is-number q′ (omega arith);
+      kept = rw e at v;
+    }
 
 -- by one offset around the window
 by-offset : (z : Zone) (lo hi t : Instant) (o : ℕ) → KeepsOffset z (nanos lo) (nanos hi) o → 0 < o → nanos lo ≤ nanos t → nanos t ≤ nanos hi → t .ns < 1000000000
@@ -141,7 +172,7 @@ kept-room f z lo hi o s w k h =
     (kept-small f z lo hi o s k c h, omega arith, omega arith, omega arith)
 
 pub days-kept : (f g : List ℕ) (z : Zone′) (lo hi : Instant) (o : ℕ) (d : LocalDates) → f ≡ g → ZoneOk g z → Window 14 lo hi → KeepsOffset (zoneIs f z) (nanos lo) (nanos hi) o → 0 < o
-    → d .first ≡ dayBy o lo - 2 → d .last ≡ dayBy o hi + 1 → d .offset ≡ o → IsLocalDates (zoneIs g z) lo hi d
+    → d .first ≡ signedDay (dayBy o lo - 2) → d .last ≡ signedDay (dayBy o hi + 1) → d .offset ≡ o → IsLocalDates (zoneIs g z) lo hi d
 days-kept f g z lo hi o d e s w k h p q r =
     let m = kept-room f z lo hi o (zone-moved f g z e s) w k h in
     let b = m .1 in let c = m .2 in let x = m .3 in
@@ -150,18 +181,18 @@ days-kept f g z lo hi o d e s w k h p q r =
     let u : 146465 ≤ dayBy o lo = omega arith in
     let v : dayBy o hi < 7450946 = omega arith in
     days-are f g z lo hi d e s w
-    (p ∙ first-back (zoneIs f z) (nanos lo) (dayBy o lo) i u)
-    (q ∙ last-on (zoneIs f z) (nanos hi) (dayBy o hi) j v)
+    (p ∙ ap signedDay (first-back (zoneIs f z) (nanos lo) (dayBy o lo) i u))
+    (q ∙ ap signedDay (last-on (zoneIs f z) (nanos hi) (dayBy o hi) j v))
     (rw r k)
 
-pub local-date-in : (z : Zone) (lo hi : Instant) (days : LocalDates) (d : ℕ) → IsLocalDates z lo hi days → days .first ≤ d → d ≤ days .last → IsDay d
+pub local-date-in : (z : Zone) (lo hi : Instant) (days : LocalDates) (d : ℕ) → IsLocalDates z lo hi days → fromDay days ≤ d → d ≤ uptoDay days → IsDay d
 local-date-in z lo hi days d q a b = let l = q .low in let u = q .high in record { low = omega arith; high = omega arith }
 
 -- the same, of a zone whose file is a part of the pack
 pub kept-moved : (f g : List ℕ) (z : Zone′) (lo hi : Instant) (days : LocalDates) → f ≡ g → IsLocalDates (zoneIs g z) lo hi days → KeepsOffset (zoneIs f z) (nanos lo) (nanos hi) (days .offset)
 kept-moved f g z lo hi days e q = rw e (q .kept)
 
-pub in-moved : (f g : List ℕ) (z : Zone′) (lo hi : Instant) (days : LocalDates) (d : ℕ) → f ≡ g → Window 14 lo hi → IsLocalDates (zoneIs g z) lo hi days → days .first ≤ d → d ≤ days .last
+pub in-moved : (f g : List ℕ) (z : Zone′) (lo hi : Instant) (days : LocalDates) (d : ℕ) → f ≡ g → Window 14 lo hi → IsLocalDates (zoneIs g z) lo hi days → fromDay days ≤ d → d ≤ uptoDay days
     → IsIn (zoneIs f z) lo hi d
 in-moved f g z lo hi days d e w q a b =
     let p = q .first-is in let r = q .last-is in

@@ -1,12 +1,15 @@
 -- What the functions on a window are asked and answer.
 use mathlib.Core.Path.{_≡_}
 use mathlib.Core.List.{List}
-use Prim.Native.Nat.{ℕ, _+_, _*_, _-_, _/_, _≤_}
+use Prim.Native.Nat.{ℕ, _+_, _*_, _-_, _/_, _≤_, _<_}
 use Rattle.model.specs.Calendar.{firstDay, lastDay}
+use Rattle.model.specs.DayNumber.{dayOf}
+use Rattle.laws_calendar.specs.Numbers.{IsDayNumber}
 use Rattle.model.specs.Blocks.{Block}
 use Rattle.model.specs.Instant.{day, daySeconds}
 use Rattle.model.specs.Tzif.{Zone}
 use Rattle.model.specs.Working.{firstDate, lastDate, blocksOf}
+use Rattle.civil.specs.Dates.{calendarDays}
 use Rattle.instant.specs.Instant.{nanos, InRange}
 use Rattle.instant.specs.declared.Instant.{Instant}
 use Rattle.zone_local.specs.Dates.{KeepsOffset, pieceOf}
@@ -26,13 +29,23 @@ pub record Window (k : ℕ) (lo hi : Instant) : Type 0 where
 abbrev pub mostWindowDates : ℕ
 mostWindowDates = 21
 
+-- the first and the last of them as days
+abbrev pub fromDay : LocalDates → ℕ
+fromDay d = dayOf (d .first)
+
+abbrev pub uptoDay : LocalDates → ℕ
+uptoDay d = dayOf (d .last)
+
 -- the dates of a window, at most 21 of the years -9999 to 9999
 pub record IsLocalDates (z : Zone) (lo hi : Instant) (d : LocalDates) : Type 0 where
-  pub first-is : d .first ≡ firstDate z (nanos lo)
-  pub last-is : d .last ≡ lastDate z (nanos hi)
-  pub low : firstDay ≤ d .first
-  pub high : d .last ≤ lastDay
-  pub few : d .last + 1 ≤ d .first + mostWindowDates
+  pub first-is : fromDay d ≡ firstDate z (nanos lo)
+  pub last-is : uptoDay d ≡ lastDate z (nanos hi)
+  pub low : firstDay ≤ fromDay d
+  pub high : uptoDay d ≤ lastDay
+  pub few : uptoDay d + 1 ≤ fromDay d + mostWindowDates
+  pub first-number : IsDayNumber (d .first)
+  pub first-below : fromDay d < calendarDays
+  pub last-number : IsDayNumber (d .last)
   pub kept : KeepsOffset z (nanos lo) (nanos hi) (d .offset)
 
 -- the local date at t by the offset o
@@ -55,7 +68,7 @@ OffsetHolds o lo hi = (o ≤ greatestOffset) × (fromSecond ≤ lo .sec) × (lo 
 -- a rule, and a date that a window of at most 14 days has in its zone
 abbrev pub RuleDate : List ℕ → Rule → LocalDates → ℕ → Instant → Instant → Type 0
 RuleDate pack r days d lo hi =
-    RuleFits pack r × Window 14 lo hi × IsLocalDates (ruleIs pack r .zone) lo hi days × (days .first ≤ d) × (d ≤ days .last)
+    RuleFits pack r × Window 14 lo hi × IsLocalDates (ruleIs pack r .zone) lo hi days × (fromDay days ≤ d) × (d ≤ uptoDay days)
 
 -- what the rule shows of a date in the window
 abbrev pub rulePiece : List ℕ → Rule → Instant → Instant → ℕ → List Block

@@ -1,6 +1,7 @@
 // The dates that a window [lo, hi) has in a zone, and what a rule shows of one of them. Zone files are in the lent pack.
 ghost use mathlib.Core.Path.{_≡_};
 ghost use Prim.Native.Nat.{_+_, _-_, _<_};
+ghost use Rattle.model.specs.DayNumber.{signedDay, dayOf};
 ghost use Rattle.zone.specs.Zones.{zoneIs, ZoneOk};
 ghost use Rattle.rule.specs.Rules.{fileAt};
 ghost use Rattle.zone_local.specs.Dates.{held};
@@ -12,21 +13,21 @@ use zone::Zone;
 
 // The dates that a window has in a zone, and the offset that the zone keeps around it, 0 where none is known.
 pub struct LocalDates {
-    pub first: u32,
-    pub last: u32,
+    pub first: i32,
+    pub last: i32,
     pub offset: u32,
 }
 
 // Those of a window by the offset o, which holds from four days before it to four days after it.
 fn dates_by(o: u32, lo: Instant, hi: Instant) -> LocalDates
     requires { ⌜ OffsetHolds o lo hi ⌝ }
-    ensures { λ r. ⌜ (r .first ≡ dayBy o lo - 2) × (r .last ≡ dayBy o hi + 1) × (r .offset ≡ o) ⌝ }
+    ensures { λ r. ⌜ (r .first ≡ signedDay (dayBy o lo - 2)) × (r .last ≡ signedDay (dayBy o hi + 1)) × (r .offset ≡ o) ⌝ }
 {
-    let first = (lo.sec + o as u64 - zone_offset::BIAS_64) / instant::DAY;
-    let last = (hi.sec + o as u64 - zone_offset::BIAS_64) / instant::DAY;
+    let first = civil::earlier(civil::day_at(lo.sec + o as u64 - zone_offset::BIAS_64), 2);
+    let last = civil::later(civil::day_at(hi.sec + o as u64 - zone_offset::BIAS_64), 1);
     LocalDates {
-        first: first as u32 - 2,
-        last: last as u32 + 1,
+        first,
+        last,
         offset: o,
     }
 }
@@ -60,9 +61,9 @@ pub fn local_dates(
 // ---- a rule's date
 
 // What the rule shows of a date in the window.
-pub fn piece_of(pack: &[u8], r: Rule, days: LocalDates, day: u32, lo: Instant, hi: Instant) -> Block
-    requires { ⌜ RuleDate (now pack) r days day lo hi ⌝ }
-    ensures { λ x. ⌜ held x ≡ rulePiece (now (pack .entry)) r lo hi day ⌝ }
+pub fn piece_of(pack: &[u8], r: Rule, days: LocalDates, day: i32, lo: Instant, hi: Instant) -> Block
+    requires { ⌜ RuleDate (now pack) r days (dayOf day) lo hi ⌝ }
+    ensures { λ x. ⌜ held x ≡ rulePiece (now (pack .entry)) r lo hi (dayOf day) ⌝ }
 {
     let z = r.zone;
     let from = r.from;

@@ -6,14 +6,14 @@ use mathlib.Core.Logic.{_⊎_, inl, inr, ⊎-elim, _↔_}
 use Prim.Native.Nat.{ℕ, zero, suc, _+_, _*_, _-_, _≤_, _<_}
 use native.Mathlib.Nat.{eq-or-lt-of-le}
 use native.Mathlib.Omega.{arith}
-use borrow.Author.Tests.{eqb-true, eq-eqb, ne-eqb}
-use lib.Dec.{eqb}
+use borrow.Author.Tests.{leb-false, eqb-true, eq-eqb, ne-eqb}
+use lib.Dec.{leb, eqb}
 use lib.ListN.{length, length-append, length-map}
-use Rattle.model.specs.Basic.{any, among, filter, run, joined}
+use Rattle.model.specs.Basic.{if_then_else_, isIn, any, among, filter, run, joined}
 use Rattle.model.specs.Blocks.{Block, block, union}
 use Rattle.model.specs.Walk.{onward}
 use Rattle.model.specs.Working.{holidayRule, firstDate, lastDate, blocksOf}
-use Rattle.laws_base.specs.Test.{by-test, clash}
+use Rattle.laws_base.specs.Test.{by-test, both-and, in-bounds, clash}
 use Rattle.laws_blocks.specs.Members.{InBlocks, NonEmpty, Normal, append-in, append-nonempty, chain-nonempty, union-normal, union-same, union-again}
 use Rattle.laws_blocks.specs.Count672.{union-length}
 use Rattle.book.specs.Meaning.{dayAt, datesAt}
@@ -136,6 +136,13 @@ union-members u a b c n p q h =
       λ i. x .1 (⊎-elim (λ z. inl z) (λ z. inr (v .1 (k .1 (w .0 z)))) (y .0 i)),
     ))
 
+-- a number that is not between two others
+outside : (a b n : ℕ) → isIn a b n ≡ false → (n < a) ⊎ (b < n)
+outside a b n e =
+    by-test (leb a n)
+    (λ t. by-test (leb n b) (λ v. clash true refl (sym (both-and (leb a n) (leb n b) t v) ∙ e)) (λ v. inr (leb-false n b v)))
+    (λ t. inl (leb-false a n t))
+
 -- the dates from `left` on have been added; those in front of it, up to the place `at` in the book, are to come
 pub record Closing (u : ℕ) (b : List ℕ) (p count : ℕ) (f : ℕ → List Block) (first last : ℕ) (l₀ : List ℕ) (w : ℕ) (l : List ℕ) (n left at : ℕ) : Type 0 where
   pub same : pairs n l ≡ union (pairs w l₀ ++ onward u (shown (among (datesAt b at (count - left))) f (run first (last + 1 - first))))
@@ -234,6 +241,23 @@ module _ (u : ℕ) (b : List ℕ) (p count : ℕ) (f : ℕ → List Block) (fa :
           upto = omega arith;
           long = g .long ∙ m .long;
         }
+
+    -- the same blocks in other memory
+    closing-same : (l′ : List ℕ) (n′ : ℕ) → pairs n′ l′ ≡ pairs n l → length l′ ≡ length l → Closing u b p count f first last l₀ w l n (left - 1) (at - 4)
+        → Closing u b p count f first last l₀ w l′ n′ (left - 1) (at - 4)
+    closing-same l′ n′ e g c = record { same = e ∙ c .same; place = c .place; upto = c .upto; long = g ∙ c .long }
+
+    -- a date, which is on if it is one of the window's
+    pub closing-turn : (d : ℕ) → d ≡ dayAt b (at - 4) → (l′ : List ℕ) (n′ : ℕ) → Filled u l n (if isIn first last d then f d else []) 1 l′ n′
+        → Closing u b p count f first last l₀ w l′ n′ (left - 1) (at - 4)
+    unfolding onward
+    closing-turn d e l′ n′ g =
+        by-test (isIn first last d)
+        (λ t. let i = in-bounds first last d t in closing-on d e (i .0) (i .1) l′ n′ (rw t at g))
+        (λ t.
+        let g′ : Filled u l n [] 1 l′ n′ = rw t at g in
+        closing-same l′ n′ (g′ .same ∙ ap union (append-nil (pairs n l)) ∙ union-again (pairs n l) closing-normal) (g′ .long)
+        (closing-off d e (outside first last d t)))
 
   pub closing-done : left ≤ 0 → ((d : ℕ) → length (f d) ≤ 1) → last + 1 ≤ first + 14 → Filled u l₀ w (shown (among (datesAt b p count)) f (run first (last + 1 - first))) 14 l n
   closing-done h k o =

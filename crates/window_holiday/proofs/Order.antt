@@ -1,7 +1,7 @@
 -- The ranks of dates grow with their days: a date of a lesser or a greater rank than a window's dates have is not in it. Assumes nothing.
 use mathlib.Core.Path.{_≡_, refl, sym, _∙_, ap, ap₂}
 use mathlib.Core.Bool.{Bool, true, false}
-use mathlib.Core.List.{List}
+use mathlib.Core.List.{List, []}
 use mathlib.Core.Logic.{_⊎_, inl, inr, ⊎-elim}
 use Prim.Native.Nat.{ℕ, zero, suc, _+_, _-_, _/_, _%_, _≤_, _<_}
 use native.Mathlib.Nat.{eq-or-lt-of-le}
@@ -10,13 +10,20 @@ use borrow.Author.Tests.{leb-false, le-leb, lt-leb}
 use lib.Dec.{leb}
 use lib.ListN.{getD}
 use Rattle.big_endian.specs.Be.{be16, be32}
-use Rattle.model.specs.Basic.{isIn}
+use lib.IntN.{ℤ}
+use Rattle.model.specs.Basic.{if_then_else_, isIn}
+use Rattle.model.specs.Blocks.{Block}
+use Rattle.model.specs.DayNumber.{dayOf}
 use Rattle.model.specs.Calendar.{isLeap, isDate, dayNumber, dateOf, daysInMonth, daysBeforeMonth, daysBeforeYear}
-use Rattle.laws_calendar.specs.Dates.{Has, IsDate, date-has, day-of-date, has-within, is-had, date-facts, year-mono, at-most-31}
+use Rattle.laws_calendar.specs.Dates.{Has, IsDate, date-has, day-of-date, has-within, is-had, date-facts, year-mono, at-most-31, no-date}
+use Rattle.laws_calendar.specs.Numbers.{IsDayNumber, day-given}
 use Rattle.laws_base.specs.Test.{by-test, both-and, clash}
 use Rattle.book.specs.Meaning.{writtenYear, dayAt}
-use Rattle.window_holiday.specs.Ranks.{rank, rankOf, rankAt, dayOfRank}
-use Rattle.civil.specs.Dates.{yearBias}
+use Rattle.window_holiday.specs.Ranks.{rank, rankOf, rankAt, dayOfRank, dateOfRank}
+use Rattle.civil.specs.Dates.{yearBias, dayRead}
+use Rattle.civil.specs.DateLaws.{day-no, read-day, read-none, read-number}
+use Rattle.civil.specs.declared.DayRead.{DayRead}
+use Rattle.civil.specs.declared.DayRead.the-variants.{Day, NoDate}
 
 -- ---- the order of dates
 
@@ -63,7 +70,7 @@ unfolding rankAt writtenYear
 rank-is b p h = omega arith
 
 -- a date of another rank is not in the window
-rank-out : (b : List ℕ) (p first last from : ℕ) → 0 < first → from ≤ rankOf first → isIn from (rankOf last) (rankAt b p) ≡ false → (dayAt b p < first) ⊎ (last < dayAt b p)
+rank-out : (b : List ℕ) (p first last from : ℕ) → 0 < first → from ≡ rankOf first → isIn from (rankOf last) (rankAt b p) ≡ false → (dayAt b p < first) ⊎ (last < dayAt b p)
 unfolding dayAt rankOf
 rank-out b p first last from z h e =
     let y : ℕ = writtenYear b p in let m : ℕ = getD b (p + 2) 0 in let d : ℕ = getD b (p + 3) 0 in
@@ -80,7 +87,7 @@ rank-out b p first last from z h e =
     (λ t. rw t (inl z))
 
 -- the same by the code's test
-pub rank-not : (b : List ℕ) (p first last from to k : ℕ) (r : Bool) → 0 < first → from ≤ rankOf first → to ≡ rankOf last → k ≡ rankAt b p → r ≡ isIn from to k → r ≡ false
+pub rank-not : (b : List ℕ) (p first last from to k : ℕ) (r : Bool) → 0 < first → from ≡ rankOf first → to ≡ rankOf last → k ≡ rankAt b p → r ≡ isIn from to k → r ≡ false
     → (dayAt b p < first) ⊎ (last < dayAt b p)
 rank-not b p first last from to k r z h e g q t = rank-out b p first last from z h (sym (ap₂ (λ (i j : ℕ). isIn from i j) e g) ∙ sym q ∙ t)
 
@@ -106,13 +113,37 @@ rank-read b p n r h e q =
     let x = h p in let y = h (p + 1) in let m = h (p + 2) in let d = h (p + 3) in
     let g : r ≡ rankAt b p = omega arith in (g, day-of-rank-is b p r g m d)
 
-abbrev hasDate : ℕ → Bool
-hasDate k = isDate (k / 65536 - yearBias) (k / 256 % 256) (k % 256)
+-- ---- the date of a rank
 
-pub no-day : (k : ℕ) → hasDate k ≡ false → 0 ≡ dayOfRank k
-unfolding dayOfRank
-no-day k e = rw e
+pub no-rank : (k : ℕ) → k / 65536 < yearBias → NoDate ≡ dateOfRank k
+unfolding dateOfRank
+no-rank k h = day-no (record { year = k / 65536 - yearBias; month = k / 256 % 256; day = k % 256 }) (no-date (λ v. let x = v .year-low in omega arith))
 
-pub a-day : (k n : ℕ) → hasDate k ≡ true → n ≡ dayNumber (k / 65536 - yearBias) (k / 256 % 256) (k % 256) → n ≡ dayOfRank k
-unfolding dayOfRank
-a-day k n e h = rw e h
+pub a-rank : (k y m d : ℕ) {r : DayRead} → y ≡ k / 65536 - yearBias → m ≡ k / 256 % 256 → d ≡ k % 256 → r ≡ dayRead (record { year = y; month = m; day = d }) → r ≡ dateOfRank k
+unfolding dateOfRank
+a-rank k y m d p q o e = e ∙ (λ i. dayRead (record { year = p i; month = q i; day = o i }))
+
+-- no date has day 0
+pub rank-none : (k : ℕ) {r : DayRead} → r ≡ dateOfRank k → r ≡ NoDate → dayOfRank k ≡ 0
+unfolding dateOfRank dayOfRank
+rank-none k e h = rw (read-none _ (sym e ∙ h))
+
+pub rank-day : (k : ℕ) {r : DayRead} {z : ℤ} → r ≡ dateOfRank k → r ≡ Day z → dayOfRank k ≡ dayOf z
+unfolding dateOfRank dayOfRank
+rank-day k {z = z} e h = let q = read-day _ z (sym e ∙ h) in rw (q .0) (sym (day-given (q .1)))
+
+pub rank-number : (k : ℕ) {r : DayRead} {z : ℤ} → r ≡ dateOfRank k → r ≡ Day z → IsDayNumber z
+unfolding dateOfRank
+rank-number k {z = z} e h = read-number _ z (sym e ∙ h)
+
+-- ---- a date that the window has, or has not
+
+module _ (a b n : ℕ) (l : List Block) where
+  pub piece-before : n < a → (if isIn a b n then l else []) ≡ []
+  piece-before h = rw (lt-leb a n h)
+
+  pub piece-behind : a ≤ n → b < n → (if isIn a b n then l else []) ≡ []
+  piece-behind h k = rw (le-leb a n h, lt-leb n b k)
+
+  pub piece-inside : a ≤ n → n ≤ b → l ≡ (if isIn a b n then l else [])
+  piece-inside h k = rw (le-leb a n h, le-leb n b k)

@@ -1,2 +1,2 @@
-pub mod Holiday
 pub mod Ranks
+pub mod Holiday

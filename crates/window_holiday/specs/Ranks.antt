@@ -5,7 +5,8 @@ use lib.ListN.{getD}
 use Rattle.big_endian.specs.Be.{be16}
 use Rattle.model.specs.Basic.{if_then_else_}
 use Rattle.model.specs.Calendar.{dateOf, isDate, dayNumber}
-use Rattle.civil.specs.Dates.{yearBias}
+use Rattle.civil.specs.Dates.{yearBias, dayRead}
+use Rattle.civil.specs.declared.DayRead.{DayRead}
 
 -- the rank of a date: year, month and day as one number, the year counted from -32768, which is the first that two bytes say
 abbrev pub rank : ℕ → ℕ → ℕ → ℕ
@@ -18,6 +19,10 @@ rankOf n = rank (dateOf n .year + yearBias) (dateOf n .month) (dateOf n .day)
 -- that of what is written at p
 unfoldable pub rankAt : List ℕ → ℕ → ℕ
 rankAt b p = rank ((be16 b p + 32768) % 65536) (getD b (p + 2) 0) (getD b (p + 3) 0)
+
+-- the date that has the rank k, if there is one
+unfoldable pub dateOfRank : ℕ → DayRead
+dateOfRank k = dayRead (record { year = k / 65536 - yearBias; month = k / 256 % 256; day = k % 256 })
 
 -- the day of the date that has the rank k, 0 where it is no date's
 unfoldable pub dayOfRank : ℕ → ℕ

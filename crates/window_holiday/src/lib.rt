@@ -8,9 +8,12 @@ ghost use Rattle.book.specs.Meaning.{dayAt};
 ghost use Rattle.rule.specs.Rules.{HolidaysFit};
 ghost use Rattle.window_dates.specs.Windows.{Window};
 ghost use Rattle.window_piece.specs.Filled.{PairsReady};
-ghost use Rattle.window_holiday.specs.Holiday.{FreeDate, DateAdded, Closed};
-ghost use Rattle.window_holiday.specs.Ranks.{rankAt, rankOf, dayOfRank};
-ghost use Rattle.civil.specs.Dates.{calendarDays};
+ghost use Rattle.window_holiday.specs.Holiday.{FreeDate, FreeDates, DateAdded, RankAdded, Closed};
+ghost use Rattle.window_holiday.specs.Ranks.{rankAt, rankOf, dayOfRank, dateOfRank};
+ghost use Rattle.civil.specs.Dates.{InCalendar};
+ghost use Rattle.model.specs.DayNumber.{dayOf};
+use civil::Date;
+use civil::DayRead;
 use civil::Time;
 use instant::Instant;
 use rule::HolidayDates;
@@ -26,14 +29,14 @@ fn free_into(
     c: HolidayDates,
     days: LocalDates,
     f: Frame,
-    day: u32,
+    day: i32,
     lo: Instant,
     hi: Instant,
     out: &mut [u64],
     w: usize,
 ) -> usize
-    requires { ⌜ FreeDate (now pack) c days f day lo hi × PairsReady (now out) w 1 ⌝ }
-    ensures { λ n. ⌜ DateAdded (now (pack .entry)) c lo hi day (now (out .entry)) w (now (out .exit)) n ⌝ }
+    requires { ⌜ FreeDate (now pack) c days f (dayOf day) lo hi × PairsReady (now out) w 1 ⌝ }
+    ensures { λ n. ⌜ DateAdded (now (pack .entry)) c lo hi (dayOf day) (now (out .entry)) w (now (out .exit)) n ⌝ }
 {
     if f.first == 0 {
         let z = c.zone;
@@ -45,7 +48,7 @@ fn free_into(
         let x = zone_local::piece_by(file, z, days.offset, midnight, midnight, day, lo, hi);
         return window_piece::piece_into(x, lo, out, w);
     }
-    let k = f.first + (day - days.first) as u64 * window_piece::DAY_NANOS;
+    let k = f.first + civil::days_from(days.first, day) as u64 * window_piece::DAY_NANOS;
     window_piece::span_into(k, k + window_piece::DAY_NANOS, f.lo, f.hi, out, w)
 }
 
@@ -69,39 +72,53 @@ fn in_ranks(k: u32, from: u64, to: u64) -> bool
     n <= to
 }
 
-// The day of the date that has the rank k, 0 where it is no date's.
-fn day_of_rank(k: u32) -> u32
-    ensures { λ r. ⌜ r ≡ dayOfRank k ⌝ }
+// The day of the date that has the rank k, if there is one.
+fn day_of_rank(k: u32) -> DayRead
+    ensures { λ r. ⌜ r ≡ dateOfRank k ⌝ }
 {
     if k / 65536 < civil::YEAR_BIAS {
-        return 0;
+        return DayRead::NoDate;
     }
     let year = k / 65536 - civil::YEAR_BIAS;
     let month = k / 256 % 256;
     let day = k % 256;
-    if !civil::is_date(year, month, day) {
-        return 0;
-    }
-    civil::day_number(year, month, day)
+    civil::day_of(Date { year, month, day })
 }
 
 // The rank of a day's date.
-fn rank_of(day: u32) -> u64
-    requires { ⌜ day < calendarDays ⌝ }
-    ensures { λ r. ⌜ r ≡ rankOf day ⌝ }
+fn rank_of(day: i32) -> u64
+    requires { ⌜ InCalendar day ⌝ }
+    ensures { λ r. ⌜ r ≡ rankOf (dayOf day) ⌝ }
 {
     let d = civil::date_of(day);
     (d.year as u64 + civil::YEAR_BIAS as u64) * 65536 + d.month as u64 * 256 + d.day as u64
 }
 
-// The same; 0 for a day behind those that the calendar has.
-fn rank_from(day: u32) -> u64
-    ensures { λ r. ⌜ r ≤ rankOf day ⌝ }
+// Adds the whole of the date that has the rank k, if the window has that date.
+fn rank_into(
+    pack: &[u8],
+    c: HolidayDates,
+    days: LocalDates,
+    f: Frame,
+    k: u32,
+    lo: Instant,
+    hi: Instant,
+    out: &mut [u64],
+    w: usize,
+) -> usize
+    requires { ⌜ FreeDates (now pack) c days f lo hi × PairsReady (now out) w 1 ⌝ }
+    ensures { λ n. ⌜ RankAdded (now (pack .entry)) c days lo hi k (now (out .entry)) w (now (out .exit)) n ⌝ }
 {
-    if day < civil::CALENDAR_DAYS {
-        return rank_of(day);
+    let DayRead::Day(d) = day_of_rank(k) else {
+        return w;
+    };
+    if civil::precedes(d, days.first) {
+        return w;
     }
-    0
+    if civil::precedes(days.last, d) {
+        return w;
+    }
+    free_into(pack, c, days, f, d, lo, hi, out, w)
 }
 
 // Adds the dates of a holiday record that the window has, by one pass over the record's dates, from the last to the first. The day is
@@ -121,10 +138,8 @@ pub fn holidays_into(
     let z = c.zone;
     let days = window_dates::local_dates(pack, c.at, c.len, z, lo, hi);
     let f = window_piece::frame_of(days, lo, hi);
-    let first = days.first;
-    let last = days.last;
-    let from = rank_from(first);
-    let to = rank_of(last);
+    let from = rank_of(days.first);
+    let to = rank_of(days.last);
     let mut n = w;
     let mut left = c.count;
     let mut at = c.dates + book_dates::DATE_SIZE * c.count;
@@ -133,12 +148,7 @@ pub fn holidays_into(
         at -= book_dates::DATE_SIZE;
         let k = rank_at(book, at);
         if in_ranks(k, from, to) {
-            let d = day_of_rank(k);
-            if first <= d {
-                if d <= last {
-                    n = free_into(pack, c, days, f, d, lo, hi, out, n);
-                }
-            }
+            n = rank_into(pack, c, days, f, k, lo, hi, out, n);
         }
     }
     n

@@ -17,7 +17,7 @@ use Rattle.laws_blocks.specs.Members.{NonEmpty, Normal, append-nonempty, chain-
 use Rattle.instant.specs.Instant.{nanos}
 use Rattle.block.specs.declared.Block.{Block as Item}
 use Rattle.zone_local.specs.Dates.{held}
-use Rattle.window_dates.proofs.Fill.{shown, date-on, date-off, dates-done, restOf, rest-more, rest-end}
+use Rattle.window_dates.proofs.Fill.{shown, datesFrom, dates-whole, date-on, date-off, dates-done, restOf, rest-more, rest-end}
 use Rattle.block_pairs.specs.Pairs.{pairs}
 use Rattle.window_piece.specs.Filled.{Filled, PairsReady}
 use Rattle.window_piece.proofs.Laws.{Apart, apart-none, apart-both, apart-onward, union-steps, onward-append}
@@ -33,7 +33,7 @@ put-onward t s e h =
     (λ p. let q = ltb-false s e p in rw (p, le-ltb (s - t) (e - t) (omega arith)))
 
 -- nothing is added
-filled-none : (t : ℕ) (l : List ℕ) (w : ℕ) (b : List Block) (k : ℕ) → b ≡ [] → Normal (pairs w l) → Filled t l w b k l w
+pub filled-none : (t : ℕ) (l : List ℕ) (w : ℕ) (b : List Block) (k : ℕ) → b ≡ [] → Normal (pairs w l) → Filled t l w b k l w
 unfolding onward
 filled-none t l w b k e c = record { same = rw (e, append-nil (pairs w l)) (sym (union-again (pairs w l) c)); count = omega arith; long = refl }
 
@@ -92,16 +92,16 @@ apart-shown t on f h (d ∷ l) =
     (λ e. rw e (apart-both t (f d) (shown on f l) (h d) (apart-shown t on f h l)))
     (λ e. rw e (apart-shown t on f h l))
 
--- the dates from d to last are to come; all of them are k
-pub record Dating (t : ℕ) (on : ℕ → Bool) (f : ℕ → List Block) (last k : ℕ) (l₀ : List ℕ) (w : ℕ) (whole : List Block) (l : List ℕ) (n d : ℕ) : Type 0 where
-  pub same : union (pairs n l ++ onward t (shown on f (run d (last + 1 - d)))) ≡ union (pairs w l₀ ++ onward t whole)
+-- of k dates in a row, those from the i-th on are to come
+pub record Dating (t : ℕ) (on : ℕ → Bool) (f : ℕ → List Block) (first k : ℕ) (l₀ : List ℕ) (w : ℕ) (l : List ℕ) (n i : ℕ) : Type 0 where
+  pub same : union (pairs n l ++ onward t (shown on f (datesFrom first k i))) ≡ union (pairs w l₀ ++ onward t (shown on f (run first k)))
   pub normal : Normal (pairs n l)
-  pub count : n + (last + 1 - d) ≤ w + k
+  pub count : n + (k - i) ≤ w + k
   pub long : length l ≡ length l₀
 
-pub dating-starts : (t : ℕ) (on : ℕ → Bool) (f : ℕ → List Block) (last : ℕ) (l : List ℕ) (w d : ℕ) → Normal (pairs w l)
-    → Dating t on f last (last + 1 - d) l w (shown on f (run d (last + 1 - d))) l w d
-dating-starts t on f last l w d c = record { same = refl; normal = c; count = omega arith; long = refl }
+pub dating-starts : (t : ℕ) (on : ℕ → Bool) (f : ℕ → List Block) (first k : ℕ) (l : List ℕ) (w : ℕ) → Normal (pairs w l) → Dating t on f first k l w l w 0
+dating-starts t on f first k l w c =
+    record { same = ap (λ (d : List ℕ). union (pairs w l ++ onward t (shown on f d))) (dates-whole first k); normal = c; count = omega arith; long = refl }
 
 -- a step of the sum of lists
 steps : (t : ℕ) (a b c r whole : List Block) (x : List Block) → NonEmpty a → Apart t b → Apart t c → r ≡ union (a ++ onward t b) → b ++ c ≡ x
@@ -110,38 +110,38 @@ steps t a b c r whole x n p q e g h =
     union-steps a (onward t b) (onward t c) r n (apart-onward t b p) (apart-onward t c q) e
     ∙ ap (λ (k : List Block). union (a ++ k)) (sym (onward-append t b c) ∙ ap (onward t) g) ∙ h
 
-module _ (t : ℕ) (on : ℕ → Bool) (f : ℕ → List Block) (fa : (d : ℕ) → Apart t (f d)) (last k : ℕ) (l₀ : List ℕ) (w : ℕ) (whole : List Block) (l : List ℕ) (n d : ℕ)
-    (m : Dating t on f last k l₀ w whole l n d) where
-  pub dating-ready : d ≤ last → 2 * (w + k) ≤ length l₀ → PairsReady l n 1
+module _ (t : ℕ) (on : ℕ → Bool) (f : ℕ → List Block) (fa : (d : ℕ) → Apart t (f d)) (first k : ℕ) (l₀ : List ℕ) (w : ℕ) (l : List ℕ) (n i : ℕ)
+    (m : Dating t on f first k l₀ w l n i) where
+  pub dating-ready : i < k → 2 * (w + k) ≤ length l₀ → PairsReady l n 1
   dating-ready h r = let a = m .count in let b = m .long in record { normal = m .normal; room = omega arith }
 
-  pub dating-on : d ≤ last → on d ≡ true → (l′ : List ℕ) (n′ : ℕ) → Filled t l n (f d) 1 l′ n′ → Dating t on f last k l₀ w whole l′ n′ (d + 1)
+  pub dating-on : i < k → on (first + i) ≡ true → (l′ : List ℕ) (n′ : ℕ) → Filled t l n (f (first + i)) 1 l′ n′ → Dating t on f first k l₀ w l′ n′ (i + 1)
   dating-on h e l′ n′ g =
       let a = m .count in let b = g .count in
       record {
-        same = steps t (pairs n l) (f d) (shown on f (run (d + 1) (last + 1 - (d + 1)))) (pairs n′ l′) (union (pairs w l₀ ++ onward t whole)) (shown on f (run d (last + 1 - d)))
-            (chain-nonempty 0 (pairs n l) (m .normal)) (fa d) (apart-shown t on f fa (run (d + 1) (last + 1 - (d + 1)))) (g .same)
-            (date-on on f d last [] (shown on f (run d (last + 1 - d))) refl h e (f d) refl) (m .same);
-        normal = filled-normal t l n (f d) 1 l′ n′ g (m .normal) (fa d);
+        same = steps t (pairs n l) (f (first + i)) (shown on f (datesFrom first k (i + 1))) (pairs n′ l′) (union (pairs w l₀ ++ onward t (shown on f (run first k)))) (shown on f (datesFrom first k i))
+            (chain-nonempty 0 (pairs n l) (m .normal)) (fa (first + i)) (apart-shown t on f fa (datesFrom first k (i + 1))) (g .same)
+            (date-on on f first k i [] (shown on f (datesFrom first k i)) refl h e (f (first + i)) refl) (m .same);
+        normal = filled-normal t l n (f (first + i)) 1 l′ n′ g (m .normal) (fa (first + i));
         count = omega arith;
         long = g .long ∙ m .long;
       }
 
-  pub dating-off : d ≤ last → on d ≡ false → Dating t on f last k l₀ w whole l n (d + 1)
+  pub dating-off : i < k → on (first + i) ≡ false → Dating t on f first k l₀ w l n (i + 1)
   dating-off h e =
       let a = m .count in
       record {
-        same = ap (λ (x : List Block). union (pairs n l ++ onward t x)) (date-off on f d last [] (shown on f (run d (last + 1 - d))) refl h e) ∙ m .same;
+        same = ap (λ (x : List Block). union (pairs n l ++ onward t x)) (date-off on f first k i [] (shown on f (datesFrom first k i)) refl h e) ∙ m .same;
         normal = m .normal;
         count = omega arith;
         long = m .long;
       }
 
-  pub dating-done : last < d → Filled t l₀ w whole k l n
+  pub dating-done : k ≤ i → Filled t l₀ w (shown on f (run first k)) k l n
   unfolding onward
   dating-done h =
       let a = m .count in
-      let z : [] ≡ shown on f (run d (last + 1 - d)) = dates-done on f d last [] (shown on f (run d (last + 1 - d))) refl h in
+      let z : [] ≡ shown on f (datesFrom first k i) = dates-done on f first k i [] (shown on f (datesFrom first k i)) refl h in
       record {
         same = sym (union-again (pairs n l) (m .normal)) ∙ ap union (sym (append-nil (pairs n l))) ∙ ap (λ (x : List Block). union (pairs n l ++ onward t x)) z ∙ m .same;
         count = omega arith;

@@ -29,7 +29,7 @@ use Rattle.rule.specs.declared.Rule.{Rule as Rule′}
 use Rattle.rule.specs.Rules.{fileAt, ruleIs, RuleFits}
 use Rattle.zone_local.specs.Dates.{held, pieceOf, during, tillTime, KeepsOffset, IsIn}
 use Rattle.zone_local.proofs.Facts.{plain-piece, kept-small}
-use Rattle.window_dates.specs.Windows.{Window, IsLocalDates}
+use Rattle.window_dates.specs.Windows.{Window, IsLocalDates, fromDay, uptoDay}
 use Rattle.window_dates.specs.declared.LocalDates.{LocalDates}
 use Rattle.window_dates.proofs.Fill.{shown}
 use Rattle.window_piece.specs.Filled.{InFortnight, Filled, IsFrame, midnight, plainPiece}
@@ -68,17 +68,17 @@ clipped-by c lo hi s e lo′ hi′ s′ e′ p q r t =
     sym (onward-moved lo c (clipped lo hi s e)) ∙ ap (onward (lo + c)) (sym (clipped-moved c lo hi s e))
     ∙ rw (p, q, r, t)
 
-module _ (days : LocalDates) (lo hi : Instant) (f : Frame) (m : IsFrame days lo hi f) (known : 0 < f .first) (early : firstSecond ≤ lo .sec) (from : firstDay ≤ days .first)
+module _ (days : LocalDates) (lo hi : Instant) (f : Frame) (m : IsFrame days lo hi f) (known : 0 < f .first) (early : firstSecond ≤ lo .sec) (from : firstDay ≤ fromDay days)
     (small : days .offset ≤ greatestOffset) where
-  frame-at : (d x : ℕ) → days .first ≤ d → (midnight (f .first) (days .first) d + x) + (lo .sec - 1209600) * 1000000000 ≡ less (days .offset * second) d x
+  frame-at : (d x : ℕ) → fromDay days ≤ d → (midnight (f .first) (fromDay days) d + x) + (lo .sec - 1209600) * 1000000000 ≡ less (days .offset * second) d x
   frame-at d x h = let e = m .first-is known in omega arith
 
-  frame-piece : (d a b : ℕ) → days .first ≤ d
-      → onward (f .lo) (plainPiece f (days .first) a b d)
+  frame-piece : (d a b : ℕ) → fromDay days ≤ d
+      → onward (f .lo) (plainPiece f (fromDay days) a b d)
       ≡ onward (nanos lo) (clipped (nanos lo) (nanos hi) (less (days .offset * second) d a) (less (days .offset * second) d b))
   frame-piece d a b h =
       let p = m .lo-is in let q = m .hi-is in
-      clipped-by ((lo .sec - 1209600) * 1000000000) (f .lo) (f .hi) (midnight (f .first) (days .first) d + a) (midnight (f .first) (days .first) d + b)
+      clipped-by ((lo .sec - 1209600) * 1000000000) (f .lo) (f .hi) (midnight (f .first) (fromDay days) d + a) (midnight (f .first) (fromDay days) d + b)
       (nanos lo) (nanos hi) (less (days .offset * second) d a) (less (days .offset * second) d b)
       (omega arith) (omega arith) (frame-at d a h) (frame-at d b h)
 
@@ -95,7 +95,7 @@ unfolding blocksOf localDates pieceOf
 rule-shows r lo hi a b p q = rw (p, q)
 
 -- a window of seven days has at most 14 dates
-pub few-dates : (f : List ℕ) (z : Zone′) (lo hi : Instant) (days : LocalDates) → ZoneOk f z → Window 7 lo hi → IsLocalDates (zoneIs f z) lo hi days → days .last + 1 ≤ days .first + 14
+pub few-dates : (f : List ℕ) (z : Zone′) (lo hi : Instant) (days : LocalDates) → ZoneOk f z → Window 7 lo hi → IsLocalDates (zoneIs f z) lo hi days → uptoDay days + 1 ≤ fromDay days + 14
 few-dates f z lo hi days o w q =
     let k = dates-most (zoneIs f z) (fits-sound (zoneIs f z) (o .fits)) (nanos lo) (nanos hi) 7 (w .short) in
     let a = q .first-is in let b = q .last-is in
@@ -114,23 +114,23 @@ offset-small f z lo hi days o w q = small (days .offset) (λ h. kept-small f z l
 
 module _ (lo hi : Instant) (days : LocalDates) (w : Window 14 lo hi) (x : Frame) (m : IsFrame days lo hi x) (known : 0 < x .first) where
   -- a whole date, by the offset
-  pub free-plain : (f : List ℕ) (z : Zone′) → ZoneOk f z → IsLocalDates (zoneIs f z) lo hi days → (d : ℕ) → days .first ≤ d → d ≤ days .last
-      → onward (x .lo) (clipped (x .lo) (x .hi) (midnight (x .first) (days .first) d) (midnight (x .first) (days .first) d + day))
+  pub free-plain : (f : List ℕ) (z : Zone′) → ZoneOk f z → IsLocalDates (zoneIs f z) lo hi days → (d : ℕ) → fromDay days ≤ d → d ≤ uptoDay days
+      → onward (x .lo) (clipped (x .lo) (x .hi) (midnight (x .first) (fromDay days) d) (midnight (x .first) (fromDay days) d + day))
       ≡ onward (nanos lo) (pieceOf (during (zoneIs f z) 0 0) (nanos lo) (nanos hi) d)
   unfolding tillTime
   free-plain f z o q d h k =
       let zero-time : Time = record { seconds = 0; nanos = 0 } in
       let fits : TimeFits zero-time = record { seconds = omega arith; nanos = omega arith } in
       let u = w .low .low in let v = q .low in
-      let e : midnight (x .first) (days .first) d ≡ midnight (x .first) (days .first) d + 0 = omega arith in
+      let e : midnight (x .first) (fromDay days) d ≡ midnight (x .first) (fromDay days) d + 0 = omega arith in
       let n = q .first-is in let r = q .last-is in
-      ap (λ (y : ℕ). onward (x .lo) (clipped (x .lo) (x .hi) y (midnight (x .first) (days .first) d + day))) e
+      ap (λ (y : ℕ). onward (x .lo) (clipped (x .lo) (x .hi) y (midnight (x .first) (fromDay days) d + day))) e
       ∙ frame-piece days lo hi x m known (omega arith) (omega arith) (offset-small f z lo hi days o w q) d 0 day h
       ∙ ap (onward (nanos lo)) (sym (plain-clipped f z zero-time zero-time lo hi (days .offset) d o fits fits (q .kept) (record { order = w .order; first = omega arith; last = omega arith }) (m .known known)))
 
   -- a date of a rule, by the offset
   pub date-plain : (p : List ℕ) (r : Rule′) (a b : ℕ) → RuleFits p r → IsLocalDates (ruleIs p r .zone) lo hi days → a ≡ timeIn (r .from) → b ≡ tillTime (timeIn (r .from)) (timeIn (r .to))
-      → (d : ℕ) → days .first ≤ d → d ≤ days .last → onward (x .lo) (plainPiece x (days .first) a b d) ≡ onward (nanos lo) (pieceOf (ruleIs p r) (nanos lo) (nanos hi) d)
+      → (d : ℕ) → fromDay days ≤ d → d ≤ uptoDay days → onward (x .lo) (plainPiece x (fromDay days) a b d) ≡ onward (nanos lo) (pieceOf (ruleIs p r) (nanos lo) (nanos hi) d)
   date-plain p r a b o q i j d h k =
       let u = w .low .low in let v = q .low in
       let f : List ℕ = fileAt p (r .at) (r .len) in

@@ -10,6 +10,7 @@ use Rattle.laws_blocks.specs.Members.{Normal}
 use Rattle.instant.specs.Instant.{nanos}
 use Rattle.instant.specs.declared.Instant.{Instant}
 use Rattle.block.specs.declared.Block.{Block as Item}
+use Rattle.window_dates.specs.Windows.{fromDay}
 use Rattle.window_dates.specs.declared.LocalDates.{LocalDates}
 use Rattle.block_pairs.specs.Pairs.{pairs}
 use Rattle.window_piece.specs.declared.Frame.{Frame}
@@ -52,7 +53,7 @@ pub record IsFrame (days : LocalDates) (lo hi : Instant) (f : Frame) : Type 0 wh
   pub lo-is : f .lo ≡ fortnight + lo .ns
   pub hi-is : f .hi + nanos lo ≡ f .lo + nanos hi
   pub known : 0 < f .first → 0 < days .offset
-  pub first-is : 0 < f .first → f .first + (lo .sec + days .offset) * second ≡ (days .first * daySeconds + lead) * second
+  pub first-is : 0 < f .first → f .first + (lo .sec + days .offset) * second ≡ (fromDay days * daySeconds + lead) * second
   pub close : f .first ≤ near
 
 -- the midnight of a date d, the first one's standing at m

@@ -5,6 +5,7 @@ ghost use Prim.Native.Nat.{_+_, _*_, _-_, _≤_, _<_};
 ghost use Rattle.model.specs.Blocks.{clipped};
 ghost use Rattle.model.specs.Instant.{day, lastSecond};
 ghost use Rattle.model.specs.Offset.{greatestOffset};
+ghost use Rattle.laws_calendar.specs.Numbers.{IsDayNumber};
 ghost use Rattle.instant.specs.Instant.{nanos};
 ghost use Rattle.civil.specs.Dates.{timeIn, TimeFits};
 ghost use Rattle.zone_local.specs.Dates.{held, tillTime};
@@ -83,10 +84,10 @@ pub struct Frame {
 
 // The frame of a window; `first` is 0 where no offset is known.
 pub fn frame_of(days: LocalDates, lo: Instant, hi: Instant) -> Frame
-    requires { ⌜ Window 14 lo hi × (days .offset ≤ greatestOffset) ⌝ }
+    requires { ⌜ Window 14 lo hi × (days .offset ≤ greatestOffset) × IsDayNumber (days .first) ⌝ }
     ensures { λ r. ⌜ IsFrame days lo hi r ⌝ }
 {
-    let t = days.first as u64 * instant::DAY + LEAD;
+    let t = civil::midnight(days.first) + LEAD;
     let u = lo.sec + days.offset as u64;
     let a = FORTNIGHT + lo.ns as u64;
     let b = a + since(lo, hi);

@@ -15,7 +15,7 @@ use Rattle.civil.specs.Dates.{timeIn}
 use Rattle.rule.specs.declared.Rule.{Rule as Rule′}
 use Rattle.rule.specs.Rules.{ruleIs, RuleFits}
 use Rattle.zone_local.specs.Dates.{pieceOf, tillTime}
-use Rattle.window_dates.specs.Windows.{Window, IsLocalDates}
+use Rattle.window_dates.specs.Windows.{Window, IsLocalDates, fromDay, uptoDay}
 use Rattle.window_dates.specs.declared.LocalDates.{LocalDates}
 use Rattle.window_dates.proofs.Fill.{shown}
 use Rattle.window_piece.specs.Filled.{IsFrame, plainPiece}
@@ -37,9 +37,9 @@ shown-moved t u on f g (suc n) a h =
 
 -- the dates of a rule, by the offset
 pub rule-plain : (lo hi : Instant) (days : LocalDates) (w : Window 14 lo hi) (x : Frame) (m : IsFrame days lo hi x) (known : 0 < x .first) (p : List ℕ) (r : Rule′) (a b : ℕ) → RuleFits p r → IsLocalDates (ruleIs p r .zone) lo hi days → a ≡ timeIn (r .from) → b ≡ tillTime (timeIn (r .from)) (timeIn (r .to))
-    → onward (x .lo) (plain x (days .first) (days .last) (r .days) a b) ≡ onward (nanos lo) (blocksOf (nanos lo) (nanos hi) (ruleIs p r))
+    → onward (x .lo) (plain x (fromDay days) (uptoDay days + 1 - fromDay days) (r .days) a b) ≡ onward (nanos lo) (blocksOf (nanos lo) (nanos hi) (ruleIs p r))
 unfolding plain
 rule-plain lo hi days w x m known p r a b o q i j =
-    shown-moved (x .lo) (nanos lo) (ruleIs p r .on) (plainPiece x (days .first) a b) (pieceOf (ruleIs p r) (nanos lo) (nanos hi)) (days .last + 1 - days .first) (days .first)
+    shown-moved (x .lo) (nanos lo) (ruleIs p r .on) (plainPiece x (fromDay days) a b) (pieceOf (ruleIs p r) (nanos lo) (nanos hi)) (uptoDay days + 1 - fromDay days) (fromDay days)
     (λ d h k. date-plain lo hi days w x m known p r a b o q i j d h (omega arith))
-    ∙ ap (onward (nanos lo)) (rule-shows (ruleIs p r) (nanos lo) (nanos hi) (days .first) (days .last) (q .first-is) (q .last-is))
+    ∙ ap (onward (nanos lo)) (rule-shows (ruleIs p r) (nanos lo) (nanos hi) (fromDay days) (uptoDay days) (q .first-is) (q .last-is))

@@ -1,6 +1,6 @@
 // What a work or break rule has in a window of at most seven days, as pairs of numbers in lent memory: the blocks' borders in nanoseconds from the
 // window's start.
-ghost use Prim.Native.Nat.{_+_, _-_};
+ghost use Rattle.model.specs.DayNumber.{dayOf};
 ghost use Rattle.rule.specs.Rules.{RuleFits};
 ghost use Rattle.window_dates.specs.Windows.{Window, RuleDate};
 ghost use Rattle.window_piece.specs.Filled.{PairsReady};
@@ -13,30 +13,30 @@ use window_piece::Frame;
 // Adds what the dates of the set show of the window, each from a to b nanoseconds behind its midnight.
 fn plain_into(
     f: Frame,
-    first: u32,
-    last: u32,
+    first: i32,
+    count: u32,
     set: u8,
     a: u64,
     b: u64,
     out: &mut [u64],
     w: usize,
 ) -> usize
-    requires { ⌜ PlainFits f first last a b × PairsReady (now out) w (last + 1 - first) ⌝ }
-    ensures { λ n. ⌜ PlainAdded f first last set a b (now (out .entry)) w (now (out .exit)) n ⌝ }
+    requires { ⌜ PlainFits f first count a b × PairsReady (now out) w count ⌝ }
+    ensures { λ n. ⌜ PlainAdded f (dayOf first) count set a b (now (out .entry)) w (now (out .exit)) n ⌝ }
 {
     let lo = f.lo;
     let hi = f.hi;
     let mut k = f.first;
     let mut n = w;
-    let mut d = first;
-    while d <= last {
-        if rule::applies(set, d) {
+    let mut i: u32 = 0;
+    while i < count {
+        if rule::applies(set, civil::later(first, i)) {
             n = window_piece::span_into(k + a, k + b, lo, hi, out, n);
             k += window_piece::DAY_NANOS;
-            d += 1;
+            i += 1;
         } else {
             k += window_piece::DAY_NANOS;
-            d += 1;
+            i += 1;
         }
     }
     n
@@ -47,14 +47,14 @@ fn date_into(
     pack: &[u8],
     r: Rule,
     days: LocalDates,
-    day: u32,
+    day: i32,
     lo: Instant,
     hi: Instant,
     out: &mut [u64],
     w: usize,
 ) -> usize
-    requires { ⌜ RuleDate (now pack) r days day lo hi × PairsReady (now out) w 1 ⌝ }
-    ensures { λ n. ⌜ PieceAdded (now (pack .entry)) r lo hi day (now (out .entry)) w (now (out .exit)) n ⌝ }
+    requires { ⌜ RuleDate (now pack) r days (dayOf day) lo hi × PairsReady (now out) w 1 ⌝ }
+    ensures { λ n. ⌜ PieceAdded (now (pack .entry)) r lo hi (dayOf day) (now (out .entry)) w (now (out .exit)) n ⌝ }
 {
     let x = window_dates::piece_of(pack, r, days, day, lo, hi);
     window_piece::piece_into(x, lo, out, w)
@@ -73,16 +73,18 @@ fn dates_into(
     requires { ⌜ RuleDates (now pack) r days lo hi × PairsReady (now out) w (dateCount days) ⌝ }
     ensures { λ n. ⌜ RuleAdded (now (pack .entry)) r lo hi (dateCount days) (now (out .entry)) w (now (out .exit)) n ⌝ }
 {
-    let last = days.last;
+    let first = days.first;
+    let count = civil::day_count(first, days.last);
     let set = r.days;
     let mut n = w;
-    let mut d = days.first;
-    while d <= last {
+    let mut i: u32 = 0;
+    while i < count {
+        let d = civil::later(first, i);
         if rule::applies(set, d) {
             n = date_into(pack, r, days, d, lo, hi, out, n);
-            d += 1;
+            i += 1;
         } else {
-            d += 1;
+            i += 1;
         }
     }
     n
@@ -103,5 +105,6 @@ pub fn rule_into(pack: &[u8], r: Rule, lo: Instant, hi: Instant, out: &mut [u64]
     let to = r.to;
     let a = window_piece::time_in(from);
     let b = window_piece::till(a, window_piece::time_in(to));
-    plain_into(f, days.first, days.last, r.days, a, b, out, w)
+    let count = civil::day_count(days.first, days.last);
+    plain_into(f, days.first, count, r.days, a, b, out, w)
 }

@@ -7,11 +7,12 @@ use Prim.Native.Nat.{ℕ, _+_, _*_, _-_, _/_, _^_, min, _≤_, _<_}
 use native.Mathlib.Omega.{arith}
 use lib.Dec.{ltb}
 use lib.IntN.{ℤ, pos, negsuc, natAbs}
-use mir.Syntax.{w64}
+use mir.Syntax.{w32, w64}
 use mir.Val.{SFits, toZ, ofZ}
 use borrow.Author.Tests.{ltb-true, ltb-false, lt-ltb}
 use Rattle.model.specs.Answer.{gives, refuses}
 use Rattle.model.specs.Calendar.{isLeap, isDate, dayNumber}
+use Rattle.model.specs.DayNumber.{signedDay, dayOf}
 use Rattle.model.specs.Instant.{second, instantOf, instant, isBelow0, lastSecond, daySeconds}
 use Rattle.model.specs.Tzif as model
 use Rattle.model.specs.Tzif.{zoneOf}
@@ -19,6 +20,7 @@ use Rattle.model.specs.Offset.{offsetBias}
 use Rattle.model.specs.Zone.{offsetAt, resolve}
 use Rattle.laws_base.specs.Test.{by-test, and-both, clash, never}
 use Rattle.laws_calendar.specs.Dates.{date-facts, at-most-31, day-from, day-to}
+use Rattle.laws_calendar.specs.Numbers.{day-of-number, number-within, is-fits, day-bits}
 use Rattle.civil.specs.Dates.{dayRead, timeRead}
 use Rattle.civil.specs.declared.Date.{Date}
 use Rattle.civil.specs.declared.DayRead.{DayRead}
@@ -146,9 +148,9 @@ kept (negsuc n) cap h = absurd (omega arith)
 abbrev dateGiven : ℤ → ℤ → ℤ → Date
 dateGiven y m d = record { year = min (yearFrom y) yearAfter; month = clippedTo m monthAfter; day = clippedTo d dayAfter }
 
-on-day : (y : ℤ) (m d : ℕ) → isDate (yearFrom y) m d ≡ true → gives (dayNumber (yearFrom y) m d) ≡ dayGiven y (pos m) (pos d)
+on-day : (y : ℤ) (m d : ℕ) → isDate (yearFrom y) m d ≡ true → gives (dayOf (signedDay (dayNumber (yearFrom y) m d))) ≡ dayGiven y (pos m) (pos d)
 unfolding dayGiven
-on-day y m d t = rw t
+on-day y m d t = rw t (ap gives (day-of-number (dayNumber (yearFrom y) m d)))
 
 module _ (y m d : ℤ) where
   is-day : isDate (min (yearFrom y) yearAfter) (clippedTo m monthAfter) (clippedTo d dayAfter) ≡ true → dayAnswer (dayRead (dateGiven y m d)) ≡ dayGiven y m d
@@ -184,18 +186,7 @@ pub day-is : (y m d : ℤ) {a b c : ℕ} → a ≡ min (yearFrom y) yearAfter �
     → r ≡ dayRead (record { year = a; month = b; day = c }) → dayAnswer r ≡ dayGiven y m d
 day-is y m d p q o e = ap dayAnswer (e ∙ (λ i. dayRead (record { year = p i; month = q i; day = o i }))) ∙ either-day y m d
 
--- a date of 64-bit numbers: refused, or the number of its day, which lies in the range
-module _ (y m d : ℤ) (fy : SFits w64 y) (fm : SFits w64 m) (fd : SFits w64 d) where
-  same-date : dayGiven (toZ w64 (ofZ w64 y)) (toZ w64 (ofZ w64 m)) (toZ w64 (ofZ w64 d)) ≡ dayGiven y m d
-  same-date = λ i. dayGiven (toZ-ofZ {w = w64} fy i) (toZ-ofZ {w = w64} fm i) (toZ-ofZ {w = w64} fd i)
-
-  module _ {r : DayRead} (e : dayAnswer r ≡ dayGiven (toZ w64 (ofZ w64 y)) (toZ w64 (ofZ w64 m)) (toZ w64 (ofZ w64 d))) where
-    pub date-no : r ≡ D.NoDate → dayGiven y m d ≡ refuses 8 0
-    date-no h = sym (e ∙ same-date) ∙ ap dayAnswer h
-
-    pub date-yes : {n : ℕ} → r ≡ D.Day n → dayGiven y m d ≡ gives n
-    date-yes h = sym (e ∙ same-date) ∙ ap dayAnswer h
-
+-- the day of a date lies in the range
 pub given-day-in : (y m d : ℤ) {n : ℕ} → dayGiven y m d ≡ gives n → IsDay n
 unfolding dayGiven
 given-day-in y m d {n} e =
@@ -207,6 +198,24 @@ given-day-in y m d {n} e =
     let p : dayNumber (yearFrom y) (natAbs m) (natAbs d) ≡ n = cc in
     record { low = omega (arith, day-from v); high = omega (arith, day-to v) })
     (λ t. let g : refuses 8 0 ≡ gives n = rw t at e in never (cc))
+
+-- a date of 64-bit numbers: refused, or its day
+module _ (y m d : ℤ) (fy : SFits w64 y) (fm : SFits w64 m) (fd : SFits w64 d) where
+  same-date : dayGiven (toZ w64 (ofZ w64 y)) (toZ w64 (ofZ w64 m)) (toZ w64 (ofZ w64 d)) ≡ dayGiven y m d
+  same-date = λ i. dayGiven (toZ-ofZ {w = w64} fy i) (toZ-ofZ {w = w64} fm i) (toZ-ofZ {w = w64} fd i)
+
+  module _ {r : DayRead} (e : dayAnswer r ≡ dayGiven (toZ w64 (ofZ w64 y)) (toZ w64 (ofZ w64 m)) (toZ w64 (ofZ w64 d))) where
+    pub date-no : r ≡ D.NoDate → dayGiven y m d ≡ refuses 8 0
+    date-no h = sym (e ∙ same-date) ∙ ap dayAnswer h
+
+    pub date-yes : {z : ℤ} → r ≡ D.Day z → dayGiven y m d ≡ gives (dayOf z)
+    date-yes h = sym (e ∙ same-date) ∙ ap dayAnswer h
+
+    -- whose number goes on through 32 bits unchanged
+    pub date-on : {z : ℤ} → r ≡ D.Day z → dayGiven y m d ≡ gives (dayOf (toZ w32 (ofZ w32 z)))
+    date-on {z} h =
+        let v = given-day-in y m d (date-yes h) in
+        date-yes h ∙ ap gives (sym (day-bits (is-fits (number-within z (omega (arith, v .low)) (omega (arith, v .high))))))
 
 -- ---- the time of day
 

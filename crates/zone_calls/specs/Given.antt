@@ -2,6 +2,7 @@
 use Prim.Native.Nat.{ℕ, min}
 use lib.IntN.{ℤ, pos, negsuc}
 use Rattle.model.specs.Answer.{Answer, gives, refuses}
+use Rattle.model.specs.DayNumber.{dayOf}
 use Rattle.civil.specs.declared.DayRead.{DayRead}
 use Rattle.civil.specs.declared.DayRead.the-variants as D
 
@@ -25,5 +26,5 @@ clippedTo (negsuc n) cap = cap
 
 -- the day that was read, or the refusal
 abbrev pub dayAnswer : DayRead → Answer ℕ
-dayAnswer (D.Day n) = gives n
+dayAnswer (D.Day z) = gives (dayOf z)
 dayAnswer D.NoDate = refuses 8 0

@@ -3,6 +3,7 @@ use mathlib.Core.Path.{_≡_, _∙_}
 use mathlib.Core.Bool.{Bool, true, false}
 use Prim.Native.Nat.{ℕ, _+_, _-_, _*_, _/_, _%_, _≤_, _<_}
 use native.Mathlib.Omega.{arith}
+use lib.IntN.{ℤ}
 use borrow.Author.Tests.{lt-ltb, le-ltb, lt-leb, le-leb}
 use Rattle.model.specs.Calendar.{isLeap, daysBeforeYear, daysBeforeMonth, daysInMonth, dayNumber, weekday}
 use Rattle.model.specs.Footer as model
@@ -11,7 +12,9 @@ use Rattle.model.specs.Zone.{yearAt}
 use Rattle.laws_base.specs.Claim.{le, if, allBelow, at-each}
 use Rattle.laws_calendar.specs.Years.{dby-hi}
 use Rattle.laws_calendar.specs.Dates.{year-within, year-below}
-use Rattle.laws_zone.specs.FooterChanges.{DayFits}
+use Rattle.laws_zone.specs.FooterChanges.{DayFits, day-hi}
+use Rattle.laws_calendar.specs.Numbers.{numbered}
+use Rattle.model.specs.DayNumber.{signedDay}
 use Rattle.zone_footer.specs.Parsed.{dayIs}
 use Rattle.zone_footer.specs.declared.Day.{Day}
 use Rattle.zone_footer.specs.declared.Day.the-variants.{Month, Julian, Plain}
@@ -53,34 +56,34 @@ years-in u h e = omega (arith, year-below {n = u / daySeconds} (omega arith) (ye
 
 -- ---- Mm.w.d
 
-module _ (y m w d : ℕ) {l : Bool} {b k x n : ℕ} (el : l ≡ isLeap y) (eb : b ≡ daysBeforeYear y) (ek : k ≡ daysBeforeMonth l m)
-    (ex : x ≡ weekday (b + k)) (en : n ≡ daysInMonth l m) where
-  first-is : dayNumber y m 1 ≡ b + k
+module _ (y m w d : ℕ) {l : Bool} {b k x n : ℕ} (el : l ≡ isLeap y) (ek : k ≡ daysBeforeMonth l m) (eb : b ≡ daysBeforeYear y + k)
+    (ex : x ≡ weekday b) (en : n ≡ daysInMonth l m) where
+  first-is : dayNumber y m 1 ≡ b
   unfolding dayNumber
   first-is = rw (eb, ek, el) (omega arith)
 
-  pub month-on : b + k + (d + 13 - x) % 7 + 7 * (w - 1) < b + k + n → b + k + (d + 13 - x) % 7 + 7 * (w - 1) ≡ dayIn y (model.month m w d)
+  pub month-on : (d + 13 - x) % 7 + 7 * (w - 1) < n → b + ((d + 13 - x) % 7 + 7 * (w - 1)) ≡ dayIn y (model.month m w d)
   unfolding dayIn
-  month-on h = rw (first-is, ← el, ← en, ← ex, lt-ltb (b + k + (d + 13 - x) % 7 + 7 * (w - 1)) (b + k + n) h)
+  month-on h = rw (first-is, ← el, ← en, ← ex, lt-ltb (b + (d + 13 - x) % 7 + 7 * (w - 1)) (b + n) (omega arith)) (omega arith)
 
-  pub month-back : b + k + n ≤ b + k + (d + 13 - x) % 7 + 7 * (w - 1) → b + k + (d + 13 - x) % 7 + 7 * (w - 1) - 7 ≡ dayIn y (model.month m w d)
+  pub month-back : n ≤ (d + 13 - x) % 7 + 7 * (w - 1) → 7 ≤ n → b + ((d + 13 - x) % 7 + 7 * (w - 1) - 7) ≡ dayIn y (model.month m w d)
   unfolding dayIn
-  month-back h = rw (first-is, ← el, ← en, ← ex, le-ltb (b + k + (d + 13 - x) % 7 + 7 * (w - 1)) (b + k + n) h)
+  month-back h k = rw (first-is, ← el, ← en, ← ex, le-ltb (b + (d + 13 - x) % 7 + 7 * (w - 1)) (b + n) (omega arith)) (omega arith)
 
 -- ---- Jn
 
-module _ (y n : ℕ) {l : Bool} {b : ℕ} (eb : b ≡ daysBeforeYear y) (el : l ≡ isLeap y) where
-  pub julian-common : l ≡ false → b + (n - 1) ≡ dayIn y (model.julian n)
+module _ (y n : ℕ) {l : Bool} (el : l ≡ isLeap y) where
+  pub julian-common : l ≡ false → daysBeforeYear y + (n - 1) ≡ dayIn y (model.julian n)
   unfolding dayIn
-  julian-common f = rw (← el, f, ← eb) (omega arith)
+  julian-common f = rw (← el, f) (omega arith)
 
-  pub julian-early : l ≡ true → n < 60 → b + (n - 1) ≡ dayIn y (model.julian n)
+  pub julian-early : l ≡ true → n < 60 → daysBeforeYear y + (n - 1) ≡ dayIn y (model.julian n)
   unfolding dayIn
-  julian-early f h = rw (← el, f, ← eb, lt-leb 60 n h) (omega arith)
+  julian-early f h = rw (← el, f, lt-leb 60 n h) (omega arith)
 
-  pub julian-late : l ≡ true → 60 ≤ n → b + (n - 1) + 1 ≡ dayIn y (model.julian n)
+  pub julian-late : l ≡ true → 60 ≤ n → daysBeforeYear y + n ≡ dayIn y (model.julian n)
   unfolding dayIn
-  julian-late f h = rw (← el, f, ← eb, le-leb 60 n h)
+  julian-late f h = rw (← el, f, le-leb 60 n h) (omega arith)
 
 -- ---- the three forms
 
@@ -93,12 +96,16 @@ julian-fits e h = rw e at h
 pub plain-fits : {d : Day} {n : ℕ} → d ≡ Plain n → DayFits (dayIs d) → n ≤ 365
 plain-fits e h = rw e at h
 
-pub day-is : (y : ℕ) {r : ℕ} {d x : Day} → d ≡ x → r ≡ dayIn y (dayIs x) → r ≡ dayIn y (dayIs d)
+pub day-is : (y : ℕ) {r : ℤ} {d x : Day} → d ≡ x → r ≡ signedDay (dayIn y (dayIs x)) → r ≡ signedDay (dayIn y (dayIs d))
 day-is y e h = rw e h
 
 pub plain-is : (y n : ℕ) {b : ℕ} → b ≡ daysBeforeYear y → b + n ≡ dayIn y (model.plain n)
 unfolding dayIn
 plain-is y n e = rw e
+
+-- the day's number fits
+pub day-small : (y : ℕ) (d : model.Day) → DayFits d → y ≤ lastYear → dayIn y d < numbered
+day-small y d f h = omega (arith, day-hi y d f, year-small y h)
 
 pub change-is : (o y : ℕ) (t : model.ChangeRule) {r k : ℕ} → k ≡ dayIn y (t .day) → r ≡ k * daySeconds + t .time + offsetBias - (timeBias + o) → r ≡ changeIn o t y
 unfolding changeIn

@@ -1,7 +1,8 @@
 // The changes that a footer makes: the day and the second of a change in a year, the latest change at or before a second and the next
-// one, and the footer's offset with the second up to which it stays. Years, days and seconds are counted from -10400-01-01.
+// one, and the footer's offset with the second up to which it stays. Years and seconds are counted from -10400-01-01.
 ghost use mathlib.Core.Path.{_≡_};
 ghost use Prim.Native.Nat.{ℕ, _-_, _≤_, _<_};
+ghost use Rattle.model.specs.DayNumber.{signedDay};
 ghost use Rattle.model.specs.Footer as model;
 ghost use Rattle.model.specs.Zone.{yearAt, ruledAt};
 ghost use Rattle.zone_footer.specs.Parsed.{dayIs, changeRuleIs};
@@ -41,43 +42,43 @@ pub struct OffsetUntil {
 }
 
 // Mm.w.d: the w-th weekday d of the month, where week 5 is the last.
-fn month_day(year: u32, m: u32, w: u32, d: u32) -> u32
+fn month_day(year: u32, m: u32, w: u32, d: u32) -> i32
     requires { ⌜ (year ≤ lastYear) × (1 ≤ m) × (m ≤ 12) × (1 ≤ w) × (w ≤ 5) × (d ≤ 6) ⌝ }
-    ensures { λ r. ⌜ r ≡ model.dayIn year (model.month m w d) ⌝ }
+    ensures { λ r. ⌜ r ≡ signedDay (model.dayIn year (model.month m w d)) ⌝ }
 {
     let leap = civil::is_leap(year);
-    let first = civil::days_before_year(year) + civil::days_before_month(leap, m);
-    let n = first + (d + 13 - civil::weekday_of(first)) % 7 + 7 * (w - 1);
-    if n < first + civil::days_in_month(leap, m) {
-        return n;
+    let first = civil::later(civil::year_start(year), civil::days_before_month(leap, m));
+    let n = (d + 13 - civil::weekday_of(first)) % 7 + 7 * (w - 1);
+    if n < civil::days_in_month(leap, m) {
+        return civil::later(first, n);
     }
-    n - 7
+    civil::later(first, n - 7)
 }
 
 // Jn: 29 February is never counted.
-fn julian_day(year: u32, n: u32) -> u32
+fn julian_day(year: u32, n: u32) -> i32
     requires { ⌜ (year ≤ lastYear) × (1 ≤ n) × (n ≤ 365) ⌝ }
-    ensures { λ r. ⌜ r ≡ model.dayIn year (model.julian n) ⌝ }
+    ensures { λ r. ⌜ r ≡ signedDay (model.dayIn year (model.julian n)) ⌝ }
 {
-    let day = civil::days_before_year(year) + (n - 1);
+    let first = civil::year_start(year);
     if !civil::is_leap(year) {
-        return day;
+        return civil::later(first, n - 1);
     }
     if n < LEAP_DAY {
-        return day;
+        return civil::later(first, n - 1);
     }
-    day + 1
+    civil::later(first, n)
 }
 
 // The day of a change in a year.
-pub fn day_in(day: Day, year: u32) -> u32
+pub fn day_in(day: Day, year: u32) -> i32
     requires { ⌜ DayFits (dayIs day) × (year ≤ lastYear) ⌝ }
-    ensures { λ r. ⌜ r ≡ model.dayIn year (dayIs day) ⌝ }
+    ensures { λ r. ⌜ r ≡ signedDay (model.dayIn year (dayIs day)) ⌝ }
 {
     match day {
         Day::Month(m, w, d) => month_day(year, m, w, d),
         Day::Julian(n) => julian_day(year, n),
-        Day::Plain(n) => civil::days_before_year(year) + n,
+        Day::Plain(n) => civil::later(civil::year_start(year), n),
     }
 }
 
@@ -89,7 +90,7 @@ pub fn change_in(offset: u32, rule: ChangeRule, year: u32) -> u64
     let day = rule.day;
     let time = rule.time;
     number::difference(
-        day_in(day, year) as u64 * instant::DAY + time as u64 + zone_offset::BIAS_64,
+        civil::midnight(day_in(day, year)) + time as u64 + zone_offset::BIAS_64,
         zone_footer::TIME_BIAS_64 + offset as u64,
     )
 }
@@ -99,7 +100,7 @@ fn first_year(u: u64) -> u32
     requires { ⌜ u < yearsEnd ⌝ }
     ensures { λ r. ⌜ (r ≡ yearAt u - 2) × (r ≤ lastYear - 4) ⌝ }
 {
-    let year = civil::year_of((u / instant::DAY) as u32);
+    let year = civil::year_of(civil::day_at(u));
     if year < 2 {
         return 0;
     }

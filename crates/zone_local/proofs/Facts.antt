@@ -1,19 +1,22 @@
 -- The answers of the functions on one date, over plain numbers.
 use Prim.Native.Nat.{ℕ, _+_, _*_, _-_, _/_, _%_, _≤_, _<_, min, max}
-use mathlib.Core.Path.{_≡_, sym, _∙_, ap, ap₂}
+use mathlib.Core.Path.{_≡_, refl, sym, _∙_, ap, ap₂}
 use mathlib.Core.Bool.{true, false}
 use mathlib.Core.List.{List, []}
 use native.Mathlib.Omega.{arith}
 use lib.Dec.{ltb}
-use borrow.Author.Tests.{lt-ltb, le-ltb, le-leb, lt-leb, ltb-true, ltb-false}
+use lib.IntN.{ℤ, pos, negsuc}
+use borrow.Author.Tests.{lt-ltb, le-ltb, le-leb, lt-leb}
 use Rattle.model.specs.Blocks.{Block as Block′, block, put, clipped}
 use Rattle.model.specs.Calendar.{firstDay, lastDay, dayOfYearZero}
+use Rattle.model.specs.DayNumber.{dayOf}
 use Rattle.model.specs.Instant.{second, day, firstInstant, lastInstant, firstSecond, lastSecond, daySeconds}
 use Rattle.model.specs.Tzif.{Zone}
 use Rattle.model.specs.Offset.{offsetBias, greatestOffset}
 use Rattle.model.specs.Zone.{offsetAt, secondOf, resolve}
 use Rattle.model.specs.Working.{localDay, firstDate, lastDate, startOf, endOf}
-use Rattle.laws_base.specs.Test.{by-test}
+use Rattle.laws_base.specs.Test.{same-test}
+use Rattle.laws_calendar.specs.Numbers.{IsDayNumber, number-within}
 use Rattle.laws_zone.specs.Sound.{Sound}
 use Rattle.laws_zone.specs.Zones.{fits-sound}
 use Rattle.laws_zone.specs.Runs.{Run}
@@ -27,7 +30,36 @@ use Rattle.civil.specs.Dates.{timeIn, TimeFits}
 use Rattle.civil.specs.declared.Time.{Time}
 use Rattle.block.specs.Counted.{blockOf}
 use Rattle.block.specs.declared.Block.{Block}
-use Rattle.zone_local.specs.Dates.{during, rangeEnd, pieceOf, held, KeepsOffset, IsIn, tillTime}
+use Rattle.zone_local.specs.Dates.{IsDay, during, rangeEnd, pieceOf, held, KeepsOffset, IsIn, tillTime}
+
+-- ---- the days that the code names by number
+
+-- a date's day has a number
+pub day-number : {z : ℤ} → IsDay (dayOf z) → IsDayNumber z
+day-number {z} d = number-within z (omega (arith, d .low)) (omega (arith, d .high))
+
+pub third-day : dayOf (negsuc 4371584) ≡ firstDay + 2
+unfolding dayOf
+third-day = refl
+
+pub last-day : dayOf (pos 2932896) ≡ lastDay
+unfolding dayOf
+last-day = refl
+
+pub year-zero : dayOf (negsuc 719527) ≡ dayOfYearZero
+unfolding dayOf
+year-zero = refl
+
+pub third-number : IsDayNumber (negsuc 4371584)
+third-number = number-within (negsuc 4371584) (omega (arith, third-day)) (omega (arith, third-day))
+
+pub last-number : IsDayNumber (pos 2932896)
+last-number = number-within (pos 2932896) (omega (arith, last-day)) (omega (arith, last-day))
+
+pub zero-number : IsDayNumber (negsuc 719527)
+zero-number = number-within (negsuc 719527) (omega (arith, year-zero)) (omega (arith, year-zero))
+
+-- ---- local dates
 
 pub local-is : (z : Zone) (sec ns o : ℕ) → ns < second → o ≡ offsetAt z sec → (sec + o - offsetBias) / daySeconds ≡ localDay z (sec * second + ns)
 unfolding localDay
@@ -78,10 +110,6 @@ module _ (z : Zone) (d sec ns s : ℕ) (h : ns < second) (e : s ≡ secondOf z (
   resolve-late a = rw (quotient, remainder, ← e, le-leb firstInstant (s * second + ns) (omega arith), lt-leb (s * second + ns) lastInstant (omega arith))
 
 -- ---- times of day
-
--- tests on numbers in the same order
-same-test : (m n k l : ℕ) → (m < n → k < l) → (n ≤ m → l ≤ k) → ltb m n ≡ ltb k l
-same-test m n k l f g = by-test (ltb m n) (λ t. t ∙ sym (lt-ltb k l (f (ltb-true m n t)))) (λ t. t ∙ sym (le-ltb k l (g (ltb-false m n t))))
 
 module _ (a b x y : ℕ) (p : x < second) (q : y < second) where
   pub same-second : a ≡ b → ltb x y ≡ ltb (a * second + x) (b * second + y)

@@ -5,8 +5,10 @@ ghost use Prim.Native.Nat.{_≤_};
 ghost use lib.Dec.{ltb};
 ghost use Rattle.instant.specs.Instant.{nanos, InRange};
 ghost use Rattle.model.specs.Offset.{greatestOffset};
+ghost use Rattle.model.specs.DayNumber.{signedDay, dayOf};
 ghost use Rattle.model.specs.Zone as model;
 ghost use Rattle.model.specs.Working.{localDay, firstDate, lastDate, endOf};
+ghost use Rattle.laws_calendar.specs.Numbers.{IsDayNumber};
 ghost use Rattle.civil.specs.Dates.{timeIn, TimeFits};
 ghost use Rattle.zone.specs.Zones.{zoneIs, ZoneOk};
 ghost use Rattle.zone_local.specs.Dates.{IsDay, rangeEnd, ruleOf, AskedDate, IsTaken, pieceOf, held, KeepsOffset, IsTakenBy, AskedPiece};
@@ -15,12 +17,12 @@ use civil::Time;
 use instant::Instant;
 use zone::Zone;
 
-// The third and the last of the dates, and the first of the year 0, as days from -10400-01-01.
-const THIRD_DAY: u32 = 146465;
+// The numbers of the third and the last of the dates, and of the first of the year 0.
+const THIRD_DAY: i32 = -4371585;
 
-const LAST_DAY: u32 = 7450946;
+const LAST_DAY: i32 = 2932896;
 
-const DAY_OF_YEAR_ZERO: u32 = 3798522;
+const DAY_OF_YEAR_ZERO: i32 = -719528;
 
 // Four days in seconds, the first second that they lie before, and the last that they lie behind.
 const FOUR_DAYS: u64 = 4 * instant::DAY;
@@ -30,43 +32,44 @@ const FIRST_KEPT: u64 = instant::FIRST + FOUR_DAYS;
 const LAST_KEPT: u64 = instant::LAST - FOUR_DAYS;
 
 // The local date at t.
-pub fn local_day(f: &[u8], z: Zone, t: Instant) -> u32
+fn local_day(f: &[u8], z: Zone, t: Instant) -> i32
     requires { ⌜ ZoneOk (now f) z × InRange t ⌝ }
-    ensures { λ r. ⌜ r ≡ localDay (zoneIs (now (f .entry)) z) (nanos t) ⌝ }
+    ensures { λ r. ⌜ (r ≡ signedDay (localDay (zoneIs (now (f .entry)) z) (nanos t))) × IsDayNumber r ⌝ }
 {
     let run = zone::run_at(f, z, t.sec);
-    ((t.sec + run.offset as u64 - zone_offset::BIAS_64) / instant::DAY) as u32
+    civil::day_at(t.sec + run.offset as u64 - zone_offset::BIAS_64)
 }
 
 // The first of a window's dates, two before the local date at its start lo.
-pub fn first_date(f: &[u8], z: Zone, lo: Instant) -> u32
+pub fn first_date(f: &[u8], z: Zone, lo: Instant) -> i32
     requires { ⌜ ZoneOk (now f) z × InRange lo ⌝ }
-    ensures { λ r. ⌜ r ≡ firstDate (zoneIs (now (f .entry)) z) (nanos lo) ⌝ }
+    ensures { λ r. ⌜ r ≡ signedDay (firstDate (zoneIs (now (f .entry)) z) (nanos lo)) ⌝ }
 {
     let d = local_day(f, z, lo);
-    if THIRD_DAY <= d {
-        return d - 2;
+    if civil::precedes(d, THIRD_DAY) {
+        return d;
     }
-    d
+    civil::earlier(d, 2)
 }
 
 // The last of a window's dates, one after the local date at its end hi.
-pub fn last_date(f: &[u8], z: Zone, hi: Instant) -> u32
+pub fn last_date(f: &[u8], z: Zone, hi: Instant) -> i32
     requires { ⌜ ZoneOk (now f) z × InRange hi ⌝ }
-    ensures { λ r. ⌜ r ≡ lastDate (zoneIs (now (f .entry)) z) (nanos hi) ⌝ }
+    ensures { λ r. ⌜ r ≡ signedDay (lastDate (zoneIs (now (f .entry)) z) (nanos hi)) ⌝ }
 {
     let d = local_day(f, z, hi);
-    if d < LAST_DAY {
-        return d + 1;
+    if civil::precedes(d, LAST_DAY) {
+        return civil::later(d, 1);
     }
     d
 }
 
 // The end of the range that a local time beyond it becomes: the first instant for negative years, else the last.
-fn range_end(day: u32) -> Instant
-    ensures { λ r. ⌜ (nanos r ≡ rangeEnd day) × InRange r ⌝ }
+fn range_end(day: i32) -> Instant
+    requires { ⌜ IsDayNumber day ⌝ }
+    ensures { λ r. ⌜ (nanos r ≡ rangeEnd (dayOf day)) × InRange r ⌝ }
 {
-    if day < DAY_OF_YEAR_ZERO {
+    if civil::precedes(day, DAY_OF_YEAR_ZERO) {
         return Instant {
             sec: instant::FIRST,
             ns: 0,
@@ -79,14 +82,14 @@ fn range_end(day: u32) -> Instant
 }
 
 // The instant of a time of day on a date.
-pub fn resolve(f: &[u8], z: Zone, day: u32, time: Time) -> Instant
-    requires { ⌜ ZoneOk (now f) z × IsDay day × TimeFits time ⌝ }
-    ensures { λ r. ⌜ (nanos r ≡ model.resolve (zoneIs (now (f .entry)) z) day (timeIn time)) × InRange r ⌝ }
+pub fn resolve(f: &[u8], z: Zone, day: i32, time: Time) -> Instant
+    requires { ⌜ ZoneOk (now f) z × IsDay (dayOf day) × TimeFits time ⌝ }
+    ensures { λ r. ⌜ (nanos r ≡ model.resolve (zoneIs (now (f .entry)) z) (dayOf day) (timeIn time)) × InRange r ⌝ }
 {
     let s = zone::second_of(
         f,
         z,
-        day as u64 * instant::DAY + time.seconds as u64 + zone_offset::BIAS_64,
+        civil::midnight(day) + time.seconds as u64 + zone_offset::BIAS_64,
     );
     if s < instant::FIRST {
         return range_end(day);
@@ -112,15 +115,15 @@ fn is_before(a: Time, b: Time) -> bool
 }
 
 // Where that which a rule takes of a date ends: on the next date if `to` is at or before `from`, and at the last instant where there is no next date.
-pub fn end_of(f: &[u8], z: Zone, from: Time, to: Time, day: u32) -> Instant
-    requires { ⌜ AskedDate (now f) z day from to ⌝ }
-    ensures { λ r. ⌜ nanos r ≡ endOf (ruleOf (now (f .entry)) z from to) day ⌝ }
+pub fn end_of(f: &[u8], z: Zone, from: Time, to: Time, day: i32) -> Instant
+    requires { ⌜ AskedDate (now f) z (dayOf day) from to ⌝ }
+    ensures { λ r. ⌜ nanos r ≡ endOf (ruleOf (now (f .entry)) z from to) (dayOf day) ⌝ }
 {
     if is_before(from, to) {
         return resolve(f, z, day, to);
     }
-    if day < LAST_DAY {
-        return resolve(f, z, day + 1, to);
+    if civil::precedes(day, LAST_DAY) {
+        return resolve(f, z, civil::later(day, 1), to);
     }
     Instant {
         sec: instant::LAST,
@@ -129,9 +132,9 @@ pub fn end_of(f: &[u8], z: Zone, from: Time, to: Time, day: u32) -> Instant
 }
 
 // What a rule takes of a date.
-pub fn block_on(f: &[u8], z: Zone, from: Time, to: Time, day: u32) -> Block
-    requires { ⌜ AskedDate (now f) z day from to ⌝ }
-    ensures { λ r. ⌜ IsTaken (ruleOf (now (f .entry)) z from to) day r ⌝ }
+pub fn block_on(f: &[u8], z: Zone, from: Time, to: Time, day: i32) -> Block
+    requires { ⌜ AskedDate (now f) z (dayOf day) from to ⌝ }
+    ensures { λ r. ⌜ IsTaken (ruleOf (now (f .entry)) z from to) (dayOf day) r ⌝ }
 {
     let start = resolve(f, z, day, from);
     let end = end_of(f, z, from, to, day);
@@ -144,12 +147,12 @@ pub fn piece_on(
     z: Zone,
     from: Time,
     to: Time,
-    day: u32,
+    day: i32,
     lo: Instant,
     hi: Instant,
 ) -> Block
-    requires { ⌜ AskedDate (now f) z day from to ⌝ }
-    ensures { λ r. ⌜ held r ≡ pieceOf (ruleOf (now (f .entry)) z from to) (nanos lo) (nanos hi) day ⌝ }
+    requires { ⌜ AskedDate (now f) z (dayOf day) from to ⌝ }
+    ensures { λ r. ⌜ held r ≡ pieceOf (ruleOf (now (f .entry)) z from to) (nanos lo) (nanos hi) (dayOf day) ⌝ }
 {
     block::clip(block_on(f, z, from, to, day), lo, hi)
 }
@@ -175,11 +178,11 @@ pub fn one_offset(f: &[u8], z: Zone, lo: Instant, hi: Instant) -> u32
 }
 
 // What a rule takes of a date, by the offset o: the local times less the offset.
-fn plain_block(o: u32, from: Time, to: Time, day: u32) -> Block
-    requires { ⌜ (o ≤ greatestOffset) × IsDay day × TimeFits from × TimeFits to ⌝ }
-    ensures { λ r. ⌜ IsTakenBy o from to day r ⌝ }
+fn plain_block(o: u32, from: Time, to: Time, day: i32) -> Block
+    requires { ⌜ (o ≤ greatestOffset) × IsDay (dayOf day) × TimeFits from × TimeFits to ⌝ }
+    ensures { λ r. ⌜ IsTakenBy o from to (dayOf day) r ⌝ }
 {
-    let base = day as u64 * instant::DAY + zone_offset::BIAS_64 - o as u64;
+    let base = civil::midnight(day) + zone_offset::BIAS_64 - o as u64;
     let start = Instant {
         sec: base + from.seconds as u64,
         ns: from.nanos,
@@ -205,12 +208,12 @@ pub fn piece_by(
     o: u32,
     from: Time,
     to: Time,
-    day: u32,
+    day: i32,
     lo: Instant,
     hi: Instant,
 ) -> Block
-    requires { ⌜ AskedPiece (now f) z o from to day lo hi ⌝ }
-    ensures { λ r. ⌜ held r ≡ pieceOf (ruleOf (now (f .entry)) z from to) (nanos lo) (nanos hi) day ⌝ }
+    requires { ⌜ AskedPiece (now f) z o from to (dayOf day) lo hi ⌝ }
+    ensures { λ r. ⌜ held r ≡ pieceOf (ruleOf (now (f .entry)) z from to) (nanos lo) (nanos hi) (dayOf day) ⌝ }
 {
     if o == 0 {
         return piece_on(f, z, from, to, day, lo, hi);

@@ -10,7 +10,7 @@ local-dates-requires : tie.Need-local-dates-requires
 local-dates-requires c κs = search needs
 
 frame-of-requires : tie.Need-frame-of-requires
-frame-of-requires c κs = ((c .before .before .before .pre .1), offset-small _ _ _ _ _ (c .before .before .before .pre .0 .opened) (c .before .before .before .pre .1) (c .local-dates .ensures))
+frame-of-requires c κs = ((c .before .before .before .pre .1), offset-small _ _ _ _ _ (c .before .before .before .pre .0 .opened) (c .before .before .before .pre .1) (c .local-dates .ensures), c .local-dates .ensures .first-number)
 
 time-in-requires : tie.Need-time-in-requires
 time-in-requires c κs = search needs

@@ -1,13 +1,18 @@
 -- `civil::weekday_of` meets its contract.
-use borrow.Author.Needs.{needs}
+use native.Mathlib.Omega.{arith}
+use mir.Facts.{toZ-ofZ}
+use Rattle.laws_calendar.specs.Numbers.{start-day, start-number, day-bits}
 use Rattle.civil.proofs.weekday_of.Statement.{statement}
 use Rattle.civil.proofs.weekday_of.Tie as tie
 
+days-from-requires : tie.Need-days-from-requires
+days-from-requires c κs = rw (toZ-ofZ (c .fits .day)) (start-number, c .pre, omega (arith, start-day))
+
 add-result : tie.Need-add-result
-add-result c = search needs
+add-result c = omega (arith, day-bits (c .before .fits .day), c .before .pre .small)
 
 returns : tie.Need-returns
-returns c = search needs
+returns c = omega (arith, start-day, day-bits (c .before .fits .day))
 
 pub weekday-of-spec : {M : Type 1} → statement M
-weekday-of-spec = tie.close (tie.spec add-result returns)
+weekday-of-spec = tie.close (tie.spec days-from-requires add-result returns)

@@ -1,5 +1,7 @@
 -- `window_dates::local_dates` meets its contract. Assumes nothing.
 use Rattle.window_dates.proofs.Fill.{zone-moved, days-are, kept-room, days-kept}
+use mathlib.Core.Path.{refl}
+use Rattle.laws_calendar.specs.Numbers.{gives-on}
 use borrow.Author.Needs.{needs}
 use Rattle.window_dates.proofs.local_dates.Statement.{statement}
 use Rattle.window_dates.proofs.local_dates.Tie as tie
@@ -36,7 +38,7 @@ last-date-requires c κs = (
 returns-2 : tie.Need-returns-2
 returns-2 c =
     days-are _ _ _ _ _ _ (c .before .before .before .before .part .ensures) (c .before .before .before .before .before .before .pre .0)
-    (c .before .before .before .before .before .before .pre .1) (c .before .first-date .ensures) (c .last-date .ensures) (c .before .before .before .one-offset .ensures)
+    (c .before .before .before .before .before .before .pre .1) (gives-on (c .before .first-date .ok) (c .before .first-date .ensures) refl) (gives-on (c .last-date .ok) (c .last-date .ensures) refl) (c .before .before .before .one-offset .ensures)
 
 pub local-dates-spec : {M : Type 1} → statement M
 local-dates-spec =

@@ -1,47 +1,51 @@
 -- `window_holiday::holidays_into` meets its contract. Assumes nothing.
-use borrow.Author.Needs.{needs}
+use mathlib.Core.Path.{refl, ap}
+use mathlib.Core.List.{List, []}
 use native.Mathlib.Omega.{arith}
-use Prim.Native.Nat.{_-_}
-use mathlib.Core.Path.{refl, _∙_}
-use Rattle.instant.specs.Instant.{nanos}
-use Rattle.window_piece.proofs.Fills.{filled-same}
-use Rattle.window_piece.proofs.Frames.{few-dates, offset-small, piece-any, piece-apart, piece-short}
-use Rattle.window_dates.proofs.Whole.{window-longer}
-use Rattle.window_holiday.proofs.Closings.{Closing, closing-starts, closing-ready, closing-on, closing-off, closing-done, closed-shows}
-use Rattle.window_holiday.proofs.Order.{rank-not}
+use mir.Facts.{toZ-ofZ}
+use Rattle.model.specs.Basic.{if_then_else_, isIn}
+use Rattle.model.specs.Blocks.{Block}
 use Rattle.model.specs.Working.{holidayRule}
+use Rattle.laws_calendar.specs.Numbers.{is-fits, day-bits}
+use Rattle.instant.specs.Instant.{nanos}
 use Rattle.rule.specs.Rules.{holidaysIs}
 use Rattle.zone_local.specs.Dates.{pieceOf}
-use mathlib.Core.Logic.{inl, inr}
+use Rattle.window_dates.specs.Windows.{fromDay, uptoDay}
+use Rattle.window_dates.proofs.Whole.{window-longer}
+use Rattle.window_piece.proofs.Fills.{filled-same}
+use Rattle.window_piece.proofs.Frames.{few-dates, offset-small, piece-any, piece-apart, piece-short}
+use Rattle.window_holiday.specs.Ranks.{dayOfRank}
+use Rattle.window_holiday.proofs.Closings.{Closing, closing-starts, closing-ready, closing-turn, closing-off, closing-done, closed-shows}
+use Rattle.window_holiday.proofs.Order.{rank-not}
 use Rattle.window_holiday.proofs.holidays_into.Statement.{statement}
 use Rattle.window_holiday.proofs.holidays_into.Tie as tie
 
 abbrev Inv-loop : tie.InvT-loop
-Inv-loop book pack c lo hi out₀ w days f first last from to n₀ left₀ at₀ out n left at = Closing (nanos lo) book (c .dates) (c .count) (pieceOf (holidayRule (holidaysIs book pack c)) (nanos lo) (nanos hi)) first last out₀ w out n left at
+Inv-loop book pack c lo hi out₀ w days f from to n₀ left₀ at₀ out n left at = Closing (nanos lo) book (c .dates) (c .count) (pieceOf (holidayRule (holidaysIs book pack c)) (nanos lo) (nanos hi)) (fromDay days) (uptoDay days) out₀ w out n left at
 
 abbrev μ-loop : tie.MeasureT-loop
-μ-loop book pack c lo hi out₀ w days f first last from to n₀ left₀ at₀ out n left at = left
+μ-loop book pack c lo hi out₀ w days f from to n₀ left₀ at₀ out n left at = left
 
 local-dates-requires : tie.Need-local-dates-requires Inv-loop μ-loop
 local-dates-requires c κs = ((c .before .before .before .before .pre .0 .opened), window-longer _ _ (c .before .before .before .before .pre .1))
 
 frame-of-requires : tie.Need-frame-of-requires Inv-loop μ-loop
-frame-of-requires c κs = (window-longer _ _ (c .before .before .before .before .before .pre .1), offset-small _ _ _ _ _ (c .before .before .before .before .before .pre .0 .opened) (window-longer _ _ (c .before .before .before .before .before .pre .1)) (c .local-dates .ensures))
-
-rank-from-requires : tie.Need-rank-from-requires Inv-loop μ-loop
-rank-from-requires c κs = search needs
+frame-of-requires c κs = (window-longer _ _ (c .before .before .before .before .before .pre .1), offset-small _ _ _ _ _ (c .before .before .before .before .before .pre .0 .opened) (window-longer _ _ (c .before .before .before .before .before .pre .1)) (c .local-dates .ensures), (c .local-dates .ensures .first-number))
 
 rank-of-requires : tie.Need-rank-of-requires Inv-loop μ-loop
-rank-of-requires c κs = omega (arith, (c .before .before .local-dates .ensures .high))
+rank-of-requires c κs = let q = (c .before .before .local-dates .ensures) in rw (toZ-ofZ (is-fits (q .first-number))) (record { number = q .first-number; below = q .first-below })
+
+rank-of-requires-2 : tie.Need-rank-of-requires-2 Inv-loop μ-loop
+rank-of-requires-2 c κs = let q = (c .before .before .before .before .local-dates .ensures) in rw (toZ-ofZ (is-fits (q .last-number))) (record { number = q .last-number; below = omega (arith, q .high) })
 
 mul-at : tie.Need-mul-at Inv-loop μ-loop
-mul-at c = omega (arith, (c .before .before .before .before .before .before .before .before .before .pre .0 .inside))
+mul-at c = omega (arith, (c .before .before .before .before .before .before .before .before .before .before .before .pre .0 .inside))
 
 add-at : tie.Need-add-at Inv-loop μ-loop
-add-at c = omega (arith, (c .before .before .before .before .before .before .before .before .before .before .pre .0 .inside))
+add-at c = omega (arith, c .before .before .before .before .before .before .before .before .before .before .before .before .pre .0 .inside, c .before .before .before .before .before .before .before .before .before .before .before .before .good)
 
 loop-holds : tie.Need-loop-holds Inv-loop μ-loop
-loop-holds c = closing-starts _ _ _ _ _ _ _ _ _ (c .before .before .before .before .before .before .before .before .before .before .pre .2 .normal)
+loop-holds c = closing-starts _ _ _ _ _ _ _ _ _ (c .before .before .before .before .before .before .before .before .before .before .before .before .pre .2 .normal)
 
 sub-left : tie.Need-sub-left Inv-loop μ-loop
 sub-left c = omega (arith, (c .loop-test .taken))
@@ -50,46 +54,33 @@ sub-at : tie.Need-sub-at Inv-loop μ-loop
 sub-at c = omega (arith, (c .loop-test .taken), (c .before .loop .inv .place))
 
 rank-at-requires : tie.Need-rank-at-requires Inv-loop μ-loop
-rank-at-requires c κs = omega (arith, (c .loop-test .taken), (c .before .loop .inv .place), (c .before .loop .inv .upto), (c .before .before .before .before .before .before .before .before .before .before .before .before .pre .0 .inside))
+rank-at-requires c κs = omega (arith, (c .loop-test .taken), (c .before .loop .inv .place), (c .before .loop .inv .upto), (c .before .before .before .before .before .before .before .before .before .before .before .before .before .before .pre .0 .inside))
 
 in-ranks-requires : tie.Need-in-ranks-requires Inv-loop μ-loop
-in-ranks-requires c κs = search needs
+in-ranks-requires c κs = tt
 
-day-of-rank-requires : tie.Need-day-of-rank-requires Inv-loop μ-loop
-day-of-rank-requires c κs = search needs
-
-free-into-requires : tie.Need-free-into-requires Inv-loop μ-loop
-free-into-requires c κs = (((c .before .before .before .before .before .before .before .before .before .before .before .before .before .before .before .before .before .before .before .pre .0 .opened), window-longer _ _ (c .before .before .before .before .before .before .before .before .before .before .before .before .before .before .before .before .before .before .before .pre .1), (c .before .before .before .before .before .before .before .before .before .before .before .before .before .before .local-dates .ensures), (c .before .before .before .before .before .before .before .before .before .before .before .before .before .frame-of .ensures), (c .before .before .if2 .taken), (c .before .if3 .taken)), closing-ready _ _ _ _ _ (piece-apart (holidayRule (holidaysIs (c .before .before .before .before .before .before .before .before .before .before .before .before .before .before .before .before .before .before .before .args .book .now) (c .before .before .before .before .before .before .before .before .before .before .before .before .before .before .before .before .before .before .before .args .pack .now) (c .before .before .before .before .before .before .before .before .before .before .before .before .before .before .before .before .before .before .before .args .c))) (nanos (c .before .before .before .before .before .before .before .before .before .before .before .before .before .before .before .before .before .before .before .args .lo)) (nanos (c .before .before .before .before .before .before .before .before .before .before .before .before .before .before .before .before .before .before .before .args .hi))) _ _ _ _ (c .before .before .before .before .before .before .before .before .before .before .before .before .before .before .before .before .before .before .before .pre .2 .normal) _ _ _ _ (c .before .before .before .before .before .before .before .before .loop .inv) (piece-short (holidayRule (holidaysIs (c .before .before .before .before .before .before .before .before .before .before .before .before .before .before .before .before .before .before .before .args .book .now) (c .before .before .before .before .before .before .before .before .before .before .before .before .before .before .before .before .before .before .before .args .pack .now) (c .before .before .before .before .before .before .before .before .before .before .before .before .before .before .before .before .before .before .before .args .c))) (nanos (c .before .before .before .before .before .before .before .before .before .before .before .before .before .before .before .before .before .before .before .args .lo)) (nanos (c .before .before .before .before .before .before .before .before .before .before .before .before .before .before .before .before .before .before .before .args .hi))) (few-dates _ _ _ _ _ (c .before .before .before .before .before .before .before .before .before .before .before .before .before .before .before .before .before .before .before .pre .0 .opened) (c .before .before .before .before .before .before .before .before .before .before .before .before .before .before .before .before .before .before .before .pre .1) (c .before .before .before .before .before .before .before .before .before .before .before .before .before .before .local-dates .ensures)) (c .before .before .before .before .before .before .before .before .before .before .before .before .before .before .before .before .before .before .before .pre .2 .room))
+rank-into-requires : tie.Need-rank-into-requires Inv-loop μ-loop
+rank-into-requires c κs = (((c .before .before .before .before .before .before .before .before .before .before .before .before .before .before .before .before .before .before .pre .0 .opened), window-longer _ _ (c .before .before .before .before .before .before .before .before .before .before .before .before .before .before .before .before .before .before .pre .1), (c .before .before .before .before .before .before .before .before .before .before .before .before .before .local-dates .ensures), (c .before .before .before .before .before .before .before .before .before .before .before .before .frame-of .ensures)), closing-ready _ _ _ _ _ (piece-apart (holidayRule (holidaysIs (c .before .before .before .before .before .before .before .before .before .before .before .before .before .before .before .before .before .before .args .book .now) (c .before .before .before .before .before .before .before .before .before .before .before .before .before .before .before .before .before .before .args .pack .now) (c .before .before .before .before .before .before .before .before .before .before .before .before .before .before .before .before .before .before .args .c))) (nanos (c .before .before .before .before .before .before .before .before .before .before .before .before .before .before .before .before .before .before .args .lo)) (nanos (c .before .before .before .before .before .before .before .before .before .before .before .before .before .before .before .before .before .before .args .hi))) _ _ _ _ (c .before .before .before .before .before .before .before .before .before .before .before .before .before .before .before .before .before .before .pre .2 .normal) _ _ _ _ (c .before .before .before .before .before .loop .inv) (piece-short (holidayRule (holidaysIs (c .before .before .before .before .before .before .before .before .before .before .before .before .before .before .before .before .before .before .args .book .now) (c .before .before .before .before .before .before .before .before .before .before .before .before .before .before .before .before .before .before .args .pack .now) (c .before .before .before .before .before .before .before .before .before .before .before .before .before .before .before .before .before .before .args .c))) (nanos (c .before .before .before .before .before .before .before .before .before .before .before .before .before .before .before .before .before .before .args .lo)) (nanos (c .before .before .before .before .before .before .before .before .before .before .before .before .before .before .before .before .before .before .args .hi))) (few-dates _ _ _ _ _ (c .before .before .before .before .before .before .before .before .before .before .before .before .before .before .before .before .before .before .pre .0 .opened) (c .before .before .before .before .before .before .before .before .before .before .before .before .before .before .before .before .before .before .pre .1) (c .before .before .before .before .before .before .before .before .before .before .before .before .before .local-dates .ensures)) (c .before .before .before .before .before .before .before .before .before .before .before .before .before .before .before .before .before .before .pre .2 .room))
 
 loop-less : tie.Need-loop-less Inv-loop μ-loop
-loop-less c = omega (arith, (c .before .before .before .before .before .before .before .before .before .before .loop-test .taken))
+loop-less c = omega (arith, (c .before .before .before .before .before .before .before .loop-test .taken))
 
 loop-again : tie.Need-loop-again Inv-loop μ-loop
-loop-again c = closing-on _ _ _ _ _ (piece-apart (holidayRule (holidaysIs (c .before .before .before .before .before .before .before .before .before .before .before .before .before .before .before .before .before .before .before .before .before .before .args .book .now) (c .before .before .before .before .before .before .before .before .before .before .before .before .before .before .before .before .before .before .before .before .before .before .args .pack .now) (c .before .before .before .before .before .before .before .before .before .before .before .before .before .before .before .before .before .before .before .before .before .before .args .c))) (nanos (c .before .before .before .before .before .before .before .before .before .before .before .before .before .before .before .before .before .before .before .before .before .before .args .lo)) (nanos (c .before .before .before .before .before .before .before .before .before .before .before .before .before .before .before .before .before .before .before .before .before .before .args .hi))) _ _ _ _ (c .before .before .before .before .before .before .before .before .before .before .before .before .before .before .before .before .before .before .before .before .before .before .pre .2 .normal) _ _ _ _ (c .before .before .before .before .before .before .before .before .before .before .before .loop .inv) (omega (arith, (c .before .before .before .before .before .before .before .before .before .before .loop-test .taken))) _ (c .before .before .before .before .before .before .day-of-rank .ensures ∙ c .before .before .before .before .before .before .before .before .before .rank-at .ensures .1) (c .before .before .before .before .before .if2 .taken) (c .before .before .before .before .if3 .taken) _ _ (filled-same _ _ _ _ _ _ _ _ (piece-any (holidayRule (holidaysIs (c .before .before .before .before .before .before .before .before .before .before .before .before .before .before .before .before .before .before .before .before .before .before .args .book .now) (c .before .before .before .before .before .before .before .before .before .before .before .before .before .before .before .before .before .before .before .before .before .before .args .pack .now) (c .before .before .before .before .before .before .before .before .before .before .before .before .before .before .before .before .before .before .before .before .before .before .args .c))) _ _ _) (c .before .before .free-into .ensures))
+loop-again c = closing-turn _ _ _ _ _ (piece-apart (holidayRule (holidaysIs (c .before .before .before .before .before .before .before .before .before .before .before .before .before .before .before .before .before .before .before .before .before .args .book .now) (c .before .before .before .before .before .before .before .before .before .before .before .before .before .before .before .before .before .before .before .before .before .args .pack .now) (c .before .before .before .before .before .before .before .before .before .before .before .before .before .before .before .before .before .before .before .before .before .args .c))) (nanos (c .before .before .before .before .before .before .before .before .before .before .before .before .before .before .before .before .before .before .before .before .before .args .lo)) (nanos (c .before .before .before .before .before .before .before .before .before .before .before .before .before .before .before .before .before .before .before .before .before .args .hi))) _ _ _ _ (c .before .before .before .before .before .before .before .before .before .before .before .before .before .before .before .before .before .before .before .before .before .pre .2 .normal) _ _ _ _ (c .before .before .before .before .before .before .before .before .loop .inv) (c .before .before .before .before .before .before .before .loop-test .taken) (dayOfRank (c .before .before .before .before .before .before .rank-at .result)) (c .before .before .before .before .before .before .rank-at .ensures .1) _ _ (filled-same _ _ _ _ _ _ _ _ (ap (λ (l : List Block). if isIn (fromDay (c .before .before .before .before .before .before .before .before .before .before .before .before .before .before .before .before .local-dates .result)) (uptoDay (c .before .before .before .before .before .before .before .before .before .before .before .before .before .before .before .before .local-dates .result)) (dayOfRank (c .before .before .before .before .before .before .rank-at .result)) then l else []) (piece-any (holidayRule (holidaysIs (c .before .before .before .before .before .before .before .before .before .before .before .before .before .before .before .before .before .before .before .before .before .args .book .now) (c .before .before .before .before .before .before .before .before .before .before .before .before .before .before .before .before .before .before .before .before .before .args .pack .now) (c .before .before .before .before .before .before .before .before .before .before .before .before .before .before .before .before .before .before .before .before .before .args .c))) _ _ _)) (c .before .before .rank-into .ensures))
 
 loop-less-2 : tie.Need-loop-less-2 Inv-loop μ-loop
-loop-less-2 c = omega (arith, (c .before .before .before .before .before .before .loop-test .taken))
+loop-less-2 c = omega (arith, (c .before .before .before .loop-test .taken))
 
 loop-again-2 : tie.Need-loop-again-2 Inv-loop μ-loop
-loop-again-2 c = closing-off _ _ _ _ _ (piece-apart (holidayRule (holidaysIs (c .before .before .before .before .before .before .before .before .before .before .before .before .before .before .before .before .before .before .args .book .now) (c .before .before .before .before .before .before .before .before .before .before .before .before .before .before .before .before .before .before .args .pack .now) (c .before .before .before .before .before .before .before .before .before .before .before .before .before .before .before .before .before .before .args .c))) (nanos (c .before .before .before .before .before .before .before .before .before .before .before .before .before .before .before .before .before .before .args .lo)) (nanos (c .before .before .before .before .before .before .before .before .before .before .before .before .before .before .before .before .before .before .args .hi))) _ _ _ _ (c .before .before .before .before .before .before .before .before .before .before .before .before .before .before .before .before .before .before .pre .2 .normal) _ _ _ _ (c .before .before .before .before .before .before .before .loop .inv) (omega (arith, (c .before .before .before .before .before .before .loop-test .taken))) _ (c .before .before .day-of-rank .ensures ∙ c .before .before .before .before .before .rank-at .ensures .1) (inr (c .if3 .left))
-
-loop-less-3 : tie.Need-loop-less-3 Inv-loop μ-loop
-loop-less-3 c = omega (arith, (c .before .before .before .before .before .loop-test .taken))
-
-loop-again-3 : tie.Need-loop-again-3 Inv-loop μ-loop
-loop-again-3 c = closing-off _ _ _ _ _ (piece-apart (holidayRule (holidaysIs (c .before .before .before .before .before .before .before .before .before .before .before .before .before .before .before .before .before .args .book .now) (c .before .before .before .before .before .before .before .before .before .before .before .before .before .before .before .before .before .args .pack .now) (c .before .before .before .before .before .before .before .before .before .before .before .before .before .before .before .before .before .args .c))) (nanos (c .before .before .before .before .before .before .before .before .before .before .before .before .before .before .before .before .before .args .lo)) (nanos (c .before .before .before .before .before .before .before .before .before .before .before .before .before .before .before .before .before .args .hi))) _ _ _ _ (c .before .before .before .before .before .before .before .before .before .before .before .before .before .before .before .before .before .pre .2 .normal) _ _ _ _ (c .before .before .before .before .before .before .loop .inv) (omega (arith, (c .before .before .before .before .before .loop-test .taken))) _ (c .before .day-of-rank .ensures ∙ c .before .before .before .before .rank-at .ensures .1) (inl (c .if2 .left))
-
-loop-less-4 : tie.Need-loop-less-4 Inv-loop μ-loop
-loop-less-4 c = omega (arith, (c .before .before .before .loop-test .taken))
-
-loop-again-4 : tie.Need-loop-again-4 Inv-loop μ-loop
-loop-again-4 c = closing-off _ _ _ _ _ (piece-apart (holidayRule (holidaysIs (c .before .before .before .before .before .before .before .before .before .before .before .before .before .before .before .args .book .now) (c .before .before .before .before .before .before .before .before .before .before .before .before .before .before .before .args .pack .now) (c .before .before .before .before .before .before .before .before .before .before .before .before .before .before .before .args .c))) (nanos (c .before .before .before .before .before .before .before .before .before .before .before .before .before .before .before .args .lo)) (nanos (c .before .before .before .before .before .before .before .before .before .before .before .before .before .before .before .args .hi))) _ _ _ _ (c .before .before .before .before .before .before .before .before .before .before .before .before .before .before .before .pre .2 .normal) _ _ _ _ (c .before .before .before .before .loop .inv) (omega (arith, (c .before .before .before .loop-test .taken))) _ refl (rank-not _ _ _ _ _ _ _ _ (omega (arith, (c .before .before .before .before .before .before .before .before .before .before .local-dates .ensures .low))) (c .before .before .before .before .before .before .before .before .rank-from .ensures) (c .before .before .before .before .before .before .before .rank-of .ensures) (c .before .before .rank-at .ensures .0) (c .before .in-ranks .ensures) (c .if1 .left))
+loop-again-2 c = let q = (c .before .before .before .before .before .before .before .before .before .before .before .before .local-dates .ensures) in
+    closing-off _ _ _ _ _ (piece-apart (holidayRule (holidaysIs (c .before .before .before .before .before .before .before .before .before .before .before .before .before .before .before .before .before .args .book .now) (c .before .before .before .before .before .before .before .before .before .before .before .before .before .before .before .before .before .args .pack .now) (c .before .before .before .before .before .before .before .before .before .before .before .before .before .before .before .before .before .args .c))) (nanos (c .before .before .before .before .before .before .before .before .before .before .before .before .before .before .before .before .before .args .lo)) (nanos (c .before .before .before .before .before .before .before .before .before .before .before .before .before .before .before .before .before .args .hi))) _ _ _ _ (c .before .before .before .before .before .before .before .before .before .before .before .before .before .before .before .before .before .pre .2 .normal) _ _ _ _ (c .before .before .before .before .loop .inv) (c .before .before .before .loop-test .taken) _ refl (rank-not _ _ _ _ _ _ _ _ (omega (arith, q .low)) (rw (day-bits (is-fits (q .first-number))) at (c .before .before .before .before .before .before .before .before .before .rank-of .ensures)) (rw (day-bits (is-fits (q .last-number))) at (c .before .before .before .before .before .before .before .rank-of2 .ensures)) (c .before .before .rank-at .ensures .0) (c .before .in-ranks .ensures) (c .if1 .left))
 
 same-length : tie.Need-same-length Inv-loop μ-loop
 same-length c = (c .before .loop .inv .long)
 
 returns : tie.Need-returns Inv-loop μ-loop
-returns c = filled-same _ _ _ _ _ _ _ _ (closed-shows (c .before .before .before .before .before .before .before .before .before .before .before .before .args .book .now) (c .before .before .before .before .before .before .before .before .before .before .before .before .args .pack .now) (c .before .before .before .before .before .before .before .before .before .before .before .before .args .c) _ _ _ _ (c .before .before .before .before .before .before .before .local-dates .ensures .first-is) (c .before .before .before .before .before .before .before .local-dates .ensures .last-is)) (closing-done _ _ _ _ _ (piece-apart (holidayRule (holidaysIs (c .before .before .before .before .before .before .before .before .before .before .before .before .args .book .now) (c .before .before .before .before .before .before .before .before .before .before .before .before .args .pack .now) (c .before .before .before .before .before .before .before .before .before .before .before .before .args .c))) (nanos (c .before .before .before .before .before .before .before .before .before .before .before .before .args .lo)) (nanos (c .before .before .before .before .before .before .before .before .before .before .before .before .args .hi))) _ _ _ _ (c .before .before .before .before .before .before .before .before .before .before .before .before .pre .2 .normal) _ _ _ _ (c .before .loop .inv) (c .loop-test .left) (piece-short (holidayRule (holidaysIs (c .before .before .before .before .before .before .before .before .before .before .before .before .args .book .now) (c .before .before .before .before .before .before .before .before .before .before .before .before .args .pack .now) (c .before .before .before .before .before .before .before .before .before .before .before .before .args .c))) (nanos (c .before .before .before .before .before .before .before .before .before .before .before .before .args .lo)) (nanos (c .before .before .before .before .before .before .before .before .before .before .before .before .args .hi))) (few-dates _ _ _ _ _ (c .before .before .before .before .before .before .before .before .before .before .before .before .pre .0 .opened) (c .before .before .before .before .before .before .before .before .before .before .before .before .pre .1) (c .before .before .before .before .before .before .before .local-dates .ensures)))
+returns c = let q = (c .before .before .before .before .before .before .before .before .before .local-dates .ensures) in
+    filled-same _ _ _ _ _ _ _ _ (closed-shows (c .before .before .before .before .before .before .before .before .before .before .before .before .before .before .args .book .now) (c .before .before .before .before .before .before .before .before .before .before .before .before .before .before .args .pack .now) (c .before .before .before .before .before .before .before .before .before .before .before .before .before .before .args .c) _ _ _ _ (q .first-is) (q .last-is)) (closing-done _ _ _ _ _ (piece-apart (holidayRule (holidaysIs (c .before .before .before .before .before .before .before .before .before .before .before .before .before .before .args .book .now) (c .before .before .before .before .before .before .before .before .before .before .before .before .before .before .args .pack .now) (c .before .before .before .before .before .before .before .before .before .before .before .before .before .before .args .c))) (nanos (c .before .before .before .before .before .before .before .before .before .before .before .before .before .before .args .lo)) (nanos (c .before .before .before .before .before .before .before .before .before .before .before .before .before .before .args .hi))) _ _ _ _ (c .before .before .before .before .before .before .before .before .before .before .before .before .before .before .pre .2 .normal) _ _ _ _ (c .before .loop .inv) (c .loop-test .left) (piece-short (holidayRule (holidaysIs (c .before .before .before .before .before .before .before .before .before .before .before .before .before .before .args .book .now) (c .before .before .before .before .before .before .before .before .before .before .before .before .before .before .args .pack .now) (c .before .before .before .before .before .before .before .before .before .before .before .before .before .before .args .c))) (nanos (c .before .before .before .before .before .before .before .before .before .before .before .before .before .before .args .lo)) (nanos (c .before .before .before .before .before .before .before .before .before .before .before .before .before .before .args .hi))) (few-dates _ _ _ _ _ (c .before .before .before .before .before .before .before .before .before .before .before .before .before .before .pre .0 .opened) (c .before .before .before .before .before .before .before .before .before .before .before .before .before .before .pre .1) (c .before .before .before .before .before .before .before .before .before .local-dates .ensures)))
 
 pub holidays-into-spec : {M : Type 1} → statement M
 holidays-into-spec =
@@ -99,8 +90,8 @@ holidays-into-spec =
     μ-loop
     local-dates-requires
     frame-of-requires
-    rank-from-requires
     rank-of-requires
+    rank-of-requires-2
     mul-at
     add-at
     loop-holds
@@ -108,15 +99,10 @@ holidays-into-spec =
     sub-at
     rank-at-requires
     in-ranks-requires
-    day-of-rank-requires
-    free-into-requires
+    rank-into-requires
     loop-less
     loop-again
     loop-less-2
     loop-again-2
-    loop-less-3
-    loop-again-3
-    loop-less-4
-    loop-again-4
     same-length
     returns)

@@ -1,12 +1,13 @@
 -- `window_holiday::rank_of` meets its contract. Assumes nothing.
 use mathlib.Core.Path.{ap}
 use Prim.Native.Nat.{_+_}
+use mir.Facts.{toZ-ofZ}
+use Rattle.civil.specs.Dates.{yearBias}
 use Rattle.civil.specs.declared.Date.{Date}
 use Rattle.window_holiday.specs.Ranks.{rank, rankOf}
 use borrow.Author.Needs.{needs}
 use Rattle.window_holiday.proofs.rank_of.Statement.{statement}
 use Rattle.window_holiday.proofs.rank_of.Tie as tie
-use Rattle.civil.specs.Dates.{yearBias}
 
 date-of-requires : tie.Need-date-of-requires
 date-of-requires c κs = search needs
@@ -40,7 +41,7 @@ add-result-3 c = search needs
 
 returns : tie.Need-returns
 unfolding rankOf
-returns c = ap (λ (d : Date). rank (d .year + yearBias) (d .month) (d .day)) (c .before .before .before .date-of .ensures)
+returns c = rw (toZ-ofZ (c .before .before .before .before .fits .day)) at (ap (λ (d : Date). rank (d .year + yearBias) (d .month) (d .day)) (c .before .before .before .date-of .ensures))
 
 pub rank-of-spec : {M : Type 1} → statement M
 rank-of-spec =

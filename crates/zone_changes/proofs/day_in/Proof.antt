@@ -1,6 +1,8 @@
--- `zone_changes::day_in` meets its contract.
-use Rattle.zone_changes.proofs.Days.{year-small, month-fits, julian-fits, plain-fits, day-is, plain-is}
+-- `zone_changes::day_in` meets its contract. Assumes nothing.
 use native.Mathlib.Omega.{arith}
+use Rattle.laws_calendar.specs.Numbers.{gives-on, bits-day, bits-is}
+use mathlib.Core.Path.{refl}
+use Rattle.zone_changes.proofs.Days.{year-small, month-fits, julian-fits, plain-fits, day-is, plain-is}
 use borrow.Author.Needs.{needs}
 use Rattle.zone_changes.proofs.day_in.Statement.{statement}
 use Rattle.zone_changes.proofs.day_in.Tie as tie
@@ -20,20 +22,20 @@ julian-day-requires c κs = let h = julian-fits (c .before .day2 .given .1) ((c 
 enum-known-day-3 : tie.Need-enum-known-day-3
 enum-known-day-3 c = search needs
 
-days-before-year-requires : tie.Need-days-before-year-requires
-days-before-year-requires c κs = search needs
+year-start-requires : tie.Need-year-start-requires
+year-start-requires c κs = search needs
 
-add-result : tie.Need-add-result
-add-result c = omega (arith, year-small (c .before .before .before .before .args .year) ((c .before .before .before .before .pre) .1), plain-fits (c .before .before .day3 .given .1) ((c .before .before .before .before .pre) .0))
+later-requires : tie.Need-later-requires
+later-requires c κs = let s = year-small _ (c .before .before .before .before .pre .1) in let f = plain-fits (c .before .before .day3 .given .1) ((c .before .before .before .before .pre) .0) in let e = c .year-start .ensures in (bits-is e (omega arith), omega (arith, bits-day e (omega arith)))
 
 returns : tie.Need-returns
-returns c = day-is (c .before .before .before .before .args .year) (c .before .before .day .given .1) (c .month-day .ensures)
+returns c = day-is (c .before .before .before .before .args .year) (c .before .before .day .given .1) (gives-on (c .month-day .ok) (c .month-day .ensures) refl)
 
 returns-2 : tie.Need-returns-2
-returns-2 c = day-is (c .before .before .before .before .args .year) (c .before .before .day2 .given .1) (c .julian-day .ensures)
+returns-2 c = day-is (c .before .before .before .before .args .year) (c .before .before .day2 .given .1) (gives-on (c .julian-day .ok) (c .julian-day .ensures) refl)
 
 returns-3 : tie.Need-returns-3
-returns-3 c = day-is (c .before .before .before .before .args .year) (c .before .before .day3 .given .1) (plain-is (c .before .before .before .before .args .year) _ (c .days-before-year .ensures))
+returns-3 c = let s = year-small _ (c .before .before .before .before .before .pre .1) in day-is (c .before .before .before .before .before .args .year) (c .before .before .before .day3 .given .1) (gives-on (c .later .ok) (c .later .ensures) (plain-is (c .before .before .before .before .before .args .year) _ (bits-day (c .before .year-start .ensures) (omega arith))))
 
 pub day-in-spec : {M : Type 1} → statement M
 day-in-spec =
@@ -44,8 +46,8 @@ day-in-spec =
     enum-known-day-2
     julian-day-requires
     enum-known-day-3
-    days-before-year-requires
-    add-result
+    year-start-requires
+    later-requires
     returns
     returns-2
     returns-3)

@@ -1,5 +1,9 @@
--- `zone_local::last_date` meets its contract.
-use Rattle.zone_local.proofs.Facts.{last-on, last-here}
+-- `zone_local::last_date` meets its contract. Assumes nothing.
+use native.Mathlib.Omega.{arith}
+use mathlib.Core.Path.{_∙_, refl}
+use mir.Facts.{toZ-ofZ}
+use Rattle.laws_calendar.specs.Numbers.{gives-on, is-fits, day-given, day-bits, told-before, told-not}
+use Rattle.zone_local.proofs.Facts.{last-on, last-here, last-day, last-number}
 use borrow.Author.Needs.{needs}
 use Rattle.zone_local.proofs.last_date.Statement.{statement}
 use Rattle.zone_local.proofs.last_date.Tie as tie
@@ -7,14 +11,18 @@ use Rattle.zone_local.proofs.last_date.Tie as tie
 local-day-requires : tie.Need-local-day-requires
 local-day-requires c κs = search needs
 
-add-result : tie.Need-add-result
-add-result c = search needs
+precedes-requires : tie.Need-precedes-requires
+precedes-requires c κs = rw (toZ-ofZ (is-fits (c .local-day .ensures .1))) (c .local-day .ensures .1, last-number)
+
+later-requires : tie.Need-later-requires
+later-requires c κs = let d = c .before .before .local-day in rw (toZ-ofZ (is-fits (d .ensures .1))) (d .ensures .1, omega (arith, last-day, day-bits (is-fits (d .ensures .1)), told-before _ _ (c .before .precedes .ensures) (c .if1 .taken)))
 
 returns : tie.Need-returns
-returns c = last-on _ _ _ ((c .before .local-day .ensures)) ((c .if1 .taken))
+returns c = let d = c .before .before .before .local-day in gives-on (c .later .ok) (c .later .ensures) (last-on _ _ _ (day-bits (is-fits (d .ensures .1)) ∙ day-given (d .ensures .0)) (omega (arith, last-day, told-before _ _ (c .before .before .precedes .ensures) (c .before .if1 .taken))))
 
 returns-2 : tie.Need-returns-2
-returns-2 c = last-here _ _ _ ((c .before .local-day .ensures)) ((c .if1 .left))
+returns-2 c = let d = c .before .before .local-day in gives-on (d .ok) (d .ensures .0) (last-here _ _ _ refl (omega (arith, last-day, day-given (d .ensures .0), day-bits (is-fits (d .ensures .1)), told-not _ _ (c .before .precedes .ensures) (c .if1 .left))))
 
 pub last-date-spec : {M : Type 1} → statement M
-last-date-spec = tie.close (tie.spec local-day-requires add-result returns returns-2)
+last-date-spec =
+    tie.close (tie.spec local-day-requires precedes-requires later-requires returns returns-2)

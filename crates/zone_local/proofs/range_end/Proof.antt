@@ -1,14 +1,19 @@
--- `zone_local::range_end` meets its contract.
+-- `zone_local::range_end` meets its contract. Assumes nothing.
 use native.Mathlib.Omega.{arith}
-use Rattle.zone_local.proofs.Facts.{end-early, end-late}
+use mir.Facts.{toZ-ofZ}
+use Rattle.laws_calendar.specs.Numbers.{day-bits, told-before, told-not}
+use Rattle.zone_local.proofs.Facts.{end-early, end-late, year-zero, zero-number}
 use Rattle.zone_local.proofs.range_end.Statement.{statement}
 use Rattle.zone_local.proofs.range_end.Tie as tie
 
+precedes-requires : tie.Need-precedes-requires
+precedes-requires c κs = rw (toZ-ofZ (c .fits .day)) (c .pre, zero-number)
+
 returns : tie.Need-returns
-returns c = (end-early _ ((c .if1 .taken)), record { low = omega arith; high = omega arith; ns = omega arith })
+returns c = (end-early _ (omega (arith, year-zero, day-bits (c .before .before .fits .day), told-before _ _ (c .before .precedes .ensures) (c .if1 .taken))), record { low = omega arith; high = omega arith; ns = omega arith })
 
 returns-2 : tie.Need-returns-2
-returns-2 c = (end-late _ ((c .if1 .left)), record { low = omega arith; high = omega arith; ns = omega arith })
+returns-2 c = (end-late _ (omega (arith, year-zero, day-bits (c .before .before .fits .day), told-not _ _ (c .before .precedes .ensures) (c .if1 .left))), record { low = omega arith; high = omega arith; ns = omega arith })
 
 pub range-end-spec : {M : Type 1} → statement M
-range-end-spec = tie.close (tie.spec returns returns-2)
+range-end-spec = tie.close (tie.spec precedes-requires returns returns-2)
