@@ -31,7 +31,7 @@ const LAST_YEAR: u32 = 20399;
 pub const YEAR_BIAS: u32 = 22368;
 
 // The days of 400 years.
-const DAYS_OF_400_YEARS: u64 = 146097;
+const DAYS_OF_400_YEARS: u32 = 146097;
 
 // The weekday of -10400-01-01, a Saturday.
 const FIRST_WEEKDAY: u32 = 5;
@@ -192,7 +192,7 @@ pub fn year_of(day: i32) -> u32
     requires { ⌜ InCalendar day ⌝ }
     ensures { λ r. ⌜ r ≡ yearOf (dayOf day) ⌝ }
 {
-    let e = (400 * (days_from(START, day) as u64 + 1) / DAYS_OF_400_YEARS) as u32;
+    let e = 400 * (days_from(START, day) + 1) / DAYS_OF_400_YEARS;
     if precedes(day, year_start(e)) {
         return e - 1;
     }

@@ -6,7 +6,7 @@ use mathlib.Core.Logic.{_⊎_, inl, inr, ⊎-elim}
 use Prim.Native.Nat.{ℕ, zero, suc, _+_, _-_, _/_, _%_, _≤_, _<_}
 use native.Mathlib.Nat.{eq-or-lt-of-le}
 use native.Mathlib.Omega.{arith}
-use borrow.Author.Tests.{leb-false, le-leb, lt-leb}
+use borrow.Author.Tests.{leb-true, leb-false, le-leb, lt-leb}
 use lib.Dec.{leb}
 use lib.ListN.{getD}
 use Rattle.big_endian.specs.Be.{be16, be32}
@@ -115,13 +115,17 @@ rank-read b p n r h e q =
 
 -- ---- the date of a rank
 
-pub no-rank : (k : ℕ) → k / 65536 < yearBias → NoDate ≡ dateOfRank k
+pub a-rank : (k y m d : ℕ) {r : DayRead} → k < 4294967296 → y ≡ (k / 65536 + 43168) % 65536 → m ≡ k / 256 % 256 → d ≡ k % 256 → r ≡ dayRead (record { year = y; month = m; day = d }) → r ≡ dateOfRank k
 unfolding dateOfRank
-no-rank k h = day-no (record { year = k / 65536 - yearBias; month = k / 256 % 256; day = k % 256 }) (no-date (λ v. let x = v .year-low in omega arith))
-
-pub a-rank : (k y m d : ℕ) {r : DayRead} → y ≡ k / 65536 - yearBias → m ≡ k / 256 % 256 → d ≡ k % 256 → r ≡ dayRead (record { year = y; month = m; day = d }) → r ≡ dateOfRank k
-unfolding dateOfRank
-a-rank k y m d p q o e = e ∙ (λ i. dayRead (record { year = p i; month = q i; day = o i }))
+a-rank k y m d h p q o e =
+    by-test (leb yearBias (k / 65536))
+    (λ t.
+    let l = leb-true yearBias (k / 65536) t in let g : y ≡ k / 65536 - yearBias = omega arith in
+    e ∙ (λ i. dayRead (record { year = g i; month = q i; day = o i })))
+    (λ t.
+    let l = leb-false yearBias (k / 65536) t in
+    e ∙ sym (day-no (record { year = y; month = m; day = d }) (no-date (λ v. let x = v .year-high in omega arith)))
+    ∙ day-no (record { year = k / 65536 - yearBias; month = k / 256 % 256; day = k % 256 }) (no-date (λ v. let x = v .year-low in omega arith)))
 
 -- no date has day 0
 pub rank-none : (k : ℕ) {r : DayRead} → r ≡ dateOfRank k → r ≡ NoDate → dayOfRank k ≡ 0

@@ -23,6 +23,9 @@ use window_piece::Frame;
 // Half as many numbers as four bytes say: so many are negative where they have a sign.
 const NEGATIVES: u64 = big_endian::FOUR_BYTES / 2;
 
+// As many years as two bytes say, less those before -10400: with these added, the years before -10400 are behind all others, where no date is.
+const YEARS: u32 = 65536 - civil::YEAR_BIAS;
+
 // Adds the whole of a date of the window.
 fn free_into(
     pack: &[u8],
@@ -76,10 +79,7 @@ fn in_ranks(k: u32, from: u64, to: u64) -> bool
 fn day_of_rank(k: u32) -> DayRead
     ensures { λ r. ⌜ r ≡ dateOfRank k ⌝ }
 {
-    if k / 65536 < civil::YEAR_BIAS {
-        return DayRead::NoDate;
-    }
-    let year = k / 65536 - civil::YEAR_BIAS;
+    let year = (k / 65536 + YEARS) % 65536;
     let month = k / 256 % 256;
     let day = k % 256;
     civil::day_of(Date { year, month, day })

@@ -8,24 +8,17 @@ use Rattle.laws_calendar.specs.Dates.{after-first}
 use Rattle.laws_calendar.specs.Years.{dby-hi}
 use Rattle.laws_calendar.specs.Numbers.{numbered, start-day, start-number, day-bits, bits-day, bits-is, told-before, told-not}
 use Rattle.civil.specs.Formulas.{year-early, year-late}
-use borrow.Author.Needs.{needs}
 use Rattle.civil.proofs.year_of.Statement.{statement}
 use Rattle.civil.proofs.year_of.Tie as tie
 
 days-from-requires : tie.Need-days-from-requires
 days-from-requires c κs = rw (toZ-ofZ (c .fits .day)) (start-number, c .pre .number, omega (arith, start-day))
 
-cast-e : tie.Need-cast-e
-cast-e c = search needs
-
 add-e : tie.Need-add-e
-add-e c = search needs
+add-e c = omega (arith, start-day, day-bits (c .before .fits .day), c .before .pre .below)
 
 mul-e : tie.Need-mul-e
-mul-e c = search needs
-
-cast-e-2 : tie.Need-cast-e-2
-cast-e-2 c = search needs
+mul-e c = omega (arith, start-day, day-bits (c .before .fits .day), c .before .pre .below)
 
 year-start-requires : tie.Need-year-start-requires
 year-start-requires c κs = omega (arith, start-day, day-bits (c .before .fits .day), c .before .pre .below)
@@ -72,10 +65,8 @@ year-of-spec =
     tie.close
     (tie.spec
     days-from-requires
-    cast-e
     add-e
     mul-e
-    cast-e-2
     year-start-requires
     precedes-requires
     sub-result
