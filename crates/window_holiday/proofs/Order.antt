@@ -6,8 +6,8 @@ use mathlib.Core.Logic.{_⊎_, inl, inr, ⊎-elim}
 use Prim.Native.Nat.{ℕ, zero, suc, _+_, _-_, _/_, _%_, _≤_, _<_}
 use native.Mathlib.Nat.{eq-or-lt-of-le}
 use native.Mathlib.Omega.{arith}
-use borrow.Author.Tests.{leb-true, leb-false, le-leb, lt-leb}
-use lib.Dec.{leb}
+use borrow.Author.Tests.{leb-true, leb-false, le-leb, lt-leb, lt-ltb, le-ltb}
+use lib.Dec.{leb, ltb}
 use lib.ListN.{getD}
 use Rattle.big_endian.specs.Be.{be16, be32}
 use lib.IntN.{ℤ}
@@ -17,9 +17,9 @@ use Rattle.model.specs.DayNumber.{dayOf}
 use Rattle.model.specs.Calendar.{isLeap, isDate, dayNumber, dateOf, daysInMonth, daysBeforeMonth, daysBeforeYear}
 use Rattle.laws_calendar.specs.Dates.{Has, IsDate, date-has, day-of-date, has-within, is-had, date-facts, year-mono, at-most-31, no-date}
 use Rattle.laws_calendar.specs.Numbers.{IsDayNumber, day-given}
-use Rattle.laws_base.specs.Test.{by-test, both-and, clash}
+use Rattle.laws_base.specs.Test.{by-test, same-test, both-and, clash}
 use Rattle.book.specs.Meaning.{writtenYear, dayAt}
-use Rattle.window_holiday.specs.Ranks.{rank, rankOf, rankAt, dayOfRank, dateOfRank}
+use Rattle.window_holiday.specs.Ranks.{rank, rankOf, rankAt, inRanks, ranksEnd, dayOfRank, dateOfRank}
 use Rattle.civil.specs.Dates.{yearBias, dayRead}
 use Rattle.civil.specs.DateLaws.{day-no, read-day, read-none, read-number}
 use Rattle.civil.specs.declared.DayRead.{DayRead}
@@ -62,6 +62,25 @@ module _ (y m d z n e : ℕ) (a : Has y m d) (b : Has z n e) where
       let g : y ≤ z = omega arith in
       ⊎-elim (λ i. let k : m ≤ n = omega arith in ⊎-elim (λ j. by-day i j (omega arith)) (λ j. by-month i j) (eq-or-lt-of-le k)) (λ i. by-year i) (eq-or-lt-of-le g)
 
+-- ---- ranks that are counted
+
+pub in-count : (from count k r : ℕ) → from + count ≤ ranksEnd → k < 4294967296 → r < 18446744073709551616 → (r + from) % 18446744073709551616 ≡ k → ltb r count ≡ inRanks from count k
+unfolding inRanks
+in-count from count k r h i j e =
+    by-test (leb from k)
+    (λ t. let l = leb-true from k t in rw t (same-test r count k (from + count) (λ x. omega arith) (λ x. omega arith)))
+    (λ t. let l = leb-false from k t in rw t (le-ltb r count (omega arith)))
+
+-- the ranks of a window's dates
+pub in-as : (from to k : ℕ) → inRanks from (to + 1 - from) k ≡ isIn from to k
+unfolding inRanks
+in-as from to k =
+    by-test (leb from k)
+    (λ t. let l = leb-true from k t in rw t (by-test (leb k to)
+    (λ u. let m = leb-true k to u in rw u (lt-ltb k (from + (to + 1 - from)) (omega arith)))
+    (λ u. let m = leb-false k to u in rw u (le-ltb k (from + (to + 1 - from)) (omega arith)))))
+    (λ t. rw t)
+
 -- ---- the dates of a window
 
 -- the rank of a date that is written
@@ -87,17 +106,12 @@ rank-out b p first last from z h e =
     (λ t. rw t (inl z))
 
 -- the same by the code's test
-pub rank-not : (b : List ℕ) (p first last from to k : ℕ) (r : Bool) → 0 < first → from ≡ rankOf first → to ≡ rankOf last → k ≡ rankAt b p → r ≡ isIn from to k → r ≡ false
+pub rank-not : (b : List ℕ) (p first last from count k : ℕ) (r : Bool) → 0 < first → from ≡ rankOf first → count ≡ rankOf last + 1 - from → k ≡ rankAt b p → r ≡ inRanks from count k → r ≡ false
     → (dayAt b p < first) ⊎ (last < dayAt b p)
-rank-not b p first last from to k r z h e g q t = rank-out b p first last from z h (sym (ap₂ (λ (i j : ℕ). isIn from i j) e g) ∙ sym q ∙ t)
+rank-not b p first last from count k r z h e g q t =
+    rank-out b p first last from z h (sym (in-as from (rankOf last) (rankAt b p)) ∙ sym (ap₂ (λ (i j : ℕ). inRanks from i j) e g) ∙ sym q ∙ t)
 
 -- ---- the code
-
-pub in-low : (from to k : ℕ) → k < from → false ≡ isIn from to k
-in-low from to k h = rw (lt-leb from k h)
-
-pub in-high : (from to k : ℕ) → from ≤ k → leb k to ≡ isIn from to k
-in-high from to k h = rw (le-leb from k h)
 
 -- the day by a rank is that of the date which is written
 pub day-of-rank-is : (b : List ℕ) (p k : ℕ) → k ≡ rankAt b p → getD b (p + 2) 0 < 256 → getD b (p + 3) 0 < 256 → dayOfRank k ≡ dayAt b p

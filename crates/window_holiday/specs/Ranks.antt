@@ -1,6 +1,8 @@
 -- Dates as numbers in the order of their days, so that two comparisons tell whether a date lies from one day to another.
+use mathlib.Core.Bool.{Bool, _&&_}
 use mathlib.Core.List.{List}
 use Prim.Native.Nat.{ℕ, _+_, _*_, _-_, _/_, _%_}
+use lib.Dec.{leb, ltb}
 use lib.ListN.{getD}
 use Rattle.big_endian.specs.Be.{be16}
 use Rattle.model.specs.Basic.{if_then_else_}
@@ -15,6 +17,14 @@ rank y m d = y * 65536 + m * 256 + d
 -- that of a day's date
 unfoldable pub rankOf : ℕ → ℕ
 rankOf n = rank (dateOf n .year + yearBias) (dateOf n .month) (dateOf n .day)
+
+-- a bound above all ranks
+abbrev pub ranksEnd : ℕ
+ranksEnd = 1125899906842624
+
+-- k is one of so many ranks from `from` on
+unfoldable pub inRanks : ℕ → ℕ → ℕ → Bool
+inRanks from count k = leb from k && ltb k (from + count)
 
 -- that of what is written at p
 unfoldable pub rankAt : List ℕ → ℕ → ℕ

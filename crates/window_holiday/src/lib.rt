@@ -3,13 +3,12 @@
 ghost use mathlib.Core.Path.{_≡_};
 ghost use Prim.Native.Nat.{_+_, _≤_, _<_};
 ghost use lib.ListN.{length};
-ghost use Rattle.model.specs.Basic.{isIn};
 ghost use Rattle.book.specs.Meaning.{dayAt};
 ghost use Rattle.rule.specs.Rules.{HolidaysFit};
 ghost use Rattle.window_dates.specs.Windows.{Window};
 ghost use Rattle.window_piece.specs.Filled.{PairsReady};
 ghost use Rattle.window_holiday.specs.Holiday.{FreeDate, FreeDates, DateAdded, RankAdded, Closed};
-ghost use Rattle.window_holiday.specs.Ranks.{rankAt, rankOf, dayOfRank, dateOfRank};
+ghost use Rattle.window_holiday.specs.Ranks.{rankAt, rankOf, inRanks, ranksEnd, dayOfRank, dateOfRank};
 ghost use Rattle.civil.specs.Dates.{InCalendar};
 ghost use Rattle.model.specs.DayNumber.{dayOf};
 use civil::Date;
@@ -64,15 +63,12 @@ fn rank_at(b: &[u8], p: usize) -> u32
     ((n + NEGATIVES) % big_endian::FOUR_BYTES) as u32
 }
 
-// Whether k is one of the ranks from `from` to `to`.
-fn in_ranks(k: u32, from: u64, to: u64) -> bool
-    ensures { λ r. ⌜ r ≡ isIn from to k ⌝ }
+// Whether k is one of so many ranks from `from` on. A lesser one wraps to a difference that is greater than any count: one comparison tells both ends.
+fn in_ranks(k: u32, from: u64, count: u64) -> bool
+    requires { ⌜ from + count ≤ ranksEnd ⌝ }
+    ensures { λ r. ⌜ r ≡ inRanks from count k ⌝ }
 {
-    let n = k as u64;
-    if n < from {
-        return false;
-    }
-    n <= to
+    std::num::wrapping_sub_u64(k as u64, from) < count
 }
 
 // The day of the date that has the rank k, if there is one.
@@ -88,7 +84,7 @@ fn day_of_rank(k: u32) -> DayRead
 // The rank of a day's date.
 fn rank_of(day: i32) -> u64
     requires { ⌜ InCalendar day ⌝ }
-    ensures { λ r. ⌜ r ≡ rankOf (dayOf day) ⌝ }
+    ensures { λ r. ⌜ (r ≡ rankOf (dayOf day)) × (r < ranksEnd) ⌝ }
 {
     let d = civil::date_of(day);
     (d.year as u64 + civil::YEAR_BIAS as u64) * 65536 + d.month as u64 * 256 + d.day as u64
@@ -139,7 +135,7 @@ pub fn holidays_into(
     let days = window_dates::local_dates(pack, c.at, c.len, z, lo, hi);
     let f = window_piece::frame_of(days, lo, hi);
     let from = rank_of(days.first);
-    let to = rank_of(days.last);
+    let count = number::difference(rank_of(days.last) + 1, from);
     let mut n = w;
     let mut left = c.count;
     let mut at = c.dates + book_dates::DATE_SIZE * c.count;
@@ -147,7 +143,7 @@ pub fn holidays_into(
         left -= 1;
         at -= book_dates::DATE_SIZE;
         let k = rank_at(book, at);
-        if in_ranks(k, from, to) {
+        if in_ranks(k, from, count) {
             n = rank_into(pack, c, days, f, k, lo, hi, out, n);
         }
     }

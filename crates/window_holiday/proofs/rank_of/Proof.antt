@@ -1,6 +1,7 @@
 -- `window_holiday::rank_of` meets its contract. Assumes nothing.
 use mathlib.Core.Path.{ap}
 use Prim.Native.Nat.{_+_}
+use native.Mathlib.Omega.{arith}
 use mir.Facts.{toZ-ofZ}
 use Rattle.civil.specs.Dates.{yearBias}
 use Rattle.civil.specs.declared.Date.{Date}
@@ -41,7 +42,7 @@ add-result-3 c = search needs
 
 returns : tie.Need-returns
 unfolding rankOf
-returns c = rw (toZ-ofZ (c .before .before .before .before .fits .day)) at (ap (λ (d : Date). rank (d .year + yearBias) (d .month) (d .day)) (c .before .before .before .date-of .ensures))
+returns c = (rw (toZ-ofZ (c .before .before .before .before .fits .day)) at (ap (λ (d : Date). rank (d .year + yearBias) (d .month) (d .day)) (c .before .before .before .date-of .ensures)), omega arith)
 
 pub rank-of-spec : {M : Type 1} → statement M
 rank-of-spec =
