@@ -72,14 +72,14 @@ loop-less : tie.Need-loop-less Inv-loop μ-loop
 loop-less c = omega (arith, (c .before .before .before .before .before .before .before .loop-test .taken))
 
 loop-again : tie.Need-loop-again Inv-loop μ-loop
-loop-again c = closing-turn _ _ _ _ _ (piece-apart (holidayRule (holidaysIs (c .before .before .before .before .before .before .before .before .before .before .before .before .before .before .before .before .before .before .before .before .before .before .args .book .now) (c .before .before .before .before .before .before .before .before .before .before .before .before .before .before .before .before .before .before .before .before .before .before .args .pack .now) (c .before .before .before .before .before .before .before .before .before .before .before .before .before .before .before .before .before .before .before .before .before .before .args .c))) (nanos (c .before .before .before .before .before .before .before .before .before .before .before .before .before .before .before .before .before .before .before .before .before .before .args .lo)) (nanos (c .before .before .before .before .before .before .before .before .before .before .before .before .before .before .before .before .before .before .before .before .before .before .args .hi))) _ _ _ _ (c .before .before .before .before .before .before .before .before .before .before .before .before .before .before .before .before .before .before .before .before .before .before .pre .2 .normal) _ _ _ _ (c .before .before .before .before .before .before .before .before .loop .inv) (c .before .before .before .before .before .before .before .loop-test .taken) (dayOfRank (c .before .before .before .before .before .before .rank-at .result)) (c .before .before .before .before .before .before .rank-at .ensures .1) _ _ (filled-same _ _ _ _ _ _ _ _ (ap (λ (l : List Block). if isIn (fromDay (c .before .before .before .before .before .before .before .before .before .before .before .before .before .before .before .before .before .local-dates .result)) (uptoDay (c .before .before .before .before .before .before .before .before .before .before .before .before .before .before .before .before .before .local-dates .result)) (dayOfRank (c .before .before .before .before .before .before .rank-at .result)) then l else []) (piece-any (holidayRule (holidaysIs (c .before .before .before .before .before .before .before .before .before .before .before .before .before .before .before .before .before .before .before .before .before .before .args .book .now) (c .before .before .before .before .before .before .before .before .before .before .before .before .before .before .before .before .before .before .before .before .before .before .args .pack .now) (c .before .before .before .before .before .before .before .before .before .before .before .before .before .before .before .before .before .before .before .before .before .before .args .c))) _ _ _)) (c .before .before .rank-into .ensures))
+loop-again c = closing-turn _ _ _ _ _ (piece-apart (holidayRule (holidaysIs (c .before .before .before .before .before .before .before .before .before .before .before .before .before .before .before .before .before .before .before .before .before .before .args .book .now) (c .before .before .before .before .before .before .before .before .before .before .before .before .before .before .before .before .before .before .before .before .before .before .args .pack .now) (c .before .before .before .before .before .before .before .before .before .before .before .before .before .before .before .before .before .before .before .before .before .before .args .c))) (nanos (c .before .before .before .before .before .before .before .before .before .before .before .before .before .before .before .before .before .before .before .before .before .before .args .lo)) (nanos (c .before .before .before .before .before .before .before .before .before .before .before .before .before .before .before .before .before .before .before .before .before .before .args .hi))) _ _ _ _ (c .before .before .before .before .before .before .before .before .before .before .before .before .before .before .before .before .before .before .before .before .before .before .pre .2 .normal) _ _ _ _ (c .before .before .before .before .before .before .before .before .loop .inv) (omega (arith, (c .before .before .before .before .before .before .before .loop-test .taken))) (dayOfRank (c .before .before .before .before .before .before .rank-at .result)) (c .before .before .before .before .before .before .rank-at .ensures .1) _ _ (filled-same _ _ _ _ _ _ _ _ (ap (λ (l : List Block). if isIn (fromDay (c .before .before .before .before .before .before .before .before .before .before .before .before .before .before .before .before .before .local-dates .result)) (uptoDay (c .before .before .before .before .before .before .before .before .before .before .before .before .before .before .before .before .before .local-dates .result)) (dayOfRank (c .before .before .before .before .before .before .rank-at .result)) then l else []) (piece-any (holidayRule (holidaysIs (c .before .before .before .before .before .before .before .before .before .before .before .before .before .before .before .before .before .before .before .before .before .before .args .book .now) (c .before .before .before .before .before .before .before .before .before .before .before .before .before .before .before .before .before .before .before .before .before .before .args .pack .now) (c .before .before .before .before .before .before .before .before .before .before .before .before .before .before .before .before .before .before .before .before .before .before .args .c))) _ _ _)) (c .before .before .rank-into .ensures))
 
 loop-less-2 : tie.Need-loop-less-2 Inv-loop μ-loop
 loop-less-2 c = omega (arith, (c .before .before .before .loop-test .taken))
 
 loop-again-2 : tie.Need-loop-again-2 Inv-loop μ-loop
 loop-again-2 c = let q = (c .before .before .before .before .before .before .before .before .before .before .before .before .before .local-dates .ensures) in
-    closing-off _ _ _ _ _ (piece-apart (holidayRule (holidaysIs (c .before .before .before .before .before .before .before .before .before .before .before .before .before .before .before .before .before .before .args .book .now) (c .before .before .before .before .before .before .before .before .before .before .before .before .before .before .before .before .before .before .args .pack .now) (c .before .before .before .before .before .before .before .before .before .before .before .before .before .before .before .before .before .before .args .c))) (nanos (c .before .before .before .before .before .before .before .before .before .before .before .before .before .before .before .before .before .before .args .lo)) (nanos (c .before .before .before .before .before .before .before .before .before .before .before .before .before .before .before .before .before .before .args .hi))) _ _ _ _ (c .before .before .before .before .before .before .before .before .before .before .before .before .before .before .before .before .before .before .pre .2 .normal) _ _ _ _ (c .before .before .before .before .loop .inv) (c .before .before .before .loop-test .taken) _ refl (rank-not _ _ _ _ _ _ _ _ (omega (arith, q .low)) (rw (day-bits (is-fits (q .first-number))) at (c .before .before .before .before .before .before .before .before .before .before .rank-of .ensures .0)) (rw (rw (day-bits (is-fits (q .last-number))) at (c .before .before .before .before .before .before .before .before .rank-of2 .ensures .0)) at (c .before .before .before .before .before .before .before .difference .ensures)) (c .before .before .rank-at .ensures .0) (c .before .in-ranks .ensures) (c .if1 .left))
+    closing-off _ _ _ _ _ (piece-apart (holidayRule (holidaysIs (c .before .before .before .before .before .before .before .before .before .before .before .before .before .before .before .before .before .before .args .book .now) (c .before .before .before .before .before .before .before .before .before .before .before .before .before .before .before .before .before .before .args .pack .now) (c .before .before .before .before .before .before .before .before .before .before .before .before .before .before .before .before .before .before .args .c))) (nanos (c .before .before .before .before .before .before .before .before .before .before .before .before .before .before .before .before .before .before .args .lo)) (nanos (c .before .before .before .before .before .before .before .before .before .before .before .before .before .before .before .before .before .before .args .hi))) _ _ _ _ (c .before .before .before .before .before .before .before .before .before .before .before .before .before .before .before .before .before .before .pre .2 .normal) _ _ _ _ (c .before .before .before .before .loop .inv) (omega (arith, (c .before .before .before .loop-test .taken))) _ refl (rank-not _ _ _ _ _ _ _ _ (omega (arith, q .low)) (rw (day-bits (is-fits (q .first-number))) at (c .before .before .before .before .before .before .before .before .before .before .rank-of .ensures .0)) (rw (rw (day-bits (is-fits (q .last-number))) at (c .before .before .before .before .before .before .before .before .rank-of2 .ensures .0)) at (c .before .before .before .before .before .before .before .difference .ensures)) (c .before .before .rank-at .ensures .0) (c .before .in-ranks .ensures) (c .if1 .left))
 
 same-length : tie.Need-same-length Inv-loop μ-loop
 same-length c = (c .before .loop .inv .long)
