@@ -1,4 +1,4 @@
--- Dates as numbers in the order of their days, so that two comparisons tell whether a date lies from one day to another.
+-- Dates as numbers in the order of their days, so that it is told by these whether a date lies from one day to another.
 use mathlib.Core.Bool.{Bool, _&&_}
 use mathlib.Core.List.{List}
 use Prim.Native.Nat.{ℕ, _+_, _*_, _-_, _/_, _%_}
