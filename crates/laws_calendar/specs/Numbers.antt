@@ -191,13 +191,6 @@ pub start-day : dayOf (negsuc 4518049) ≡ 0
 unfolding dayOf
 start-day = refl
 
-start-is : negsuc 4518049 ≡ signedDay 0
-unfolding signedDay
-start-is = refl
-
-pub start-number : IsDayNumber (negsuc 4518049)
-start-number = is-number start-is (omega arith)
-
 -- ---- dates
 
 first-number : signedDay firstDay ≡ negsuc 4371586

@@ -2,7 +2,7 @@
 -- fit 32 bits too".
 use mathlib.Core.Path.{_≡_, refl}
 use mathlib.Core.Bool.{_&&_}
-use Prim.Native.Nat.{ℕ, _+_, _-_, _/_, _≤_}
+use Prim.Native.Nat.{ℕ, _+_, _*_, _-_, _/_, _≤_, _<_}
 use native.Mathlib.Omega.{arith}
 use native.Mathlib.Decide.{decLe}
 use lib.Dec.{leb}
@@ -11,11 +11,11 @@ use lib.Signed.{_≤ℤ_}
 use mir.Syntax.{w32}
 use mir.Val.{SFits}
 use Rattle.model.specs.Basic.{if_then_else_}
-use Rattle.model.specs.Calendar.{isLeap, daysBeforeYear, dayNumber}
+use Rattle.model.specs.Calendar.{isLeap, daysBeforeYear, dayNumber, firstDay, lastDay}
 use Rattle.model.specs.DayNumber.{signedDay}
 use Rattle.model.specs.Footer.{Day, month, julian, plain, dayIn}
 use Rattle.model.specs.Instant.{firstSecond, lastSecond, daySeconds}
-use Rattle.model.specs.Offset.{greatestOffset}
+use Rattle.model.specs.Offset.{offsetBias, greatestOffset}
 use Rattle.model.specs.Zone.{yearAt}
 use Rattle.laws_base.specs.Test.{by-test}
 use Rattle.laws_calendar.specs.Years.{dby-hi}
@@ -74,12 +74,17 @@ start-20402 : daysBeforeYear 20402 ≡ 7451678
 unfolding daysBeforeYear
 start-20402 = refl
 
--- at a second that lies at most 51 h 59 min 59 s outside the range of instants, as those of all local times do, the changes of two years before to two
--- years after are looked at
-pub years-asked : (u : ℕ) → firstSecond ≤ u + greatestOffset → u ≤ lastSecond + greatestOffset → (398 ≤ yearAt u - 2) × (yearAt u + 2 ≤ 20403)
+-- a local time of a date, less an offset, lies at most 51 h 59 min 59 s outside the range of instants
+pub local-near : (d s o u : ℕ) → firstDay ≤ d → d ≤ lastDay → s < daySeconds → o ≤ greatestOffset → u + o ≡ d * daySeconds + s + offsetBias
+    → (firstSecond ≤ u + greatestOffset) × (u ≤ lastSecond + greatestOffset)
+local-near d s o u h k i j e = (omega arith, omega arith)
+
+-- at such a second the changes of two years before to two years after are looked at, and those of the year by mean years of 31,556,952 s
+pub years-asked : (u : ℕ) → firstSecond ≤ u + greatestOffset → u ≤ lastSecond + greatestOffset
+    → (398 ≤ yearAt u - 2) × (yearAt u + 2 ≤ 20403) × (398 ≤ u / 31556952) × (u / 31556952 ≤ 20403)
 years-asked u h k =
     let w = year-within (u / daySeconds) in
-    (omega (arith, low (decLe 400 (yearAt u))), omega (arith, high (decLe (yearAt u) 20401)))
+    (omega (arith, low (decLe 400 (yearAt u))), omega (arith, high (decLe (yearAt u) 20401)), omega arith, omega arith)
   where
     low : Dec (400 ≤ yearAt u) → 400 ≤ yearAt u
     low (yes p) = p

@@ -50,15 +50,6 @@ pub year-zero : dayOf (negsuc 719527) ≡ dayOfYearZero
 unfolding dayOf
 year-zero = refl
 
-pub third-number : IsDayNumber (negsuc 4371584)
-third-number = number-within (negsuc 4371584) (omega (arith, third-day)) (omega (arith, third-day))
-
-pub last-number : IsDayNumber (pos 2932896)
-last-number = number-within (pos 2932896) (omega (arith, last-day)) (omega (arith, last-day))
-
-pub zero-number : IsDayNumber (negsuc 719527)
-zero-number = number-within (negsuc 719527) (omega (arith, year-zero)) (omega (arith, year-zero))
-
 -- ---- local dates
 
 pub local-is : (z : Zone) (sec ns o : ℕ) → ns < second → o ≡ offsetAt z sec → (sec + o - offsetBias) / daySeconds ≡ localDay z (sec * second + ns)

@@ -1,9 +1,9 @@
 -- `civil::day_at` meets its contract.
-use mathlib.Core.Path.{_∙_, ap}
+use mathlib.Core.Path.{refl, _∙_, ap}
 use native.Mathlib.Omega.{arith}
 use borrow.Author.Needs.{needs}
-use Rattle.model.specs.DayNumber.{signedDay}
-use Rattle.laws_calendar.specs.Numbers.{start-day, start-number, bits-number}
+use Rattle.model.specs.DayNumber.{signedDay, dayOf}
+use Rattle.laws_calendar.specs.Numbers.{start-day, bits-number}
 use Rattle.civil.proofs.day_at.Statement.{statement}
 use Rattle.civil.proofs.day_at.Tie as tie
 
@@ -11,7 +11,8 @@ cast-later : tie.Need-cast-later
 cast-later c = search needs
 
 later-requires : tie.Need-later-requires
-later-requires c κs = (start-number, omega (arith, start-day, c .pre))
+unfolding signedDay dayOf
+later-requires c κs = (record { back = refl; small = omega arith }, omega (arith, start-day, c .pre))
 
 returns : tie.Need-returns
 returns c = bits-number (c .later .ensures ∙ ap signedDay (omega (arith, start-day))) (omega (arith, c .before .pre))

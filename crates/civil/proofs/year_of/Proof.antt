@@ -1,18 +1,20 @@
 -- `civil::year_of` meets its contract.
+use mathlib.Core.Path.{refl}
 use native.Mathlib.Omega.{arith}
 use Prim.Native.Nat.{ℕ, _<_, _≤_}
 use mir.Facts.{toZ-ofZ}
 use Rattle.model.specs.Calendar.{daysBeforeYear}
-use Rattle.model.specs.DayNumber.{dayOf}
+use Rattle.model.specs.DayNumber.{dayOf, signedDay}
 use Rattle.laws_calendar.specs.Dates.{after-first}
 use Rattle.laws_calendar.specs.Years.{dby-hi}
-use Rattle.laws_calendar.specs.Numbers.{numbered, start-day, start-number, day-bits, bits-day, bits-is, told-before, told-not}
+use Rattle.laws_calendar.specs.Numbers.{numbered, start-day, day-bits, bits-day, bits-is, told-before, told-not}
 use Rattle.civil.specs.Formulas.{year-early, year-late}
 use Rattle.civil.proofs.year_of.Statement.{statement}
 use Rattle.civil.proofs.year_of.Tie as tie
 
 days-from-requires : tie.Need-days-from-requires
-days-from-requires c κs = rw (toZ-ofZ (c .fits .day)) (start-number, c .pre .number, omega (arith, start-day))
+unfolding signedDay dayOf
+days-from-requires c κs = rw (toZ-ofZ (c .fits .day)) (record { back = refl; small = omega arith }, c .pre .number, omega (arith, start-day))
 
 add-e : tie.Need-add-e
 add-e c = omega (arith, start-day, day-bits (c .before .fits .day), c .before .pre .below)

@@ -1,9 +1,9 @@
 -- `civil::year_start` meets its contract.
-use mathlib.Core.Path.{_∙_, ap}
+use mathlib.Core.Path.{refl, _∙_, ap}
 use native.Mathlib.Omega.{arith}
 use Rattle.model.specs.Calendar.{daysBeforeYear}
-use Rattle.model.specs.DayNumber.{signedDay}
-use Rattle.laws_calendar.specs.Numbers.{start-day, start-number, bits-number}
+use Rattle.model.specs.DayNumber.{signedDay, dayOf}
+use Rattle.laws_calendar.specs.Numbers.{start-day, bits-number}
 use borrow.Author.Needs.{needs}
 use Rattle.civil.proofs.year_start.Statement.{statement}
 use Rattle.civil.proofs.year_start.Tie as tie
@@ -30,7 +30,8 @@ add-later-5 : tie.Need-add-later-5
 add-later-5 c = search needs
 
 later-requires : tie.Need-later-requires
-later-requires c κs = (start-number, omega (arith, start-day, c .pre))
+unfolding signedDay dayOf
+later-requires c κs = (record { back = refl; small = omega arith }, omega (arith, start-day, c .pre))
 
 returns : tie.Need-returns
 unfolding daysBeforeYear

@@ -2,9 +2,9 @@
 use mathlib.Core.Path.{_∙_, sym, refl}
 use native.Mathlib.Omega.{arith}
 use mir.Facts.{toZ-ofZ}
-use Rattle.model.specs.DayNumber.{dayOf}
+use Rattle.model.specs.DayNumber.{dayOf, signedDay}
 use Rattle.laws_calendar.specs.Numbers.{day-bits, bits-day, told-before, told-not}
-use Rattle.zone_local.proofs.Facts.{day-number, last-day, last-number, end-same, end-next, end-last}
+use Rattle.zone_local.proofs.Facts.{day-number, last-day, end-same, end-next, end-last}
 use borrow.Author.Needs.{needs}
 use Rattle.zone_local.proofs.end_of.Statement.{statement}
 use Rattle.zone_local.proofs.end_of.Tie as tie
@@ -19,7 +19,8 @@ returns : tie.Need-returns
 returns c = end-same _ _ _ _ _ (sym (c .before .before .is-before .ensures) ∙ c .before .if1 .taken) (rw (toZ-ofZ (c .before .before .before .before .fits .day)) at (c .resolve .ensures .0))
 
 precedes-requires : tie.Need-precedes-requires
-precedes-requires c κs = rw (toZ-ofZ (c .before .before .before .fits .day)) (day-number (c .before .before .before .pre .1), last-number)
+unfolding signedDay dayOf
+precedes-requires c κs = rw (toZ-ofZ (c .before .before .before .fits .day)) (day-number (c .before .before .before .pre .1), record { back = refl; small = omega arith })
 
 later-requires : tie.Need-later-requires
 later-requires c κs = rw (toZ-ofZ (c .before .before .before .before .before .fits .day)) (day-number (c .before .before .before .before .before .pre .1), omega (arith, c .before .before .before .before .before .pre .1 .high))

@@ -2,8 +2,9 @@
 use native.Mathlib.Omega.{arith}
 use mathlib.Core.Path.{_∙_, refl}
 use mir.Facts.{toZ-ofZ}
+use Rattle.model.specs.DayNumber.{signedDay, dayOf}
 use Rattle.laws_calendar.specs.Numbers.{gives-on, is-fits, day-given, day-bits, told-before, told-not}
-use Rattle.zone_local.proofs.Facts.{first-back, first-here, third-day, third-number}
+use Rattle.zone_local.proofs.Facts.{first-back, first-here, third-day}
 use borrow.Author.Needs.{needs}
 use Rattle.zone_local.proofs.first_date.Statement.{statement}
 use Rattle.zone_local.proofs.first_date.Tie as tie
@@ -12,7 +13,8 @@ local-day-requires : tie.Need-local-day-requires
 local-day-requires c κs = search needs
 
 precedes-requires : tie.Need-precedes-requires
-precedes-requires c κs = rw (toZ-ofZ (is-fits (c .local-day .ensures .1))) (c .local-day .ensures .1, third-number)
+unfolding signedDay dayOf
+precedes-requires c κs = rw (toZ-ofZ (is-fits (c .local-day .ensures .1))) (c .local-day .ensures .1, record { back = refl; small = omega arith })
 
 returns : tie.Need-returns
 returns c = let d = c .before .before .local-day in gives-on (d .ok) (d .ensures .0) (first-here _ _ _ refl (omega (arith, third-day, day-given (d .ensures .0), day-bits (is-fits (d .ensures .1)), told-before _ _ (c .before .precedes .ensures) (c .if1 .taken))))

@@ -2,8 +2,9 @@
 use native.Mathlib.Omega.{arith}
 use mathlib.Core.Path.{_∙_, refl}
 use mir.Facts.{toZ-ofZ}
+use Rattle.model.specs.DayNumber.{signedDay, dayOf}
 use Rattle.laws_calendar.specs.Numbers.{gives-on, is-fits, day-given, day-bits, told-before, told-not}
-use Rattle.zone_local.proofs.Facts.{last-on, last-here, last-day, last-number}
+use Rattle.zone_local.proofs.Facts.{last-on, last-here, last-day}
 use borrow.Author.Needs.{needs}
 use Rattle.zone_local.proofs.last_date.Statement.{statement}
 use Rattle.zone_local.proofs.last_date.Tie as tie
@@ -12,7 +13,8 @@ local-day-requires : tie.Need-local-day-requires
 local-day-requires c κs = search needs
 
 precedes-requires : tie.Need-precedes-requires
-precedes-requires c κs = rw (toZ-ofZ (is-fits (c .local-day .ensures .1))) (c .local-day .ensures .1, last-number)
+unfolding signedDay dayOf
+precedes-requires c κs = rw (toZ-ofZ (is-fits (c .local-day .ensures .1))) (c .local-day .ensures .1, record { back = refl; small = omega arith })
 
 later-requires : tie.Need-later-requires
 later-requires c κs = let d = c .before .before .local-day in rw (toZ-ofZ (is-fits (d .ensures .1))) (d .ensures .1, omega (arith, last-day, day-bits (is-fits (d .ensures .1)), told-before _ _ (c .before .precedes .ensures) (c .if1 .taken)))

@@ -1,13 +1,16 @@
 -- `zone_local::range_end` meets its contract. Assumes nothing.
+use mathlib.Core.Path.{refl}
 use native.Mathlib.Omega.{arith}
 use mir.Facts.{toZ-ofZ}
+use Rattle.model.specs.DayNumber.{signedDay, dayOf}
 use Rattle.laws_calendar.specs.Numbers.{day-bits, told-before, told-not}
-use Rattle.zone_local.proofs.Facts.{end-early, end-late, year-zero, zero-number}
+use Rattle.zone_local.proofs.Facts.{end-early, end-late, year-zero}
 use Rattle.zone_local.proofs.range_end.Statement.{statement}
 use Rattle.zone_local.proofs.range_end.Tie as tie
 
 precedes-requires : tie.Need-precedes-requires
-precedes-requires c κs = rw (toZ-ofZ (c .fits .day)) (c .pre, zero-number)
+unfolding signedDay dayOf
+precedes-requires c κs = rw (toZ-ofZ (c .fits .day)) (c .pre, record { back = refl; small = omega arith })
 
 returns : tie.Need-returns
 returns c = (end-early _ (omega (arith, year-zero, day-bits (c .before .before .fits .day), told-before _ _ (c .before .precedes .ensures) (c .if1 .taken))), record { low = omega arith; high = omega arith; ns = omega arith })
