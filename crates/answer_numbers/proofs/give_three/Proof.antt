@@ -1,0 +1,29 @@
+--
+use mir.Facts.{toZ-ofZ, toZ-pos}
+use mir.Syntax.{w64}
+use lib.ListN.{length-set}
+use native.Mathlib.Omega.{arith}
+use mathlib.Core.Path.{refl}
+use Rattle.answer_numbers.proofs.Written.{three-written}
+use borrow.Author.Needs.{needs}
+use Rattle.answer_numbers.proofs.give_three.Statement.{statement}
+use Rattle.answer_numbers.proofs.give_three.Tie as tie
+
+slice-set-from-a : tie.Need-slice-set-from-a
+slice-set-from-a c = search needs
+
+slice-set-from-b : tie.Need-slice-set-from-b
+slice-set-from-b c = simp length-set (omega arith)
+
+slice-set-from-c : tie.Need-slice-set-from-c
+slice-set-from-c c = search needs
+
+same-length : tie.Need-same-length
+same-length c = search needs
+
+returns : tie.Need-returns
+returns c = (refl, three-written (toZ-ofZ (c .fits .a)) (toZ-ofZ (c .fits .b)) (toZ-ofZ (c .fits .c)) 0 _)
+
+pub give-three-spec : {M : Type 1} → statement M
+give-three-spec =
+    tie.close (tie.spec slice-set-from-a slice-set-from-b slice-set-from-c same-length returns)
