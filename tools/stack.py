@@ -1,10 +1,10 @@
 #!/usr/bin/env python3
-"""Measures how much stack the program and each public call need.
+"""Measures how much stack the program and each function of the part need.
 
 usage: tools/stack.py [FOLDER..]
 
-Each FOLDER has a book.bin and a zones.bin (sample/ where none is told). Builds target/staticlib/libbench_stack.a by `rt staticlib bench_stack` and
-target/bin/clock by `rt check clock` unless they are newer than the code, and a small program in C over the archive. Needs cc and objdump. Prints, in bytes:
+Each FOLDER has a book.bin and a zones.bin (sample/ where none is told). Builds target/staticlib/libhirgwamo.a by `rt staticlib hirgwamo` and
+target/bin/clock by `rt check clock` unless they are newer than the code, and a small program in C over the archive and part/hirgwamo.h. Needs cc and objdump. Prints, in bytes:
 
 - bound: read from the compiled code. A function's need is its frame and the deepest need of those it calls; nothing is called through a pointer. So
   it holds for every input. A function that calls itself, which only the writer of a number's digits does, counts 20 times, for 20 digits. What
@@ -25,7 +25,7 @@ RUNS = 40  # of the program under one limit
 POINTER = "through a pointer"
 DIGITS = 20  # how often a function that calls itself is in its own frames
 CALLS = [
-    "build", "between", "add", "sub", "next_period", "previous_period", "list", "hardest", "offset_in", "next_change_in", "resolve_in",
+    "build", "between", "add", "sub", "next_period", "previous_period", "list", "hardest", "answers", "offset", "next_change", "resolve",
 ]  # fmt: skip
 QUERIES = b"between 1767782400 0 2713862400 1\nadd 1767782400 0 14400000 0\nsub 1767782400 0 14400000 5\nnext 1768039200 0\nprevious 1768039200 0\n"
 
@@ -35,41 +35,39 @@ DRIVER = r"""
 #include <stdlib.h>
 #include <string.h>
 #include <ucontext.h>
+#include "hirgwamo.h"
 typedef struct { const uint8_t *p; size_t n; } bytes; /* a lent slice is a pointer and a length */
-int64_t stack_build(const uint8_t *, size_t, const uint8_t *, size_t);
-int64_t stack_between(const uint8_t *, size_t, const uint8_t *, size_t, int64_t, int64_t, int64_t, int64_t);
-int64_t stack_add(const uint8_t *, size_t, const uint8_t *, size_t, int64_t, int64_t, int64_t, int64_t);
-int64_t stack_sub(const uint8_t *, size_t, const uint8_t *, size_t, int64_t, int64_t, int64_t, int64_t);
-int64_t stack_next_period(const uint8_t *, size_t, const uint8_t *, size_t, int64_t, int64_t);
-int64_t stack_previous_period(const uint8_t *, size_t, const uint8_t *, size_t, int64_t, int64_t);
-size_t stack_list(const uint8_t *, size_t, const uint8_t *, size_t, int64_t, int64_t, int64_t, int64_t, int64_t *, size_t);
-int64_t stack_hardest(const uint8_t *, size_t, const uint8_t *, size_t, int64_t, int64_t, const int64_t *, size_t, int64_t);
-int64_t stack_offset_in(const uint8_t *, size_t, int64_t, int64_t);
-int64_t stack_next_change_in(const uint8_t *, size_t, int64_t, int64_t);
-int64_t stack_resolve_in(const uint8_t *, size_t, int64_t, int64_t, int64_t, int64_t, int64_t);
-
-enum { SIZE = 1 << 22, PAINT = 0xA5, NUMBERS = 1 << 20, CALLS = 11 };
+#define BOOK book.p, book.n, pack.p, pack.n
+enum { SIZE = 1 << 22, PAINT = 0xA5, NUMBERS = 1 << 20, CALLS = 12 };
 enum { RUNS = 4096, SLOT = 8437, LONG = 6000, WIDTH = 30 * 86400 }; /* a log at its limit over 400 days, in seconds */
 static uint8_t stack[SIZE];
 static ucontext_t home, there;
 static bytes book, pack, file;
-static int64_t numbers[NUMBERS], runs[2 * RUNS];
+static int64_t numbers[NUMBERS], runs[2 * RUNS], answer[HIRGWAMO_PERIOD_SIZE], answers[5 * HIRGWAMO_ANSWER_SIZE];
 static int which;
-static const int64_t WEDNESDAY = 1767782400, YEAR = 365 * 86400; /* 2026-01-07T10:40Z */
+enum { ROOM = sizeof answer / sizeof *answer };
+#define WEDNESDAY INT64_C(1767782400) /* 2026-01-07T10:40Z */
+#define YEAR INT64_C(31536000)
+
+static const int64_t queries[] = { /* one of each kind */
+    HIRGWAMO_BETWEEN, WEDNESDAY, 0, WEDNESDAY + 30 * YEAR, 1, HIRGWAMO_ADD, WEDNESDAY, 0, 14400000, 0, HIRGWAMO_SUB, WEDNESDAY, 0, 14400000, 0,
+    HIRGWAMO_NEXT, WEDNESDAY, 0, 0, 0, HIRGWAMO_PREVIOUS, WEDNESDAY, 0, 0, 0,
+};
 
 static void call(void) {
     switch (which) {
-    case 0: stack_build(book.p, book.n, pack.p, pack.n); break;
-    case 1: stack_between(book.p, book.n, pack.p, pack.n, WEDNESDAY, 0, WEDNESDAY + 30 * YEAR, 1); break;
-    case 2: stack_add(book.p, book.n, pack.p, pack.n, WEDNESDAY, 0, 14400000, 0); break;
-    case 3: stack_sub(book.p, book.n, pack.p, pack.n, WEDNESDAY, 0, 14400000, 0); break;
-    case 4: stack_next_period(book.p, book.n, pack.p, pack.n, WEDNESDAY, 0); break;
-    case 5: stack_previous_period(book.p, book.n, pack.p, pack.n, WEDNESDAY, 0); break;
-    case 6: stack_list(book.p, book.n, pack.p, pack.n, WEDNESDAY, 0, WEDNESDAY + YEAR, 0, numbers, NUMBERS); break;
-    case 7: stack_hardest(book.p, book.n, pack.p, pack.n, WEDNESDAY, 0, runs, 2 * RUNS, WIDTH); break;
-    case 8: stack_offset_in(file.p, file.n, WEDNESDAY + 40 * YEAR, 0); break;
-    case 9: stack_next_change_in(file.p, file.n, WEDNESDAY + 40 * YEAR, 0); break;
-    case 10: stack_resolve_in(file.p, file.n, 2066, 3, 28, 9000, 0); break;
+    case 0: hirgwamo_build(BOOK, answer, ROOM); break;
+    case 1: hirgwamo_between(BOOK, WEDNESDAY, 0, WEDNESDAY + 30 * YEAR, 1, answer, ROOM); break;
+    case 2: hirgwamo_add(BOOK, WEDNESDAY, 0, 14400000, 0, answer, ROOM); break;
+    case 3: hirgwamo_sub(BOOK, WEDNESDAY, 0, 14400000, 0, answer, ROOM); break;
+    case 4: hirgwamo_next_period(BOOK, WEDNESDAY, 0, answer, ROOM); break;
+    case 5: hirgwamo_previous_period(BOOK, WEDNESDAY, 0, answer, ROOM); break;
+    case 6: hirgwamo_list(BOOK, WEDNESDAY, 0, WEDNESDAY + YEAR, 0, numbers, NUMBERS, answer, ROOM); break;
+    case 7: hirgwamo_hardest(BOOK, WEDNESDAY, 0, runs, 2 * RUNS, WIDTH, answer, ROOM); break;
+    case 8: hirgwamo_answers(BOOK, queries, sizeof queries / sizeof *queries, answers, sizeof answers / sizeof *answers); break;
+    case 9: hirgwamo_offset(file.p, file.n, WEDNESDAY + 40 * YEAR, 0, answer, ROOM); break;
+    case 10: hirgwamo_next_change(file.p, file.n, WEDNESDAY + 40 * YEAR, 0, answer, ROOM); break;
+    case 11: hirgwamo_resolve(file.p, file.n, 2066, 3, 28, 9000, 0, answer, ROOM); break;
     default: break;
     }
 }
@@ -132,15 +130,15 @@ def quiet(command):
 
 def build(folder):
     """The program in C over the archive, with our functions' names in it."""
-    archive = ROOT / "target" / "staticlib" / "libbench_stack.a"
+    archive = ROOT / "target" / "staticlib" / "libhirgwamo.a"
     if newer(archive):
-        quiet(["rt", "staticlib", "bench_stack"])
+        quiet(["rt", "staticlib", "hirgwamo"])
     program = ROOT / "target" / "bin" / "clock"
     if newer(program):
         quiet(["rt", "check", "clock"])
     source, driver = folder / "driver.c", folder / "driver"
     source.write_text(DRIVER)
-    subprocess.run(["cc", "-O2", "-Wl,-z,now", "-o", driver, source, archive], check=True)
+    subprocess.run(["cc", "-O2", "-I", ROOT / "part", "-Wl,-z,now", "-o", driver, source, archive], check=True)
     return driver, program
 
 
@@ -241,7 +239,7 @@ def main():
         seen = [subprocess.run([driver, f / "book.bin", f / "zones.bin"], stdout=subprocess.PIPE, check=True, text=True).stdout.split() for f in folders]
         print("call: bound; seen on " + ", ".join(f.name for f in folders))
         for k, name in enumerate(CALLS):
-            deepest, way = need(found, "stack_" + name)
+            deepest, way = need(found, "hirgwamo_" + name)
             print(f"{name}: {deepest}; {', '.join(s[k] for s in seen)}    ({' > '.join(way[1:])})")
         deepest, way = need(functions(program), "main")
         print(f"the program: {deepest}    ({' > '.join(way)})")

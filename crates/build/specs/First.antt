@@ -10,9 +10,16 @@ use Rattle.rule.specs.Rules.{scheduleIs}
 use Rattle.build.specs.declared.Built.{Built}
 use Rattle.build.specs.Read.{answerIs}
 
+module _ (b p : List ℕ) (r : Built) (e : answerIs b p r ≡ build b p) where
+  pub build-gives : r .number ≡ 0 → gives (scheduleIs b p (r .schedule)) ≡ build b p
+  build-gives n = rw (eq-eqb (r .number) 0 n) at e
+
+  pub build-refuses : (r .number ≡ 0 → ⊥) → refuses (r .number) (r .place) ≡ build b p
+  build-refuses n = rw (ne-eqb (r .number) 0 n) at e
+
 module _ {A : Type 0} (b p : List ℕ) (r : Built) (f : model.Schedule → Answer A) (e : answerIs b p r ≡ build b p) where
   pub not-built : (r .number ≡ 0 → ⊥) → refuses (r .number) (r .place) ≡ (build b p >>= f)
-  not-built n = let z : refuses (r .number) (r .place) ≡ build b p = rw (ne-eqb (r .number) 0 n) at e in rw (← z)
+  not-built n = rw (← build-refuses b p r e n)
 
   pub is-built : r .number ≡ 0 → {a : Answer A} → a ≡ f (scheduleIs b p (r .schedule)) → a ≡ (build b p >>= f)
-  is-built n q = let z : gives (scheduleIs b p (r .schedule)) ≡ build b p = rw (eq-eqb (r .number) 0 n) at e in rw (← z) q
+  is-built n q = rw (← build-gives b p r e n) q

@@ -1,3 +1,1 @@
 pub mod Answers
-pub mod Demand
-pub mod Witness

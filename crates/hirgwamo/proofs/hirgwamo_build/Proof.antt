@@ -3,7 +3,7 @@ use mir.Facts.{toZ-ofZ, toZ-pos}
 use mir.Syntax.{w64}
 use native.Mathlib.Omega.{arith}
 use mathlib.Core.Path.{refl, sym, ap, _∙_}
-use Rattle.query_numbers.specs.BuildLaws.{build-gives, build-refuses}
+use Rattle.build.specs.First.{build-gives, build-refuses}
 use Rattle.hirgwamo.proofs.Told as T
 use Rattle.laws_part.specs.Placed.{place-most}
 use Rattle.laws_part.specs.Places.{build-placed}

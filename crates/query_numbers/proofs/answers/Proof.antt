@@ -4,7 +4,7 @@ use mathlib.Core.Path.{sym}
 use Rattle.laws_part.specs.Placed.{place-most}
 use Rattle.laws_part.specs.Places.{build-placed}
 use Rattle.laws_skip.specs.Books.{build-well}
-use Rattle.query_numbers.specs.BuildLaws.{build-gives, build-refuses}
+use Rattle.build.specs.First.{build-gives, build-refuses}
 use Rattle.query_numbers.proofs.Answering as A
 use borrow.Author.Needs.{needs}
 use Rattle.query_numbers.proofs.answers.Statement.{statement}

@@ -19,12 +19,12 @@ use Rattle.laws_demand3.specs.Pairs.{Pair}
 use Rattle.laws_demand3.specs.Zones.{zonesOf, WithinDay}
 use Rattle.laws_base.specs.Every.{Every}
 use Rattle.laws_skip.specs.Skips.{needed-most}
 use Rattle.schedule.specs.declared.TimeAnswer.{TimeAnswer}
 use Rattle.schedule.specs.declared.TimeAnswer.the-variants as T
 use Rattle.schedule.specs.declared.MoveAnswer.{MoveAnswer}
 use Rattle.schedule.specs.declared.MoveAnswer.the-variants as M
 use Rattle.schedule.specs.Answers.{TimeAs, MoveAs}
-use Rattle.schedule.specs.Demand.{AsPromised, asAnswered, demand-3-answers}
+use Rattle.laws_answers.specs.Demand.{AsPromised, asAnswered, demand-3-answers}
 use Rattle.laws_demand3.specs.Demand3.{Demand3}
 
 -- ---- a reply of the definitions as an answer: its two numbers, and the least count of windows
@@ -32,13 +32,13 @@ use Rattle.laws_demand3.specs.Demand3.{Demand3}
 abbrev number : Reply → ℕ → ℤ
 number r i = getD (r .values) i (pos 0)
 
-abbrev pub timeBy : Answer Reply → TimeAnswer
-timeBy (gives r) = T.Is (number r 0) (number r 1) (leastOf (gives r))
-timeBy (refuses n p) = T.Refused n p
+abbrev pub timeReplied : Answer Reply → TimeAnswer
+timeReplied (gives r) = T.Is (number r 0) (number r 1) (leastOf (gives r))
+timeReplied (refuses n p) = T.Refused n p
 
-abbrev pub moveBy : Answer Reply → MoveAnswer
-moveBy (gives r) = M.At (number r 0) (number r 1) (leastOf (gives r))
-moveBy (refuses n p) = M.Refused n p
+abbrev pub moveReplied : Answer Reply → MoveAnswer
+moveReplied (gives r) = M.At (number r 0) (number r 1) (leastOf (gives r))
+moveReplied (refuses n p) = M.Refused n p
 
 -- ---- replies of two numbers whose least count is not above the most
 
@@ -72,11 +72,11 @@ move-answered w s t₁ t₂ d₁ d₂ =
 
 -- ---- such a reply's numbers are those of the answer, and its count keeps both bounds
 
-time-by : (a : Answer Reply) → Answered a → TimeAs (timeBy a) a
+time-by : (a : Answer Reply) → Answered a → TimeAs (timeReplied a) a
 time-by (gives r) (x, y, e, m) = (rw e, record { least = refl; most = m })
 time-by (refuses n p) h = (refl, record { least = refl; most = omega arith })
 
-move-by : (a : Answer Reply) → Answered a → MoveAs (moveBy a) a
+move-by : (a : Answer Reply) → Answered a → MoveAs (moveReplied a) a
 move-by (gives r) (x, y, e, m) = (rw e, record { least = refl; most = m })
 move-by (refuses n p) h = (refl, record { least = refl; most = omega arith })
 
@@ -93,13 +93,13 @@ module _ (book pack : List ℕ) where
 
   -- the three functions
   abbrev pub betweenOf : Pair → Pair → TimeAnswer
-  betweenOf a b = timeBy (timeReply a b)
+  betweenOf a b = timeReplied (timeReply a b)
 
   abbrev pub addOf : Pair → Pair → MoveAnswer
-  addOf t d = moveBy (addReply t d)
+  addOf t d = moveReplied (addReply t d)
 
   abbrev pub subOf : Pair → Pair → MoveAnswer
-  subOf t d = moveBy (subReply t d)
+  subOf t d = moveReplied (subReply t d)
 
   -- each is what its contract promises, numbers and count, for all pairs of numbers
   pub time-promised : (a b : Pair) → TimeAs (betweenOf a b) (timeReply a b)
