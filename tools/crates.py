@@ -16,11 +16,12 @@ from pathlib import Path
 ROOT = Path(__file__).resolve().parent.parent
 KIT = {"check", "libc", "io", "os", "bytes"}  # libraries of the toolchain
 WINGS = [
-    "meaning", "laws", "base", "block", "zone", "book", "window", "walk", "build", "schedule", "query", "clock", "test", "bench",
+    "meaning", "laws", "base", "block", "zone", "book", "window", "walk", "build", "schedule", "part", "query", "clock", "test", "bench",
 ]  # fmt: skip
 WING = {
     "model": "meaning", "number": "base", "refusal": "base", "big_endian": "base", "instant": "base", "instant_signed": "base", "civil": "base",
     "directory": "base", "run_log": "base", "rule": "book", "answer_line": "query",
+    "laws_answers": "schedule", "answer_numbers": "part", "query_numbers": "part", "hirgwamo": "part",
 }  # fmt: skip
 COLOURS = ["#4e79a7", "#b07aa1", "#59a14f", "#d37222", "#9c755f", "#2f8f8b", "#c23b52", "#6b6ecf", "#8c8c1a"]
 
@@ -102,7 +103,7 @@ def lay_lines(needs, rows):
     A node is (crate, None), a box, or (crate, row), where the lines to that crate pass a row."""
     row_at = {name: at for at, (_, names) in enumerate(rows) for name in names}
     nodes = [[(name, None) for name in names] for _, names in rows]
-    joints = set()
+    joints = {}  # a set that keeps its order, so that the same crates give the same picture
     for user, targets in needs.items():
         for target in targets:
             step = 1 if row_at[user] > row_at[target] else -1
@@ -111,9 +112,9 @@ def lay_lines(needs, rows):
                 node = (target, at)
                 if node not in nodes[at]:
                     nodes[at].append(node)
-                joints.add((node, near))
+                joints[node, near] = None
                 near = node
-            joints.add(((user, None), near))
+            joints[(user, None), near] = None
     return nodes, joints
 
 
