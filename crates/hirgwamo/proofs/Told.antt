@@ -7,7 +7,7 @@ use lib.IntN.{ℤ, pos}
 use lib.ListN.{length}
 use borrow.Author.Tests.{lt-ltb, le-ltb}
 use Rattle.model.specs.Answer.{Answer, gives, refuses, _>>=_}
-use Rattle.model.specs.Calls.{Reply, Listing, said, leastOf, mostOf, stretchCount, numbersAfter}
+use Rattle.model.specs.Calls.{Reply, Listing, said, mostOf, stretchCount, numbersAfter}
 use Rattle.laws_base.specs.Test.{never}
 use Rattle.laws_part.specs.Placed.{Placed, answered, refused}
 use Rattle.laws_part.specs.Replies.{Few, mostWindows, Fit}

@@ -1,27 +1,25 @@
 -- Where a refusal's place can lie: never behind the book's end. "The place is the book offset of the record for 4 and 5, else 0."
-use mathlib.Core.Path.{_≡_, refl}
-use mathlib.Core.Bool.{Bool, true, false, _&&_}
+use mathlib.Core.Bool.{_&&_}
 use mathlib.Core.Option.{Option, none, some}
 use mathlib.Core.List.{List, [], _∷_}
 use Prim.Native.Nat.{ℕ, zero, suc, _+_, _*_, _-_, _≤_}
 use native.Mathlib.Omega.{arith}
 use lib.Dec.{leb, eqb}
-use lib.ListN.{length, getD, take, drop}
+use lib.ListN.{length, getD, drop}
 use borrow.Author.Tests.{leb-true}
-use Rattle.model.specs.Answer.{gives, orRefuse}
+use Rattle.model.specs.Answer.{orRefuse}
 use Rattle.model.specs.Basic.{given, each}
 use Rattle.model.specs.Book.{Body, default, work, pause, holidays, Entry, bodyOf, entryOf, entriesOf, isDefault, lastDefault, withinLimits}
-use Rattle.model.specs.Build.{lookup, defaultZone, ruleZone, zoneUsed, withRule, rulesOf, worksIn2001, build}
+use Rattle.model.specs.Build.{lookup, defaultZone, ruleZone, zoneUsed, rulesOf, worksIn2001, build}
 use Rattle.model.specs.Bytes.{be}
 use Rattle.model.specs.Directory.{Part, partsFrom, partsOf}
 use Rattle.model.specs.Pack.{Named, packOf, find}
 use Rattle.model.specs.Tzif.{Zone, zoneOf}
-use Rattle.model.specs.Working.{Schedule}
 use Rattle.laws_base.specs.Every.{Every}
-use Rattle.laws_base.specs.Made.{Made, nothing, value, made-is, next, tested, Any, anything}
+use Rattle.laws_base.specs.Made.{Made, value, made-is, next, tested, Any, anything}
 use Rattle.laws_base.specs.Test.{by-test, and-both}
 use Rattle.laws_skip.specs.Books.{BuiltWell, build-well}
-use Rattle.laws_part.specs.Placed.{Placed, answered, refused, placed-step, placed-or, placed-test, placed-by}
+use Rattle.laws_part.specs.Placed.{Placed, answered, placed-step, placed-or, placed-test, placed-by}
 
 -- ---- the records of a book begin inside it
 

@@ -1,27 +1,24 @@
 -- The calls' answers are numbers that fit: a refusal's place lies in the book, and a count of windows is at most that of the whole range.
-use mathlib.Core.Path.{_≡_, refl, sym}
 use mathlib.Core.Bool.{Bool, true, false, not, _&&_, _||_}
-use mathlib.Core.Option.{Option, none, some}
 use mathlib.Core.List.{List, _++_, map}
-use Prim.Native.Nat.{ℕ, zero, suc, _+_, _*_, _-_, _≤_, _^_, min, max}
+use Prim.Native.Nat.{ℕ, zero, suc, _+_, _*_, _-_, _≤_, _^_, min}
 use native.Mathlib.Omega.{arith}
 use lib.Dec.{leb, ltb, eqb}
 use lib.IntN.{ℤ, natAbs}
 use lib.ListN.{length, drop}
 use borrow.Author.Tests.{ltb-true, leb-true}
-use Rattle.model.specs.Answer.{Answer, gives, refuses, _>>=_, orRefuse}
-use Rattle.model.specs.Basic.{if_then_else_, given, isIn, joined}
+use Rattle.model.specs.Answer.{Answer, gives, refuses, _>>=_}
+use Rattle.model.specs.Basic.{if_then_else_, isIn, joined}
 use Rattle.model.specs.Blocks.{Block}
 use Rattle.model.specs.Build.{build}
 use Rattle.model.specs.Calendar.{isDate, dayNumber}
-use Rattle.model.specs.Calls.{Reply, Listing, betweenCall, moved, moveCall, turned, periodCall, listCall, between, add, sub, nextPeriod, previousPeriod, list, mostOf, said}
+use Rattle.model.specs.Calls.{Reply, Listing, betweenCall, moved, moveCall, turned, periodCall, listCall, between, list, mostOf}
 use Rattle.model.specs.Hardest.{isLog, runsOf, logOf, isWidth, widthOf, hardestCall, hardest}
 use Rattle.model.specs.Instant.{second, firstSecond, lastSecond, lastInstant, isBelow0, secondFrom, instantOf, instant, daySeconds, durationOf, negated, Duration, areOpposite, week}
 use Rattle.model.specs.Walk.{Way, on, back, begun, reach, ahead, Step, found, gap, left, searchBlocks, searchFrom, searchIn, search, PeriodSoFar, nothing, growing, ended, tooFar, periodIn, atRangeEnd, capped, periodFrom, period, stretches}
 use Rattle.model.specs.Working.{Schedule}
-use Rattle.model.specs.Zone as zones
 use Rattle.model.specs.ZoneCalls.{zoneIn, offsetCall, changeCall, resolveCall, yearFrom, dayGiven, timeGiven}
-use Rattle.model.specs.Tzif.{Zone, zoneOf}
+use Rattle.model.specs.Tzif.{zoneOf}
 use Rattle.laws_base.specs.Made.{Any}
 use Rattle.laws_base.specs.Test.{by-test, and-both, in-bounds}
 use Rattle.laws_skip.specs.Books.{BuiltWell}

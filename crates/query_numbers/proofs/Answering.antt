@@ -1,11 +1,11 @@
 -- From the answers of the calls to six numbers, and from the numbers of a query to its call.
-use mathlib.Core.Path.{_≡_, refl, sym, ap, subst, _∙_}
-use mathlib.Core.Bool.{Bool, true, false}
+use mathlib.Core.Path.{_≡_, refl, sym, ap, _∙_}
+use mathlib.Core.Bool.{true, false}
 use mathlib.Core.Option.{Option, none, some}
 use mathlib.Core.List.{List, [], _∷_, _++_}
 use Prim.Native.Nat.{ℕ, zero, suc, _+_, _*_, _-_, _/_, _%_, _^_, _≤_, _<_}
 use native.Mathlib.Omega.{arith}
-use lib.Dec.{T, eqb, ltb}
+use lib.Dec.{eqb}
 use lib.IntN.{ℤ, pos, negsuc}
 use lib.ListN.{length, getD, set, take}
 use lib.Signed.{ltZ}
@@ -14,19 +14,19 @@ use mir.Syntax.{w64}
 use mir.Val.{SFits, toZ, ofZ}
 use borrow.Author.Tests.{ltb-true, ltb-false, lt-ltb, le-ltb, ne-eqb, eqb-false}
 use Rattle.model.specs.Answer.{Answer, gives, refuses, _>>=_}
-use Rattle.model.specs.Calls.{Reply, betweenCall, moveCall, periodCall, said, leastOf, mostOf}
+use Rattle.model.specs.Calls.{Reply, betweenCall, moveCall, periodCall, said, leastOf}
 use Rattle.model.specs.Lines.{Query, askBetween, askMove, askPeriod, replyTo}
 use Rattle.model.specs.Walk.{Way, on, back}
 use Rattle.model.specs.Working.{Schedule}
 use Rattle.laws_base.specs.Made.{Any}
 use Rattle.laws_base.specs.Test.{by-test, never, clash}
 use Rattle.laws_part.specs.Placed.{Placed, answered, refused}
-use Rattle.laws_part.specs.Replies.{Few, mostWindows}
+use Rattle.laws_part.specs.Replies.{Few}
 use Rattle.answer_numbers.specs.Outcomes.{written, tooShort, Ends}
 use Rattle.schedule.specs.Answers.{KeepsReply}
 use Rattle.query_numbers.specs.declared.AnyAnswer.the-variants as A
 use Rattle.query_numbers.specs.declared.AnyAnswer.{AnyAnswer}
-use Rattle.query_numbers.specs.Batch.{queryFor, queryAt, answersFrom, batch, sixOf, answerTo, noQuery, anyNumbers, AnyFits, IsSix, zeros}
+use Rattle.query_numbers.specs.Batch.{queryFor, queryAt, answersFrom, batch, sixOf, answerTo, noQuery, anyNumbers, IsSix, zeros}
 
 -- ---- the numbers of an answer
 

@@ -1,6 +1,5 @@
 --
-use mir.Facts.{toZ-ofZ, toZ-pos}
-use mir.Syntax.{w64}
+use mir.Facts.{toZ-ofZ}
 use lib.ListN.{length-set}
 use native.Mathlib.Omega.{arith}
 use mathlib.Core.Path.{refl}

@@ -1,9 +1,7 @@
 --
-use mir.Facts.{toZ-ofZ, toZ-pos}
-use mir.Syntax.{w64}
+use mir.Facts.{toZ-ofZ}
 use lib.ListN.{length-set}
 use native.Mathlib.Omega.{arith}
-use mathlib.Core.Path.{refl}
 use Rattle.answer_numbers.proofs.Written.{six-written}
 use borrow.Author.Needs.{needs}
 use Rattle.answer_numbers.proofs.put_six.Statement.{statement}

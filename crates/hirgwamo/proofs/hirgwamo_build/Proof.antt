@@ -1,8 +1,6 @@
 -- `hirgwamo_build` meets its contract.
-use mir.Facts.{toZ-ofZ, toZ-pos}
-use mir.Syntax.{w64}
 use native.Mathlib.Omega.{arith}
-use mathlib.Core.Path.{refl, sym, ap, _∙_}
+use mathlib.Core.Path.{sym, ap}
 use Rattle.build.specs.First.{build-gives, build-refuses}
 use Rattle.hirgwamo.proofs.Told as T
 use Rattle.laws_part.specs.Placed.{place-most}

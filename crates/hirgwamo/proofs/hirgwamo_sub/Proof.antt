@@ -2,7 +2,7 @@
 use mir.Facts.{toZ-ofZ, toZ-pos}
 use mir.Syntax.{w64}
 use native.Mathlib.Omega.{arith}
-use mathlib.Core.Path.{refl, sym, ap, _∙_}
+use mathlib.Core.Path.{ap}
 use Rattle.hirgwamo.proofs.Told as T
 use Rattle.laws_part.specs.Replies.{move-fits}
 use Rattle.schedule.specs.Answers.{moveIs, moveCount}

@@ -1,8 +1,5 @@
 -- `answer` meets its contract.
-use mir.Facts.{toZ-ofZ, toZ-pos}
-use mir.Syntax.{w64}
-use native.Mathlib.Omega.{arith}
-use mathlib.Core.Path.{refl, sym, ap, _∙_}
+use mir.Facts.{toZ-ofZ}
 use Rattle.query_numbers.proofs.Answering as A
 use borrow.Author.Needs.{needs}
 use Rattle.query_numbers.proofs.answer.Statement.{statement}

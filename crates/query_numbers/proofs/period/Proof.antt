@@ -1,8 +1,7 @@
 -- `period` meets its contract.
-use mir.Facts.{toZ-ofZ, toZ-pos}
+use mir.Facts.{toZ-ofZ}
 use mir.Syntax.{w64}
-use native.Mathlib.Omega.{arith}
-use mathlib.Core.Path.{refl, sym, ap, _∙_}
+use mathlib.Core.Path.{ap}
 use Rattle.query_numbers.proofs.Answering as A
 use Rattle.laws_part.specs.Replies.{period-placed}
 use Rattle.schedule_periods.specs.Replies.{periodIs}

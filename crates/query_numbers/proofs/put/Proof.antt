@@ -2,7 +2,6 @@
 use mir.Facts.{toZ-ofZ, toZ-pos}
 use mir.Syntax.{w64}
 use native.Mathlib.Omega.{arith}
-use mathlib.Core.Path.{refl, sym, ap, _∙_}
 use Rattle.query_numbers.proofs.Answering as A
 use mathlib.Core.Path.{subst}
 use Rattle.query_numbers.specs.Batch.{AnyFits}

@@ -1,8 +1,6 @@
 -- `refuse_all` meets its contract.
-use mir.Facts.{toZ-ofZ, toZ-pos}
-use mir.Syntax.{w64}
 use native.Mathlib.Omega.{arith}
-use mathlib.Core.Path.{_≡_, refl, sym, ap, _∙_}
+use mathlib.Core.Path.{_≡_, refl, sym, _∙_}
 use Rattle.query_numbers.proofs.Answering as A
 use Prim.Native.Nat.{_+_, _*_, _/_, _≤_}
 use lib.ListN.{length}

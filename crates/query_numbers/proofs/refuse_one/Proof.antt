@@ -1,8 +1,4 @@
 -- `refuse_one` meets its contract.
-use mir.Facts.{toZ-ofZ, toZ-pos}
-use mir.Syntax.{w64}
-use native.Mathlib.Omega.{arith}
-use mathlib.Core.Path.{_≡_, refl, sym, ap, _∙_}
 use Rattle.query_numbers.proofs.Answering as A
 use borrow.Author.Needs.{needs}
 use Rattle.query_numbers.proofs.refuse_one.Statement.{statement}

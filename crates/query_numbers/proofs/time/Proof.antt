@@ -1,8 +1,7 @@
 -- `time` meets its contract.
-use mir.Facts.{toZ-ofZ, toZ-pos}
+use mir.Facts.{toZ-ofZ}
 use mir.Syntax.{w64}
-use native.Mathlib.Omega.{arith}
-use mathlib.Core.Path.{refl, sym, ap, _∙_}
+use mathlib.Core.Path.{ap}
 use Rattle.query_numbers.proofs.Answering as A
 use Rattle.laws_part.specs.Replies.{between-placed}
 use Rattle.schedule.specs.Answers.{timeIs, timeCount}
