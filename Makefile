@@ -1,6 +1,6 @@
 # The library for C. target/part/ gets libhirgwamo.a, libhirgwamo.so.1 with the link libhirgwamo.so, hirgwamo.h and hirgwamo.pc.
 #
-#   make             builds; the Rattle toolchain (`rt staticlib hirgwamo`) proves and compiles the functions
+#   make             builds; the Rattle toolchain (`rt staticlib`) proves and compiles the functions
 #   make check       builds and runs the tests (part/test.sh)
 #   make install     installs below PREFIX: include/, lib/, lib/pkgconfig/, share/doc/hirgwamo/ (NOTICE), and the Python package below
 #                    lib/hirgwamo/python/
@@ -10,7 +10,7 @@
 # Settings:
 #   STATICLIB        an archive that is built already; then the toolchain is not needed
 #   PREFIX, DESTDIR  where to install (/usr/local), and a folder to be put before that
-#   CC, LDFLAGS, INSTALL, PYTHON, RT
+#   CC, AR, LDFLAGS, INSTALL, PYTHON, RT
 
 PREFIX ?= /usr/local
 INSTALL ?= install
@@ -30,16 +30,19 @@ doc_dir = $(DESTDIR)$(PREFIX)/share/doc/hirgwamo
 python_dir = $(own_dir)/python/hirgwamo
 python_files = $(wildcard python/hirgwamo/*.py python/hirgwamo/py.typed)
 
-code = crates/hirgwamo/src/lib.rt
+# The crates that export functions.
+exporting = hirgwamo query_numbers
+code = $(exporting:%=crates/%/src/lib.rt)
 refusals = crates/refusal/src/lib.rt
 built = $(out)/libhirgwamo.a $(out)/$(shared) $(out)/libhirgwamo.so $(out)/hirgwamo.h
 filled = sed 's|@PREFIX@|$(PREFIX)|' part/hirgwamo.pc.in
 
+.NOTPARALLEL:
 .PHONY: all check install uninstall clean FORCE
 .DELETE_ON_ERROR:
 
 # The header is compared with the functions that the code exports. Only where an archive is given the code need not be there.
-ifneq ($(wildcard $(code)),)
+ifeq ($(words $(wildcard $(code))),$(words $(code)))
 compared = $(out)/.compared
 else ifeq ($(strip $(STATICLIB)),)
 compared = $(out)/.compared
@@ -48,24 +51,31 @@ endif
 all: $(built) $(out)/hirgwamo.pc $(compared)
 
 $(out)/.compared: part/header.py part/hirgwamo.h part/hirgwamo.map part/hirgwamo.pc.in $(code) $(wildcard crates/*/src/lib.rt) $(out)/$(shared)
-	$(PYTHON) part/header.py --code $(code) --refusals $(refusals) --library $(out)/$(shared)
+	$(PYTHON) part/header.py $(code:%=--code %) --refusals $(refusals) --library $(out)/$(shared)
 	@touch $@
 
+# Bytes are compared, not times: the archive made or given last is the one that is built from.
+put_archive = cmp -s $(1) $(out)/libhirgwamo.a || $(INSTALL) -m 644 $(1) $(out)/libhirgwamo.a
+
 ifeq ($(strip $(STATICLIB)),)
-archive = target/staticlib/libhirgwamo.a
+archives = $(exporting:%=target/staticlib/lib%.a)
 
 # `touch -c` is for an archive that the toolchain leaves as it is.
-$(archive): $(shell find crates -name '*.rt' -o -name '*.antt')
-	$(RT) staticlib hirgwamo
+target/staticlib/lib%.a: $(shell find crates -name '*.rt' -o -name '*.antt')
+	$(RT) staticlib $*
 	@touch -c $@
-else
-archive = $(STATICLIB)
-endif
 
-# Bytes are compared, not times: the archive given last is the one that is built from.
-$(out)/libhirgwamo.a: $(archive) FORCE
+# Each crate's archive has one object, with inner functions of its own.
+$(out)/libhirgwamo.a: $(archives) FORCE
+	@rm -rf $(out)/.objects && mkdir -p $(out)/.objects
+	@cd $(out)/.objects && for archive in $(abspath $(archives)); do $(AR) x $$archive || exit 1; done && $(AR) rcsD lib.a *.o
+	@$(call put_archive,$(out)/.objects/lib.a)
+	@rm -rf $(out)/.objects
+else
+$(out)/libhirgwamo.a: $(STATICLIB) FORCE
 	@mkdir -p $(out)
-	@cmp -s $(archive) $@ || $(INSTALL) -m 644 $(archive) $@
+	@$(call put_archive,$(STATICLIB))
+endif
 
 $(out)/$(shared): $(out)/libhirgwamo.a part/hirgwamo.map
 	$(CC) -shared -o $@ -Wl,-soname,$(shared) -Wl,--version-script=part/hirgwamo.map -Wl,--no-undefined-version \

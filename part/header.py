@@ -1,14 +1,14 @@
 #!/usr/bin/env python3
-"""Compares hirgwamo.h with the functions that the crate `hirgwamo` exports.
+"""Compares hirgwamo.h with the functions that the crates `hirgwamo` and `query_numbers` export.
 
-usage: part/header.py [--root FOLDER] [--code FILE] [--refusals FILE] [--header FILE] [--map FILE] [--pc FILE] [--library FILE]
+usage: part/header.py [--root FOLDER] [--code FILE].. [--refusals FILE] [--header FILE] [--map FILE] [--pc FILE] [--library FILE]
 
 Says what differs, one sentence for each difference, and ends with 1; where nothing differs it says how much was compared and ends with 0. Compared are
 
 - each function that the code exports with the prototype in the header, names of parameters included, and that neither has one more: a lent slice `&[T]` is
   a pointer to const and a length, `&mut [T]` a pointer and a length, and the length of the slice `book` is `book_len`;
 - the refusals' numbers with the constants of the crate `refusal`; the version, the sizes, the two numbers that are no refusals and the kinds of queries with
-  those of the crate `hirgwamo`, or of the crates that it names;
+  those of these crates, or of the crates that they name;
 - the names in the version script with the header's functions, and the script's version and that of hirgwamo.pc.in with the code's;
 - with --library, the symbols that a shared library exports (nm) and their version with the header's functions and the script's, and the number in the
   library's name with the code's version.
@@ -226,7 +226,9 @@ def library_differences(library, code, script, told):
 
 
 def differences(files, crates, library):
-    code, refusals, header, script, pc = (path.read_text(encoding="utf-8") for path in files)
+    codes, *others = files
+    code = "".join(path.read_text(encoding="utf-8") for path in codes)
+    refusals, header, script, pc = (path.read_text(encoding="utf-8") for path in others)
     told = declared(header)
     yield from function_differences(code, header)
     yield from number_differences(code, refusals, header, crates)
@@ -242,12 +244,13 @@ def main():
     root = Path(__file__).resolve().parent.parent
     parser = argparse.ArgumentParser(description=__doc__, usage=argparse.SUPPRESS, formatter_class=argparse.RawDescriptionHelpFormatter)
     parser.add_argument("--root", type=Path, default=root)
-    for name in ("code", "refusals", "header", "map", "pc", "library"):
+    parser.add_argument("--code", type=Path, action="append")
+    for name in ("refusals", "header", "map", "pc", "library"):
         parser.add_argument(f"--{name}", type=Path)
     told = parser.parse_args()
     root = told.root
     files = [
-        told.code or root / "crates/hirgwamo/src/lib.rt",
+        told.code or [root / "crates" / name / "src/lib.rt" for name in ("hirgwamo", "query_numbers")],
         told.refusals or root / "crates/refusal/src/lib.rt",
         told.header or root / "part/hirgwamo.h",
         told.map or root / "part/hirgwamo.map",

@@ -3,8 +3,8 @@
 
 usage: tools/stack.py [FOLDER..]
 
-Each FOLDER has a book.bin and a zones.bin (sample/ where none is told). Builds target/staticlib/libhirgwamo.a by `rt staticlib hirgwamo` and
-target/bin/clock by `rt check clock` unless they are newer than the code, and a small program in C over the archive and part/hirgwamo.h. Needs cc and objdump. Prints, in bytes:
+Each FOLDER has a book.bin and a zones.bin (sample/ where none is told). Builds target/part/libhirgwamo.a by `make` and target/bin/clock
+by `rt check clock` unless they are newer than the code, and a small program in C over the archive. Needs cc and objdump. Prints, in bytes:
 
 - bound: read from the compiled code. A function's need is its frame and the deepest need of those it calls; nothing is called through a pointer. So
   it holds for every input. A function that calls itself, which only the writer of a number's digits does, counts 20 times, for 20 digits. What
@@ -130,15 +130,15 @@ def quiet(command):
 
 def build(folder):
     """The program in C over the archive, with our functions' names in it."""
-    archive = ROOT / "target" / "staticlib" / "libhirgwamo.a"
+    archive = ROOT / "target" / "part" / "libhirgwamo.a"
     if newer(archive):
-        quiet(["rt", "staticlib", "hirgwamo"])
+        quiet(["make"])
     program = ROOT / "target" / "bin" / "clock"
     if newer(program):
         quiet(["rt", "check", "clock"])
     source, driver = folder / "driver.c", folder / "driver"
     source.write_text(DRIVER)
-    subprocess.run(["cc", "-O2", "-I", ROOT / "part", "-Wl,-z,now", "-o", driver, source, archive], check=True)
+    subprocess.run(["cc", "-O2", "-I", archive.parent, "-Wl,-z,now", "-o", driver, source, archive], check=True)
     return driver, program
 
 

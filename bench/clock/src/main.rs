@@ -3,6 +3,8 @@
 //! jiff itself too.
 //!
 //! Usage: clock MILLISECONDS [ZONEINFO [BOOK [CALL [WHO]]]]
+//!        clock part MILLISECONDS [ZONEINFO [BOOK [CALL]]]
+//!        clock write FOLDER [ZONEINFO [BOOK [CALL]]]
 //!        clock hardest [ZONEINFO [BOOK [DAYS]]]
 //!
 //! A batch asks one question again and again. The book is built once in a
@@ -14,10 +16,13 @@
 //! in one batch. Ends with 1 where answers differ, but for jiff's on made-up
 //! zones with changes a few minutes apart, which it reads in a way of its own.
 //!
-//! The second form times the hardest stretch of a log (hardest.rs); with DAYS it
-//! makes one call of ours, with windows so wide, and times nothing.
+//! The second form times the functions that other languages link in the same way,
+//! and the third writes the books and questions of that table (part.rs). The last
+//! one times the hardest stretch of a log (hardest.rs); with DAYS it makes one call
+//! of ours, with windows so wide, and times nothing.
 
 mod hardest;
+mod part;
 
 use std::hint::black_box;
 
@@ -202,6 +207,18 @@ mod over_jiff {
         if nano < 0 { [second - 1, nano + NANO] } else { [second, nano] }
     }
 
+    /// A batch in which the schedule is built anew for each question.
+    pub fn run_building(on: &Book, task: Task, count: usize, room: usize) -> Batch {
+        let Task::Ask(call) = task else { return run(on, task, count, room) };
+        let (kind, numbers) = asked(call);
+        let mut work = numbers.repeat(count);
+        let since = spent();
+        for place in work.chunks_mut(4) {
+            reply(&built(on), kind, place);
+        }
+        (spent() - since, work.split_off(4 * (count - 1)))
+    }
+
     include!("original.rs");
 }
 
@@ -210,8 +227,11 @@ type Run = fn(&Book, Task, usize, usize) -> Batch;
 /// The name of the original over jiff itself.
 const JIFF: &str = "jiff";
 
-/// Those that are timed; the last one's answers are what the others are compared with.
-const RUNS: &[(&str, Run)] = &[
+/// Those that are timed, by their names.
+type Runs = &'static [(&'static str, Run)];
+
+/// Those of the table of all calls; the last one's answers are what the others are compared with.
+const RUNS: Runs = &[
     ("ours", ours),
     #[cfg(feature = "real")]
     (JIFF, over_jiff::run),
@@ -231,6 +251,7 @@ fn count_of(run: Run, on: &Book, task: Task, room: usize) -> usize {
 
 /// The best of one's batches so far, and whether all its answers were the ones wanted.
 struct Best {
+    name: &'static str,
     run: Run,
     count: usize,
     time: f64,
@@ -247,15 +268,16 @@ struct Row<'a> {
 }
 
 impl<'a> Row<'a> {
-    fn new(on: &'a Book, call: &'static str, task: Task) -> Row<'a> {
+    fn new(on: &'a Book, call: &'static str, task: Task, runs: Runs) -> Row<'a> {
         let (_, answer) = over_stand_in::run(on, task, 1, 0);
-        let best = |&(_, run): &(&str, Run)| Best {
+        let best = |&(name, run): &(&'static str, Run)| Best {
+            name,
             run,
             count: count_of(run, on, task, answer.len()),
             time: f64::INFINITY,
             same: true,
         };
-        let each = RUNS.iter().map(best).collect();
+        let each = runs.iter().map(best).collect();
         Row { on, call, task, answer, each }
     }
 
@@ -277,8 +299,7 @@ impl<'a> Row<'a> {
 
     /// No answer differs that should not.
     fn is_fine(&self) -> bool {
-        let mut all = self.each.iter().zip(RUNS);
-        all.all(|(best, (name, _))| best.same || self.on.is_close && *name == JIFF)
+        self.each.iter().all(|best| best.same || self.on.is_close && best.name == JIFF)
     }
 
     fn show(&self) {
@@ -344,6 +365,15 @@ fn run_once<'a>(chosen: impl Iterator<Item = (&'a Book, &'static str, Task)>, wh
     }
 }
 
+/// Goes through all rows in each round: batches for so many milliseconds each.
+fn time_rows(rows: &mut [Row], budget: f64) {
+    for round in 0..ROUNDS {
+        for row in rows.iter_mut().filter(|row| round == 0 || row.each[0].time < LONG) {
+            row.time(budget * 1e6);
+        }
+    }
+}
+
 /// All rows, or those of one call: batches for so many milliseconds each, or one by WHO alone.
 fn time_calls(books: &[&Book], budget: f64, call: Option<&String>, who: Option<&String>) {
     let chosen = books.iter().flat_map(|&on| tasks().into_iter().map(move |(name, task)| (on, name, task)));
@@ -351,12 +381,8 @@ fn time_calls(books: &[&Book], budget: f64, call: Option<&String>, who: Option<&
     if let Some(who) = who {
         return run_once(chosen, who);
     }
-    let mut rows: Vec<Row> = chosen.map(|(on, name, task)| Row::new(on, name, task)).collect();
-    for round in 0..ROUNDS {
-        for row in rows.iter_mut().filter(|row| round == 0 || row.each[0].time < LONG) {
-            row.time(budget * 1e6);
-        }
-    }
+    let mut rows: Vec<Row> = chosen.map(|(on, name, task)| Row::new(on, name, task, RUNS)).collect();
+    time_rows(&mut rows, budget);
     show_head();
     rows.iter().for_each(Row::show);
     if !rows.iter().all(Row::is_fine) {
@@ -364,25 +390,52 @@ fn time_calls(books: &[&Book], budget: f64, call: Option<&String>, who: Option<&
     }
 }
 
-fn main() -> std::io::Result<()> {
-    let told: Vec<String> = std::env::args().skip(1).collect();
-    let budget = told.first().and_then(|text| text.parse::<f64>().ok());
-    if budget.is_none() && told.first().is_none_or(|word| word != "hardest") {
-        eprintln!("usage: clock MILLISECONDS [ZONEINFO [BOOK [CALL [WHO]]]]\n       clock hardest [ZONEINFO [BOOK [DAYS]]]");
-        std::process::exit(2);
+/// What is to be done.
+enum Form {
+    /// All calls, for so many milliseconds.
+    Calls(f64),
+    Part(f64),
+    /// To this folder.
+    Write(String),
+    Hardest,
+}
+
+const USAGE: &str = "usage: clock MILLISECONDS [ZONEINFO [BOOK [CALL [WHO]]]]
+       clock part MILLISECONDS [ZONEINFO [BOOK [CALL]]]
+       clock write FOLDER [ZONEINFO [BOOK [CALL]]]
+       clock hardest [ZONEINFO [BOOK [DAYS]]]";
+
+/// What the first words say; ZONEINFO and those behind it are left.
+fn form(words: &mut impl Iterator<Item = String>) -> Option<Form> {
+    match words.next()?.as_str() {
+        "part" => words.next()?.parse().ok().map(Form::Part),
+        "write" => words.next().map(Form::Write),
+        "hardest" => Some(Form::Hardest),
+        budget => budget.parse().ok().map(Form::Calls),
     }
-    let (real, close) = (zones(told.get(1).map_or("/usr/share/zoneinfo", String::as_str))?, close_zones());
+}
+
+fn main() -> std::io::Result<()> {
+    let mut words = std::env::args().skip(1);
+    let Some(form) = form(&mut words) else {
+        eprintln!("{USAGE}");
+        std::process::exit(2);
+    };
+    let told: Vec<String> = words.collect();
+    let (real, close) = (zones(told.first().map_or("/usr/share/zoneinfo", String::as_str))?, close_zones());
     #[cfg(feature = "real")]
     let _lent = {
         let owned = |(name, file): &(&str, Vec<u8>)| (name.as_bytes().to_vec(), file.clone());
         over_jiff::lend(real.iter().chain(&close).map(owned).collect())
     };
     let books = all_books(&packed(&real), &packed(&close));
-    let chosen: Vec<&Book> = books.iter().filter(|on| told.get(2).is_none_or(|word| word == on.title)).collect();
-    match (budget, told.get(3)) {
-        (Some(budget), call) => time_calls(&chosen, budget, call, told.get(4)),
-        (None, Some(days)) => hardest::call_once(&chosen, days),
-        (None, None) => hardest::show(&chosen),
+    let chosen: Vec<&Book> = books.iter().filter(|on| told.get(1).is_none_or(|word| word == on.title)).collect();
+    match (form, told.get(2)) {
+        (Form::Calls(budget), call) => time_calls(&chosen, budget, call, told.get(3)),
+        (Form::Part(budget), call) => part::show(&chosen, budget, call),
+        (Form::Write(folder), call) => part::write(&chosen, &folder, call)?,
+        (Form::Hardest, Some(days)) => hardest::call_once(&chosen, days),
+        (Form::Hardest, None) => hardest::show(&chosen),
     }
     Ok(())
 }

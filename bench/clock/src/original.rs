@@ -31,6 +31,13 @@ fn answer(schedule: &Schedule, kind: u8, numbers: &mut [i64]) -> Result<(), Erro
     Ok(())
 }
 
+/// Puts the answer in the question's place; of a refusal its number.
+fn reply(schedule: &Schedule, kind: u8, place: &mut [i64]) {
+    if let Err(error) = answer(schedule, kind, place) {
+        place[0] = refusal(&error);
+    }
+}
+
 fn built(on: &Book) -> Schedule {
     build(on).unwrap_or_else(|refusal| panic!("{refusal:?}"))
 }
@@ -43,9 +50,7 @@ pub fn run(on: &Book, task: Task, count: usize, _: usize) -> Batch {
             let since = spent();
             let schedule = built(on);
             for place in work.chunks_mut(4) {
-                if let Err(error) = answer(&schedule, kind, place) {
-                    place[0] = refusal(&error);
-                }
+                reply(&schedule, kind, place);
             }
             (spent() - since, work.split_off(4 * (count - 1)))
         }

@@ -1,11 +1,11 @@
 // The functions that other languages link (part/hirgwamo.h): one for each public call, on numbers and lent slices. Each answers in the numbers lent as
-// `answer`, and returns 0 or a refusal's number; where these numbers are too few it returns TOO_SHORT and writes nothing.
+// `answer`, and returns 0 or a refusal's number; where these numbers are too few it returns TOO_SHORT and writes nothing. The function for many queries,
+// `hirgwamo_answers`, is that of crate `query_numbers`.
 ghost use mathlib.Core.Path.{_≡_};
 ghost use Rattle.model.specs.Build as books;
 ghost use Rattle.model.specs.Calls as model;
 ghost use Rattle.model.specs.Hardest as logs;
 ghost use Rattle.model.specs.ZoneCalls as zones;
-ghost use Rattle.query_numbers.specs.Batch.{BatchEnds};
 ghost use Rattle.hirgwamo.specs.Part.{version, Tells, TellsList, verdict, counted, oneNumber, whenChanged, verdictSize, timeSize, instantSize, periodSize, stretchSize, offsetSize, changeSize, resolvedSize};
 use schedule::MoveAnswer;
 use schedule::TimeAnswer;
@@ -226,19 +226,6 @@ pub extern "C" fn hirgwamo_hardest(
         HardestAnswer::Is(a, b, c, d) => answer_numbers::give_four(answer, a, b, c, d),
         HardestAnswer::Refused(number, place) => answer_numbers::refuse(answer, number, place),
     }
-}
-
-// Many queries of one book and pack, which is built once.
-#[no_mangle]
-pub extern "C" fn hirgwamo_answers(
-    book: &[u8],
-    pack: &[u8],
-    queries: &[i64],
-    answers: &mut [i64],
-) -> u32
-    ensures { λ r. ⌜ BatchEnds (book .entry .now) (pack .entry .now) (queries .entry .now) r (answers .entry .now) (answers .exit .now) ⌝ }
-{
-    query_numbers::answers(book, pack, queries, answers)
 }
 
 // ---- zone files

@@ -1,6 +1,7 @@
 -- From the answers of the calls to six numbers, and from the numbers of a query to its call.
 use mathlib.Core.Path.{_≡_, refl, sym, ap, _∙_}
-use mathlib.Core.Bool.{true, false}
+use mathlib.Core.Bool.{true, false, not}
+use mathlib.Core.Logic.{_⊎_, inl, inr}
 use mathlib.Core.Option.{Option, none, some}
 use mathlib.Core.List.{List, [], _∷_, _++_}
 use Prim.Native.Nat.{ℕ, zero, suc, _+_, _*_, _-_, _/_, _%_, _^_, _≤_, _<_}
@@ -12,21 +13,22 @@ use lib.Signed.{ltZ}
 use mir.Facts.{toZ-ofZ, toZ-pos}
 use mir.Syntax.{w64}
 use mir.Val.{SFits, toZ, ofZ}
-use borrow.Author.Tests.{ltb-true, ltb-false, lt-ltb, le-ltb, ne-eqb, eqb-false}
+use borrow.Author.Tests.{ltb-true, ltb-false, lt-ltb, le-ltb, eq-eqb, ne-eqb, eqb-true, eqb-false}
 use Rattle.model.specs.Answer.{Answer, gives, refuses, _>>=_}
 use Rattle.model.specs.Calls.{Reply, betweenCall, moveCall, periodCall, said, leastOf}
 use Rattle.model.specs.Lines.{Query, askBetween, askMove, askPeriod, replyTo}
 use Rattle.model.specs.Walk.{Way, on, back}
 use Rattle.model.specs.Working.{Schedule}
 use Rattle.laws_base.specs.Made.{Any}
-use Rattle.laws_base.specs.Test.{by-test, never, clash}
+use Rattle.laws_base.specs.Test.{by-test, by-either, or-true, never, clash}
 use Rattle.laws_part.specs.Placed.{Placed, answered, refused}
 use Rattle.laws_part.specs.Replies.{Few}
 use Rattle.answer_numbers.specs.Outcomes.{written, tooShort, Ends}
+use Rattle.walk_distance.specs.Distances.{wayOf}
 use Rattle.schedule.specs.Answers.{KeepsReply}
 use Rattle.query_numbers.specs.declared.AnyAnswer.the-variants as A
 use Rattle.query_numbers.specs.declared.AnyAnswer.{AnyAnswer}
-use Rattle.query_numbers.specs.Batch.{queryFor, queryAt, answersFrom, batch, sixOf, answerTo, noQuery, anyNumbers, IsSix, zeros}
+use Rattle.query_numbers.specs.Batch.{isOneOf, queryFor, queryAt, answersFrom, batch, sixOf, answerTo, noQuery, anyNumbers, IsSix, zeros}
 
 -- ---- the numbers of an answer
 
@@ -80,26 +82,41 @@ module _ {v d : Answer Reply} (e : v ≡ d) (f : Placed {A = Reply} Any 0 d) whe
 number-is : {k : ℤ} {n : ℕ} → SFits w64 k → ofZ w64 k ≡ n → n < 2 ^ 63 → k ≡ pos n
 number-is {k} {n} f e h = sym (toZ-ofZ f) ∙ ap (toZ w64) e ∙ toZ-pos w64 h
 
-module _ (s : Schedule) (k a b c d : ℤ) {r : AnyAnswer} (f : SFits w64 k) where
-  pub as-between : ofZ w64 k ≡ 0 → IsSix r (sixOf (replyTo s (askBetween a b c d))) → IsSix r (answerTo (gives s) (queryFor k a b c d))
-  unfolding queryFor
-  as-between e h = rw (number-is f e (omega arith)) h
+-- a kind by its bits
+pub one-of-first : {i : ℕ} (j : ℕ) {k : ℤ} → SFits w64 k → ofZ w64 k ≡ i → i < 2 ^ 63 → true ≡ isOneOf i j k
+unfolding isOneOf
+one-of-first {i} j f e h = rw (number-is f e h, eq-eqb i i refl)
 
-  pub as-add : ofZ w64 k ≡ 1 → IsSix r (sixOf (replyTo s (askMove on a b c d))) → IsSix r (answerTo (gives s) (queryFor k a b c d))
-  unfolding queryFor
-  as-add e h = rw (number-is f e (omega arith)) h
+pub one-of-second : (i : ℕ) {j : ℕ} (k : ℤ) → SFits w64 k → j < 2 ^ 63 → (ofZ w64 k ≡ i → ⊥) → eqb (ofZ w64 k) j ≡ isOneOf i j k
+unfolding isOneOf
+one-of-second i {j} (pos n) f l g = rw (ne-eqb n i g)
+one-of-second i {j} (negsuc n) f l g = by-test (eqb (ofZ w64 (negsuc n)) j) (λ t. is-minus (number-is f (eqb-true (ofZ w64 (negsuc n)) j t) l)) (λ t. t)
+  where
+    is-minus : {P : Type 0} → negsuc n ≡ pos j → P
+    is-minus e = never (cc)
 
-  pub as-sub : ofZ w64 k ≡ 2 → IsSix r (sixOf (replyTo s (askMove back a b c d))) → IsSix r (answerTo (gives s) (queryFor k a b c d))
-  unfolding queryFor
-  as-sub e h = rw (number-is f e (omega arith)) h
+one-of-means : (i j : ℕ) (k : ℤ) → isOneOf i j k ≡ true → (k ≡ pos i) ⊎ (k ≡ pos j)
+unfolding isOneOf
+one-of-means i j (pos n) e = by-either (λ t. inl (ap pos (eqb-true n i t))) (λ t. inr (ap pos (eqb-true n j t))) (or-true (eqb n i) (eqb n j) e)
+one-of-means i j (negsuc n) e = clash false e refl
 
-  pub as-next : ofZ w64 k ≡ 3 → IsSix r (sixOf (replyTo s (askPeriod on a b))) → IsSix r (answerTo (gives s) (queryFor k a b c d))
-  unfolding queryFor
-  as-next e h = rw (number-is f e (omega arith)) h
+none-of-means : (i j : ℕ) (k : ℤ) → isOneOf i j k ≡ false → (k ≡ pos i → ⊥) × (k ≡ pos j → ⊥)
+unfolding isOneOf
+none-of-means i j k e =
+    ((λ h. clash (isOneOf i j k) (rw h (rw (eq-eqb i i refl))) e), (λ h. clash (isOneOf i j k) (rw h (by-test (eqb j i) (λ t. rw t) (λ t. rw (t, eq-eqb j j refl)))) e))
 
-  pub as-previous : ofZ w64 k ≡ 4 → IsSix r (sixOf (replyTo s (askPeriod back a b))) → IsSix r (answerTo (gives s) (queryFor k a b c d))
+module _ (s : Schedule) (k a b c d : ℤ) {r : AnyAnswer} where
+  pub as-between : SFits w64 k → ofZ w64 k ≡ 0 → IsSix r (sixOf (replyTo s (askBetween a b c d))) → IsSix r (answerTo (gives s) (queryFor k a b c d))
   unfolding queryFor
-  as-previous e h = rw (number-is f e (omega arith)) h
+  as-between f e h = rw (number-is f e (omega arith)) h
+
+  pub as-move : true ≡ isOneOf 1 2 k → IsSix r (sixOf (replyTo s (askMove (wayOf (not (eqb (ofZ w64 k) 1))) a b c d))) → IsSix r (answerTo (gives s) (queryFor k a b c d))
+  unfolding queryFor
+  as-move e h = by-either (λ q. rw q (rw q at h)) (λ q. rw q (rw q at h)) (one-of-means 1 2 k (sym e))
+
+  pub as-period : true ≡ isOneOf 3 4 k → IsSix r (sixOf (replyTo s (askPeriod (wayOf (not (eqb (ofZ w64 k) 3))) a b))) → IsSix r (answerTo (gives s) (queryFor k a b c d))
+  unfolding queryFor
+  as-period e h = by-either (λ q. rw q (rw q at h)) (λ q. rw q (rw q at h)) (one-of-means 3 4 k (sym e))
 
 -- no call
 none-for : (k a b c d : ℤ) → (k ≡ pos 0 → ⊥) → (k ≡ pos 1 → ⊥) → (k ≡ pos 2 → ⊥) → (k ≡ pos 3 → ⊥) → (k ≡ pos 4 → ⊥) → queryFor k a b c d ≡ none
@@ -112,9 +129,11 @@ no-call : (g : Answer Schedule) (q : Option Query) → q ≡ none → IsSix (A.R
 no-call g q e = rw e (record { numbers = refl; fits = omega arith })
 
 module _ (g : Answer Schedule) (k a b c d : ℤ) where
-  pub as-none : (ofZ w64 k ≡ 0 → ⊥) → (ofZ w64 k ≡ 1 → ⊥) → (ofZ w64 k ≡ 2 → ⊥) → (ofZ w64 k ≡ 3 → ⊥) → (ofZ w64 k ≡ 4 → ⊥) → IsSix (A.Refused noQuery 0) (answerTo g (queryFor k a b c d))
-  as-none f₀ f₁ f₂ f₃ f₄ =
-      no-call g (queryFor k a b c d) (none-for k a b c d (λ e. f₀ (ap (ofZ w64) e)) (λ e. f₁ (ap (ofZ w64) e)) (λ e. f₂ (ap (ofZ w64) e)) (λ e. f₃ (ap (ofZ w64) e)) (λ e. f₄ (ap (ofZ w64) e)))
+  pub as-none : (ofZ w64 k ≡ 0 → ⊥) → false ≡ isOneOf 1 2 k → false ≡ isOneOf 3 4 k → IsSix (A.Refused noQuery 0) (answerTo g (queryFor k a b c d))
+  as-none f m p =
+      let x = none-of-means 1 2 k (sym m) in
+      let y = none-of-means 3 4 k (sym p) in
+      no-call g (queryFor k a b c d) (none-for k a b c d (λ e. f (ap (ofZ w64) e)) (x .0) (x .1) (y .0) (y .1))
 
   pub below-none : ltZ k (pos 0) ≡ true → IsSix (A.Refused noQuery 0) (answerTo g (queryFor k a b c d))
   unfolding queryFor

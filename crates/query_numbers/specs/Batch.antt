@@ -1,6 +1,6 @@
 -- Queries and answers as numbers. The sentences are those of the header hirgwamo.h, "Many queries of one book and pack".
 use mathlib.Core.Path.{_≡_}
-use mathlib.Core.Bool.{Bool, not}
+use mathlib.Core.Bool.{Bool, false, not, _||_}
 use mathlib.Core.Option.{Option, none, some}
 use mathlib.Core.List.{List, [], _∷_, _++_}
 use Prim.Native.Nat.{ℕ, zero, suc, _+_, _*_, _/_, _%_, _^_, _<_}
@@ -73,6 +73,11 @@ batch b q lent =
     record { returned = 0; numbers = written 0 (answersFrom b n 0 q) lent }
 
 -- ---- what each function promises
+
+-- the number is one of two kinds
+unfoldable pub isOneOf : ℕ → ℕ → ℤ → Bool
+isOneOf i j (pos n) = eqb n i || eqb n j
+isOneOf i j (negsuc n) = false
 
 -- the numbers of an answer that the code has in hand
 abbrev pub anyNumbers : AnyAnswer → List ℤ

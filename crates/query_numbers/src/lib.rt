@@ -1,11 +1,13 @@
-// Many queries of one book and pack, as numbers: five for a query, six for its answer. The book is built once.
+// The function that other languages link for many queries of one book and pack (part/hirgwamo.h): five numbers for a query, six for its answer. The book is
+// built once. It has an archive of its own beside that of crate `hirgwamo`: there each function below it has one caller, so that the compiler puts it in
+// there and a schedule is copied less often.
 ghost use mathlib.Core.Path.{_≡_};
 ghost use Prim.Native.Nat.{_+_, _*_, _/_, _^_, _≤_, _<_};
 ghost use lib.ListN.{length};
 ghost use Rattle.model.specs.Answer.{gives, refuses};
 ghost use Rattle.rule.specs.Rules.{scheduleIs};
 ghost use Rattle.answer_numbers.specs.Outcomes.{written};
-ghost use Rattle.query_numbers.specs.Batch.{anyNumbers, AnyFits, Ready, AnswersAs, AnswersBy, TimedBy, MovedBy, PeriodBy, OneAnswered, AllAnswered, BatchEnds};
+ghost use Rattle.query_numbers.specs.Batch.{anyNumbers, isOneOf, AnyFits, Ready, AnswersAs, AnswersBy, TimedBy, MovedBy, PeriodBy, OneAnswered, AllAnswered, BatchEnds};
 use rule::Schedule;
 use schedule::MoveAnswer;
 use schedule::TimeAnswer;
@@ -78,7 +80,27 @@ fn period(book: &[u8], pack: &[u8], s: Schedule, back: bool, a: i64, b: i64) -> 
     }
 }
 
-// The answer to one query. Periods do not look at c and d.
+// The kind is `add` or `sub`.
+fn is_move(kind: i64) -> bool
+    ensures { λ r. ⌜ r ≡ isOneOf 1 2 «kind» ⌝ }
+{
+    if kind == ADD {
+        return true;
+    }
+    kind == SUB
+}
+
+// The kind is `next` or `previous`.
+fn is_period(kind: i64) -> bool
+    ensures { λ r. ⌜ r ≡ isOneOf 3 4 «kind» ⌝ }
+{
+    if kind == NEXT {
+        return true;
+    }
+    kind == PREVIOUS
+}
+
+// The answer to one query. Periods do not look at c and d. Each call stands here once, so that the compiler can put it in here.
 fn answer(
     book: &[u8],
     pack: &[u8],
@@ -95,17 +117,11 @@ fn answer(
     if kind == BETWEEN {
         return time(book, pack, s, a, b, c, d);
     }
-    if kind == ADD {
-        return moved(book, pack, s, false, a, b, c, d);
+    if is_move(kind) {
+        return moved(book, pack, s, kind != ADD, a, b, c, d);
     }
-    if kind == SUB {
-        return moved(book, pack, s, true, a, b, c, d);
-    }
-    if kind == NEXT {
-        return period(book, pack, s, false, a, b);
-    }
-    if kind == PREVIOUS {
-        return period(book, pack, s, true, a, b);
+    if is_period(kind) {
+        return period(book, pack, s, kind != NEXT, a, b);
     }
     AnyAnswer::Refused(NO_QUERY, 0)
 }
@@ -240,21 +256,27 @@ fn refuse_all(number: u32, place: usize, queries: &[i64], out: &mut [i64])
 }
 
 // Answers all queries, in their order. Returns 0, or what is wrong with the slices; then nothing is written.
-pub fn answers(book: &[u8], pack: &[u8], queries: &[i64], out: &mut [i64]) -> u32
-    ensures { λ r. ⌜ BatchEnds (book .entry .now) (pack .entry .now) (queries .entry .now) r (out .entry .now) (out .exit .now) ⌝ }
+#[no_mangle]
+pub extern "C" fn hirgwamo_answers(
+    book: &[u8],
+    pack: &[u8],
+    queries: &[i64],
+    answers: &mut [i64],
+) -> u32
+    ensures { λ r. ⌜ BatchEnds (book .entry .now) (pack .entry .now) (queries .entry .now) r (answers .entry .now) (answers .exit .now) ⌝ }
 {
     if queries.len() % QUERY_SIZE != 0 {
         return NO_QUERY;
     }
-    if out.len() / ANSWER_SIZE < queries.len() / QUERY_SIZE {
+    if answers.len() / ANSWER_SIZE < queries.len() / QUERY_SIZE {
         return answer_numbers::TOO_SHORT;
     }
     let b = build::build(book, pack);
     if b.number != 0 {
-        refuse_all(b.number, b.place, queries, out);
+        refuse_all(b.number, b.place, queries, answers);
         return answer_numbers::ANSWERED;
     }
     let s = b.schedule;
-    answer_all(book, pack, s, queries, out);
+    answer_all(book, pack, s, queries, answers);
     answer_numbers::ANSWERED
 }

@@ -1,4 +1,4 @@
--- `answers` meets its contract.
+-- `hirgwamo_answers` meets its contract.
 use native.Mathlib.Omega.{arith}
 use mathlib.Core.Path.{sym}
 use Rattle.laws_part.specs.Placed.{place-most}
@@ -7,8 +7,8 @@ use Rattle.laws_skip.specs.Books.{build-well}
 use Rattle.build.specs.First.{build-gives, build-refuses}
 use Rattle.query_numbers.proofs.Answering as A
 use borrow.Author.Needs.{needs}
-use Rattle.query_numbers.proofs.answers.Statement.{statement}
-use Rattle.query_numbers.proofs.answers.Tie as tie
+use Rattle.query_numbers.proofs.hirgwamo_answers.Statement.{statement}
+use Rattle.query_numbers.proofs.hirgwamo_answers.Tie as tie
 
 returns : tie.Need-returns
 returns c = A.not-whole _ _ _ (c .if1 .taken)
@@ -37,8 +37,8 @@ same-length-2 c = search needs
 returns-4 : tie.Need-returns-4
 returns-4 c = A.all-done _ _ _ (c .before .before .before .before .before .before .before .before .if1 .left) (c .before .before .before .before .before .before .before .if2 .left) (build-gives _ _ (c .before .before .before .before .before .before .build .result) (c .before .before .before .before .before .before .build .ensures .means) (c .before .before .before .before .if3 .left)) (c .before .answer-all .ensures)
 
-pub answers-spec : {M : Type 1} → statement M
-answers-spec =
+pub hirgwamo-answers-spec : {M : Type 1} → statement M
+hirgwamo-answers-spec =
     tie.close
     (tie.spec
     returns
