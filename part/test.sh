@@ -3,7 +3,7 @@
 #
 #   part/test.sh
 #
-# Builds with `make`, which runs `rt staticlib hirgwamo` unless STATICLIB is set to an archive. One line for each test; the last line is 'N passed, 0 failed',
+# Builds with `make`, which runs `rt staticlib` unless STATICLIB is set to an archive. One line for each test; the last line is 'N passed, 0 failed',
 # and where a test fails it ends with 1. A tool that is missing (valgrind, g++, pkg-config) is a failure. Settings from the environment: CC (cc), CXX (g++),
 # PYTHON (python3), STATICLIB.
 set -eu
@@ -254,6 +254,15 @@ readme_python() {
     PYTHONPATH=python PYTHONDONTWRITEBYTECODE=1 readme_prints python "$python" "$tmp/due.py"
 }
 
+# The program that the Python package is compared with. Where the toolchain is not there, one that is built already serves.
+clock_built() {
+    if has rt; then
+        rt check clock || return 1
+    fi
+    [ -x target/bin/clock ] || { echo "target/bin/clock is missing"; return 1; }
+    echo "target/bin/clock"
+}
+
 # ---- all of it
 
 try 'build' build
@@ -293,5 +302,6 @@ try 'install below DESTDIR, and uninstall' staged
 try 'README.md, C' readme_c
 [ ! -f python/hirgwamo/__init__.py ] || try 'README.md, Python' readme_python
 [ ! -f rust/test.sh ] || try 'rust/test.sh' rust/test.sh
+try 'the program clock' clock_built
 [ ! -f python/test.sh ] || try 'python/test.sh' python/test.sh
 finish

@@ -188,7 +188,8 @@ class Duration(timedelta):
         """The timedelta without the nanoseconds, rounded down."""
         return timedelta(microseconds=_whole_microseconds(self))
 
-    @overload
+    # A datetime on the right too: without this its sum with a Duration would lose the nanoseconds.
+    @overload  # type: ignore[override]
     def __add__(self, other: timedelta) -> Duration: ...
 
     @overload
