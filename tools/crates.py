@@ -21,7 +21,7 @@ WINGS = [
 WING = {
     "model": "meaning", "number": "base", "refusal": "base", "big_endian": "base", "instant": "base", "instant_signed": "base", "civil": "base",
     "directory": "base", "run_log": "base", "rule": "book", "answer_line": "query",
-    "laws_answers": "schedule", "answer_numbers": "part", "query_numbers": "part", "hirgwamo": "part",
+    "laws_answers": "part", "answer_numbers": "part", "query_numbers": "part", "hirgwamo": "part",
 }  # fmt: skip
 COLOURS = ["#4e79a7", "#b07aa1", "#59a14f", "#d37222", "#9c755f", "#2f8f8b", "#c23b52", "#6b6ecf", "#8c8c1a"]
 

@@ -30,5 +30,5 @@ unfoldable pub outcome : ℕ → Answer (List ℤ) → List ℤ → Outcome
 outcome size a lent = if ltb (length lent) size then record { returned = tooShort; numbers = lent } else answering a lent
 
 -- r is returned, and the lent numbers are `after`
-abbrev pub Ends : ℕ → List ℤ → Outcome → Type 0
-Ends r after o = (r ≡ o .returned) × (after ≡ o .numbers)
+abbrev pub EndsAs : ℕ → List ℤ → Outcome → Type 0
+EndsAs r after o = (r ≡ o .returned) × (after ≡ o .numbers)

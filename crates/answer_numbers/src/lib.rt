@@ -5,7 +5,7 @@ ghost use mathlib.Core.List.{[], _∷_};
 ghost use Prim.Native.Nat.{_+_, _^_, _≤_, _<_};
 ghost use lib.ListN.{length};
 ghost use Rattle.model.specs.Answer.{gives, refuses};
-ghost use Rattle.answer_numbers.specs.Outcomes.{written, answering, Ends};
+ghost use Rattle.answer_numbers.specs.Outcomes.{written, answering, EndsAs};
 
 // Returned where the call answers.
 pub const ANSWERED: u32 = 0;
@@ -16,7 +16,7 @@ pub const TOO_SHORT: u32 = 100;
 // Gives one number.
 pub fn give_one(answer: &mut [i64], a: i64) -> u32
     requires { ⌜ 1 ≤ length (now answer) ⌝ }
-    ensures { λ r. ⌜ Ends r (now (answer .exit)) (answering (gives («a» ∷ [])) (now (answer .entry))) ⌝ }
+    ensures { λ r. ⌜ EndsAs r (now (answer .exit)) (answering (gives («a» ∷ [])) (now (answer .entry))) ⌝ }
 {
     answer[0] = a;
     ANSWERED
@@ -25,7 +25,7 @@ pub fn give_one(answer: &mut [i64], a: i64) -> u32
 // Gives two numbers.
 pub fn give_two(answer: &mut [i64], a: i64, b: i64) -> u32
     requires { ⌜ 2 ≤ length (now answer) ⌝ }
-    ensures { λ r. ⌜ Ends r (now (answer .exit)) (answering (gives («a» ∷ «b» ∷ [])) (now (answer .entry))) ⌝ }
+    ensures { λ r. ⌜ EndsAs r (now (answer .exit)) (answering (gives («a» ∷ «b» ∷ [])) (now (answer .entry))) ⌝ }
 {
     answer[0] = a;
     answer[1] = b;
@@ -35,7 +35,7 @@ pub fn give_two(answer: &mut [i64], a: i64, b: i64) -> u32
 // Gives three numbers.
 pub fn give_three(answer: &mut [i64], a: i64, b: i64, c: i64) -> u32
     requires { ⌜ 3 ≤ length (now answer) ⌝ }
-    ensures { λ r. ⌜ Ends r (now (answer .exit)) (answering (gives («a» ∷ «b» ∷ «c» ∷ [])) (now (answer .entry))) ⌝ }
+    ensures { λ r. ⌜ EndsAs r (now (answer .exit)) (answering (gives («a» ∷ «b» ∷ «c» ∷ [])) (now (answer .entry))) ⌝ }
 {
     answer[0] = a;
     answer[1] = b;
@@ -46,7 +46,7 @@ pub fn give_three(answer: &mut [i64], a: i64, b: i64, c: i64) -> u32
 // Gives four numbers.
 pub fn give_four(answer: &mut [i64], a: i64, b: i64, c: i64, d: i64) -> u32
     requires { ⌜ 4 ≤ length (now answer) ⌝ }
-    ensures { λ r. ⌜ Ends r (now (answer .exit)) (answering (gives («a» ∷ «b» ∷ «c» ∷ «d» ∷ [])) (now (answer .entry))) ⌝ }
+    ensures { λ r. ⌜ EndsAs r (now (answer .exit)) (answering (gives («a» ∷ «b» ∷ «c» ∷ «d» ∷ [])) (now (answer .entry))) ⌝ }
 {
     answer[0] = a;
     answer[1] = b;
@@ -58,7 +58,7 @@ pub fn give_four(answer: &mut [i64], a: i64, b: i64, c: i64, d: i64) -> u32
 // Gives a refusal's place, and returns its number.
 pub fn refuse(answer: &mut [i64], number: u32, place: usize) -> u32
     requires { ⌜ (1 ≤ length (now answer)) × (place < 2 ^ 63) ⌝ }
-    ensures { λ r. ⌜ Ends r (now (answer .exit)) (answering (refuses number place) (now (answer .entry))) ⌝ }
+    ensures { λ r. ⌜ EndsAs r (now (answer .exit)) (answering (refuses number place) (now (answer .entry))) ⌝ }
 {
     answer[0] = place as i64;
     number

@@ -34,7 +34,8 @@ use Rattle.schedule_hardest.specs.declared.HardestAnswer.the-variants as H
 use Rattle.schedule_hardest.specs.Hardests.{hardestIs}
 use Rattle.bench_clock.specs.declared.AnyAnswer.{AnyAnswer}
 use Rattle.bench_clock.specs.declared.AnyAnswer.the-variants as A
-use Rattle.bench_clock.specs.Asked.{replyIs, answerOfKind, written, writtenAt, withAnswer, groupsFrom, groups, groupsOf, limitIn, limitOf, listedOften, listedOf, atFront}
+use Rattle.answer_numbers.specs.Outcomes.{written}
+use Rattle.bench_clock.specs.Asked.{replyIs, answerOfKind, writtenAt, withAnswer, groupsFrom, groups, groupsOf, limitIn, limitOf, listedOften, listedOf, atFront}
 
 -- ---- the calls' answers
 

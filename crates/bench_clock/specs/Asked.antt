@@ -17,6 +17,7 @@ use Rattle.model.specs.Working.{Schedule}
 use Rattle.rule.specs.Rules.{scheduleIs}
 use Rattle.rule.specs.declared.Schedule as rule
 use Rattle.walk_distance.specs.Distances.{wayOf}
+use Rattle.answer_numbers.specs.Outcomes.{written}
 use Rattle.bench_clock.specs.declared.AnyAnswer.{AnyAnswer}
 use Rattle.bench_clock.specs.declared.AnyAnswer.the-variants as T
 
@@ -33,11 +34,6 @@ answerOfKind kind s a b c d =
     if eqb kind 1 then said (moveCall on s a b c d) else
     if eqb kind 2 then said (moveCall back s a b c d) else
     if eqb kind 3 then said (periodCall on s a b) else said (periodCall back s a b)
-
--- l over the numbers of e, from i on
-unfoldable pub written : ℕ → List ℤ → List ℤ → List ℤ
-written i [] e = e
-written i (a ∷ l) e = written (i + 1) l (set e i a)
 
 -- an answer's numbers, or its refusal's
 abbrev pub writtenAt : ℕ → Answer (List ℤ) → List ℤ → List ℤ

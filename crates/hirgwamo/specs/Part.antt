@@ -10,7 +10,7 @@ use Rattle.model.specs.Answer.{Answer, gives, _>>=_}
 use Rattle.model.specs.Basic.{if_then_else_}
 use Rattle.model.specs.Calls.{Reply, Listing, said, leastOf, stretchCount, numbersAfter}
 use Rattle.model.specs.Working.{Schedule}
-use Rattle.answer_numbers.specs.Outcomes.{outcome, Ends}
+use Rattle.answer_numbers.specs.Outcomes.{outcome, EndsAs}
 
 -- "major * 1,000,000 + minor * 1,000 + patch"
 abbrev pub version : ℕ
@@ -21,8 +21,8 @@ version = 1000000
 abbrev pub verdictSize : ℕ
 verdictSize = 1
 
-abbrev pub timeSize : ℕ
-timeSize = 3
+abbrev pub betweenSize : ℕ
+betweenSize = 3
 
 abbrev pub instantSize : ℕ
 instantSize = 3
@@ -52,8 +52,8 @@ abbrev pub verdict : Answer Schedule → Answer (List ℤ)
 verdict a = a >>= λ s. gives (pos 0 ∷ [])
 
 -- "answer: seconds, nanoseconds, windows resolved"
-abbrev pub counted : Answer Reply → Answer (List ℤ)
-counted a = said a >>= λ l. gives (l ++ pos (leastOf a) ∷ [])
+abbrev pub withCount : Answer Reply → Answer (List ℤ)
+withCount a = said a >>= λ l. gives (l ++ pos (leastOf a) ∷ [])
 
 -- "answer: how many stretches"
 abbrev pub howMany : Answer Listing → Answer (List ℤ)
@@ -75,7 +75,7 @@ whenChanged a = a >>= λ c. gives (changeNumbers c)
 
 -- r is returned, and the lent numbers go from `before` to `after`: by the answer a, which has so many numbers
 abbrev pub Tells : ℕ → Answer (List ℤ) → ℕ → List ℤ → List ℤ → Type 0
-Tells size a r before after = Ends r after (outcome size a before)
+Tells size a r before after = EndsAs r after (outcome size a before)
 
 -- the numbers lent for a listing's stretches afterwards. "`stretches` changes only where the call answers"
 unfoldable pub stretchesAfter : ℕ → Answer Listing → List ℤ → List ℤ

@@ -6,7 +6,7 @@ ghost use Rattle.model.specs.Build as books;
 ghost use Rattle.model.specs.Calls as model;
 ghost use Rattle.model.specs.Hardest as logs;
 ghost use Rattle.model.specs.ZoneCalls as zones;
-ghost use Rattle.hirgwamo.specs.Part.{version, Tells, TellsList, verdict, counted, oneNumber, whenChanged, verdictSize, timeSize, instantSize, periodSize, stretchSize, offsetSize, changeSize, resolvedSize};
+ghost use Rattle.hirgwamo.specs.Part.{version, Tells, TellsList, verdict, withCount, oneNumber, whenChanged, verdictSize, betweenSize, instantSize, periodSize, stretchSize, offsetSize, changeSize, resolvedSize};
 use schedule::MoveAnswer;
 use schedule::TimeAnswer;
 use schedule_hardest::HardestAnswer;
@@ -66,7 +66,7 @@ pub extern "C" fn hirgwamo_between(
     b_ns: i64,
     answer: &mut [i64],
 ) -> u32
-    ensures { λ r. ⌜ Tells timeSize (counted (model.between (book .entry .now) (pack .entry .now) «a_sec» «a_ns» «b_sec» «b_ns»))
+    ensures { λ r. ⌜ Tells betweenSize (withCount (model.between (book .entry .now) (pack .entry .now) «a_sec» «a_ns» «b_sec» «b_ns»))
         r (answer .entry .now) (answer .exit .now) ⌝ }
 {
     if answer.len() < TIME_SIZE {
@@ -94,7 +94,7 @@ pub extern "C" fn hirgwamo_add(
     d_ns: i64,
     answer: &mut [i64],
 ) -> u32
-    ensures { λ r. ⌜ Tells instantSize (counted (model.add (book .entry .now) (pack .entry .now) «t_sec» «t_ns» «d_sec» «d_ns»))
+    ensures { λ r. ⌜ Tells instantSize (withCount (model.add (book .entry .now) (pack .entry .now) «t_sec» «t_ns» «d_sec» «d_ns»))
         r (answer .entry .now) (answer .exit .now) ⌝ }
 {
     if answer.len() < INSTANT_SIZE {
@@ -122,7 +122,7 @@ pub extern "C" fn hirgwamo_sub(
     d_ns: i64,
     answer: &mut [i64],
 ) -> u32
-    ensures { λ r. ⌜ Tells instantSize (counted (model.sub (book .entry .now) (pack .entry .now) «t_sec» «t_ns» «d_sec» «d_ns»))
+    ensures { λ r. ⌜ Tells instantSize (withCount (model.sub (book .entry .now) (pack .entry .now) «t_sec» «t_ns» «d_sec» «d_ns»))
         r (answer .entry .now) (answer .exit .now) ⌝ }
 {
     if answer.len() < INSTANT_SIZE {

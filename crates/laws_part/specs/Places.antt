@@ -19,7 +19,7 @@ use Rattle.laws_base.specs.Every.{Every}
 use Rattle.laws_base.specs.Made.{Made, value, made-is, next, tested, Any, anything}
 use Rattle.laws_base.specs.Test.{by-test, and-both}
 use Rattle.laws_skip.specs.Books.{BuiltWell, build-well}
-use Rattle.laws_part.specs.Placed.{Placed, answered, placed-step, placed-or, placed-test, placed-by}
+use Rattle.laws_part.specs.Placed.{PlacedIn, gave, placed-step, placed-or, placed-test, placed-by}
 
 -- ---- the records of a book begin inside it
 
@@ -64,7 +64,7 @@ entries-begin book =
 -- ---- build
 
 module _ (m : ℕ) (files : List Named) where
-  lookup-placed : (e : Entry) → Begins m e → Placed Any m (lookup files e)
+  lookup-placed : (e : Entry) → Begins m e → PlacedIn Any m (lookup files e)
   unfolding lookup
   lookup-placed e h =
       placed-step {P = Any} (orRefuse 4 (e .place) (find (e .name) files)) (placed-or 4 (e .place) (find (e .name) files) h (λ _ _. tt))
@@ -74,8 +74,8 @@ module _ (m : ℕ) (files : List Named) where
   MayBegin none = Unit {0}
   MayBegin (some e) = Begins m e
 
-  default-placed : (o : Option Entry) → MayBegin o → Placed Any m (defaultZone files o)
-  default-placed none h = answered tt
+  default-placed : (o : Option Entry) → MayBegin o → PlacedIn Any m (defaultZone files o)
+  default-placed none h = gave tt
   default-placed (some e) h = lookup-placed e h
 
   last-begins : (d : Option Entry) (l : List Entry) → MayBegin d → Every (Begins m) l → MayBegin (lastDefault d l)
@@ -83,23 +83,23 @@ module _ (m : ℕ) (files : List Named) where
   last-begins d [] h k = h
   last-begins d (e ∷ l) h k = by-test (isDefault (e .body)) (λ t. rw t (last-begins (some e) l (k .0) (k .1))) (λ t. rw t (last-begins d l h (k .1)))
 
-  rule-placed : (z : Zone) (e : Entry) → Begins m e → Placed Any m (ruleZone files z e)
-  rule-placed z e h = by-test (eqb (length (e .name)) 0) (λ t. rw t (answered tt)) (λ t. rw t (lookup-placed e h))
+  rule-placed : (z : Zone) (e : Entry) → Begins m e → PlacedIn Any m (ruleZone files z e)
+  rule-placed z e h = by-test (eqb (length (e .name)) 0) (λ t. rw t (gave tt)) (λ t. rw t (lookup-placed e h))
 
-  used-placed : (z : Zone) (e : Entry) (b : Body) → Begins m e → Placed Any m (zoneUsed files z e b)
-  used-placed z e default h = answered tt
+  used-placed : (z : Zone) (e : Entry) (b : Body) → Begins m e → PlacedIn Any m (zoneUsed files z e b)
+  used-placed z e default h = gave tt
   used-placed z e (work x) h = rule-placed z e h
   used-placed z e (pause x) h = rule-placed z e h
   used-placed z e (holidays x) h = rule-placed z e h
 
-  rules-placed : (z : Zone) (l : List Entry) → Every (Begins m) l → Placed Any m (rulesOf files z l)
+  rules-placed : (z : Zone) (l : List Entry) → Every (Begins m) l → PlacedIn Any m (rulesOf files z l)
   unfolding rulesOf
-  rules-placed z [] h = answered tt
+  rules-placed z [] h = gave tt
   rules-placed z (e ∷ l) h =
       placed-step {P = Any} (zoneUsed files z e (e .body)) (used-placed z e (e .body) (h .0)) (λ y _.
-      placed-step {P = Any} (rulesOf files z l) (rules-placed z l (h .1)) (λ s _. answered tt))
+      placed-step {P = Any} (rulesOf files z l) (rules-placed z l (h .1)) (λ s _. gave tt))
 
-build-place : (book pack : List ℕ) → Placed Any (length book) (build book pack)
+build-place : (book pack : List ℕ) → PlacedIn Any (length book) (build book pack)
 unfolding build
 build-place book pack =
     let m = length book in
@@ -110,5 +110,5 @@ build-place book pack =
     placed-step {P = Any} (rulesOf p z l) (rules-placed m p z l h) (λ s _. placed-test 6 0 (worksIn2001 s) s (omega arith) (λ _. tt))))))
 
 -- a refusal's place lies in the book, and a schedule that is given is built well
-pub build-placed : (book pack : List ℕ) → Placed BuiltWell (length book) (build book pack)
+pub build-placed : (book pack : List ℕ) → PlacedIn BuiltWell (length book) (build book pack)
 build-placed book pack = placed-by (build book pack) (build-place book pack) (λ s e. build-well book pack s e)

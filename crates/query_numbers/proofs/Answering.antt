@@ -21,9 +21,9 @@ use Rattle.model.specs.Walk.{Way, on, back}
 use Rattle.model.specs.Working.{Schedule}
 use Rattle.laws_base.specs.Made.{Any}
 use Rattle.laws_base.specs.Test.{by-test, by-either, or-true, never, clash}
-use Rattle.laws_part.specs.Placed.{Placed, answered, refused}
-use Rattle.laws_part.specs.Replies.{Few}
-use Rattle.answer_numbers.specs.Outcomes.{written, tooShort, Ends}
+use Rattle.laws_part.specs.Placed.{PlacedIn, gave, refused-in}
+use Rattle.laws_part.specs.Replies.{FewWindows}
+use Rattle.answer_numbers.specs.Outcomes.{written, tooShort, EndsAs}
 use Rattle.walk_distance.specs.Distances.{wayOf}
 use Rattle.schedule.specs.Answers.{KeepsReply}
 use Rattle.query_numbers.specs.declared.AnyAnswer.the-variants as A
@@ -35,12 +35,12 @@ use Rattle.query_numbers.specs.Batch.{isOneOf, queryFor, queryAt, answer
 values-same : {v w : List ℤ} → _≡_ {A = Answer (List ℤ)} (gives v) (gives w) → v ≡ w
 values-same e = cc
 
-module _ {v : Answer (List ℤ)} {c : ℕ} {d : Answer Reply} (k : KeepsReply v c d) (f : Placed Few 0 d) where
+module _ {v : Answer (List ℤ)} {c : ℕ} {d : Answer Reply} (k : KeepsReply v c d) (f : PlacedIn FewWindows 0 d) where
   pub counted-six : {x y : ℤ} {w : ℕ} → v ≡ gives (x ∷ y ∷ []) → c ≡ w → {u₁ u₂ : ℤ} → u₁ ≡ x → u₂ ≡ y → IsSix (A.Counted u₁ u₂ w) (sixOf d)
   counted-six {x} {y} {w} e h {u₁} {u₂} p q = go d k f
     where
-      go : (o : Answer Reply) → KeepsReply v c o → Placed Few 0 o → IsSix (A.Counted u₁ u₂ w) (sixOf o)
-      go (gives r) l (answered m) =
+      go : (o : Answer Reply) → KeepsReply v c o → PlacedIn FewWindows 0 o → IsSix (A.Counted u₁ u₂ w) (sixOf o)
+      go (gives r) l (gave m) =
           let s : r .values ≡ x ∷ y ∷ [] = values-same (sym (l .0) ∙ e) in
           let t = l .1 .most in
           record { numbers = rw (s, ← l .1 .least, h, p, q); fits = omega arith }
@@ -49,15 +49,15 @@ module _ {v : Answer (List ℤ)} {c : ℕ} {d : Answer Reply} (k : KeepsReply v 
   pub refused-six : {n p : ℕ} → v ≡ refuses n p → IsSix (A.Refused n p) (sixOf d)
   refused-six {n} {p} e = go d k f
     where
-      go : (o : Answer Reply) → KeepsReply v c o → Placed Few 0 o → IsSix (A.Refused n p) (sixOf o)
+      go : (o : Answer Reply) → KeepsReply v c o → PlacedIn FewWindows 0 o → IsSix (A.Refused n p) (sixOf o)
       go (gives r) l m = never (cc)
-      go (refuses i j) l (refused m) =
+      go (refuses i j) l (refused-in m) =
           let s : i ≡ n = cc in
           let t : j ≡ p = cc in
           record { numbers = rw (s, t); fits = omega arith }
 
 -- a period's
-module _ {v d : Answer Reply} (e : v ≡ d) (f : Placed {A = Reply} Any 0 d) where
+module _ {v d : Answer Reply} (e : v ≡ d) (f : PlacedIn {A = Reply} Any 0 d) where
   pub period-six : {x₁ x₂ x₃ x₄ : ℤ} → said v ≡ gives (x₁ ∷ x₂ ∷ x₃ ∷ x₄ ∷ []) → leastOf v ≡ 0 → {u₁ u₂ u₃ u₄ : ℤ} → u₁ ≡ x₁ → u₂ ≡ x₂ → u₃ ≡ x₃ → u₄ ≡ x₄
       → IsSix (A.Period u₁ u₂ u₃ u₄) (sixOf d)
   period-six {x₁} {x₂} {x₃} {x₄} g h {u₁} {u₂} {u₃} {u₄} p₁ p₂ p₃ p₄ = go d (sym (ap said e) ∙ g) (sym (ap leastOf e) ∙ h)
@@ -69,9 +69,9 @@ module _ {v d : Answer Reply} (e : v ≡ d) (f : Placed {A = Reply} Any 0 d) whe
   pub no-period-six : {n p : ℕ} → v ≡ refuses n p → IsSix (A.Refused n p) (sixOf d)
   no-period-six {n} {p} g = go d f (sym e ∙ g)
     where
-      go : (o : Answer Reply) → Placed {A = Reply} Any 0 o → o ≡ refuses n p → IsSix (A.Refused n p) (sixOf o)
+      go : (o : Answer Reply) → PlacedIn {A = Reply} Any 0 o → o ≡ refuses n p → IsSix (A.Refused n p) (sixOf o)
       go (gives r) m a = never (cc)
-      go (refuses i j) (refused m) a =
+      go (refuses i j) (refused-in m) a =
           let s : i ≡ n = cc in
           let t : j ≡ p = cc in
           record { numbers = rw (s, t); fits = omega arith }
@@ -256,15 +256,15 @@ module _ (g : Answer Schedule) (q : List ℤ) where
 -- ---- the whole batch
 
 module _ (b : Answer Schedule) (q e : List ℤ) where
-  pub not-whole : (length q % 5 ≡ 0 → ⊥) → Ends noQuery e (batch b q e)
+  pub not-whole : (length q % 5 ≡ 0 → ⊥) → EndsAs noQuery e (batch b q e)
   unfolding batch
   not-whole h = rw (ne-eqb (length q % 5) 0 h) (refl, refl)
 
   module _ (w : length q % 5 ≡ 0) where
-    pub too-few : length e / 6 < length q / 5 → Ends tooShort e (batch b q e)
+    pub too-few : length e / 6 < length q / 5 → EndsAs tooShort e (batch b q e)
     unfolding batch
     too-few h = let k : length e < 6 * (length q / 5) = omega arith in rw (w, lt-ltb (length e) (6 * (length q / 5)) k) (refl, refl)
 
-    pub all-done : length q / 5 ≤ length e / 6 → {g : Answer Schedule} → g ≡ b → {x : List ℤ} → x ≡ written 0 (answersFrom g (length q / 5) 0 q) e → Ends 0 x (batch b q e)
+    pub all-done : length q / 5 ≤ length e / 6 → {g : Answer Schedule} → g ≡ b → {x : List ℤ} → x ≡ written 0 (answersFrom g (length q / 5) 0 q) e → EndsAs 0 x (batch b q e)
     unfolding batch
     all-done h s p = let k : 6 * (length q / 5) ≤ length e = omega arith in rw (w, le-ltb (length e) (6 * (length q / 5)) k) (refl, rw s at p)

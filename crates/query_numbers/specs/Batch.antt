@@ -18,7 +18,7 @@ use Rattle.laws_skip.specs.Books.{BuiltWell}
 use Rattle.rule.specs.declared.Schedule.{Schedule}
 use Rattle.rule.specs.Rules.{scheduleIs, ScheduleFits}
 use Rattle.walk_distance.specs.Distances.{wayOf}
-use Rattle.answer_numbers.specs.Outcomes.{Outcome, tooShort, written, Ends}
+use Rattle.answer_numbers.specs.Outcomes.{Outcome, tooShort, written, EndsAs}
 use Rattle.query_numbers.specs.declared.AnyAnswer.{AnyAnswer}
 use Rattle.query_numbers.specs.declared.AnyAnswer.the-variants as A
 
@@ -123,9 +123,9 @@ abbrev pub OneAnswered : Answer model.Schedule → List ℤ → ℕ → ℕ → 
 OneAnswered b q i at old new = new ≡ written at (answerTo b (queryAt q i)) old
 
 -- all queries are answered
-abbrev pub AllAnswered : Answer model.Schedule → List ℤ → List ℤ → List ℤ → Type 0
-AllAnswered b q old new = new ≡ written 0 (answersFrom b (length q / 5) 0 q) old
+abbrev pub BatchAnswered : Answer model.Schedule → List ℤ → List ℤ → List ℤ → Type 0
+BatchAnswered b q old new = new ≡ written 0 (answersFrom b (length q / 5) 0 q) old
 
 -- r is returned, and the answers go from `old` to `new`
 abbrev pub BatchEnds : List ℕ → List ℕ → List ℤ → ℕ → List ℤ → List ℤ → Type 0
-BatchEnds book pack q r old new = Ends r new (batch (build book pack) q old)
+BatchEnds book pack q r old new = EndsAs r new (batch (build book pack) q old)

@@ -7,7 +7,7 @@ ghost use lib.ListN.{length};
 ghost use Rattle.model.specs.Answer.{gives, refuses};
 ghost use Rattle.rule.specs.Rules.{scheduleIs};
 ghost use Rattle.answer_numbers.specs.Outcomes.{written};
-ghost use Rattle.query_numbers.specs.Batch.{anyNumbers, isOneOf, AnyFits, Ready, AnswersAs, AnswersBy, TimedBy, MovedBy, PeriodBy, OneAnswered, AllAnswered, BatchEnds};
+ghost use Rattle.query_numbers.specs.Batch.{anyNumbers, isOneOf, AnyFits, Ready, AnswersAs, AnswersBy, TimedBy, MovedBy, PeriodBy, OneAnswered, BatchAnswered, BatchEnds};
 use rule::Schedule;
 use schedule::MoveAnswer;
 use schedule::TimeAnswer;
@@ -205,7 +205,7 @@ fn answer_one(
 
 fn answer_all(book: &[u8], pack: &[u8], s: Schedule, queries: &[i64], out: &mut [i64])
     requires { ⌜ Ready (now book) (now pack) s × (6 * (length (now queries) / 5) ≤ length (now out)) ⌝ }
-    ensures { λ _. ⌜ AllAnswered (gives (scheduleIs (book .entry .now) (pack .entry .now) s)) (queries .entry .now)
+    ensures { λ _. ⌜ BatchAnswered (gives (scheduleIs (book .entry .now) (pack .entry .now) s)) (queries .entry .now)
         (out .entry .now) (out .exit .now) ⌝ }
 {
     let mut i: usize = 0;
@@ -242,7 +242,7 @@ fn refuse_one(number: u32, place: usize, queries: &[i64], i: usize, out: &mut [i
 
 fn refuse_all(number: u32, place: usize, queries: &[i64], out: &mut [i64])
     requires { ⌜ (place < 2 ^ 63) × (6 * (length (now queries) / 5) ≤ length (now out)) ⌝ }
-    ensures { λ _. ⌜ AllAnswered (refuses number place) (queries .entry .now) (out .entry .now) (out .exit .now) ⌝ }
+    ensures { λ _. ⌜ BatchAnswered (refuses number place) (queries .entry .now) (out .entry .now) (out .exit .now) ⌝ }
 {
     let mut i: usize = 0;
     let mut at: usize = 0;
