@@ -17,7 +17,7 @@ use borrow.Author.Tests.{ltb-true, ltb-false, lt-ltb, le-ltb, eq-eqb, ne-eqb, eq
 use Rattle.model.specs.Answer.{Answer, gives, refuses, _>>=_}
 use Rattle.model.specs.Calls.{Reply, betweenCall, moveCall, periodCall, said, leastOf}
 use Rattle.model.specs.Lines.{Query, askBetween, askMove, askPeriod, replyTo}
-use Rattle.model.specs.Walk.{Way, on, back}
+use Rattle.model.specs.Walk.{Way}
 use Rattle.model.specs.Working.{Schedule}
 use Rattle.laws_base.specs.Made.{Any}
 use Rattle.laws_base.specs.Test.{by-test, by-either, or-true, never, clash}
