@@ -1,8 +1,8 @@
 /* Hirgwamo, a working-hours clock: the functions that C can call.
  *
  * Every function is proved, for all inputs, to answer as its definition says, to read only inside the ends of what is lent to it, and to write only the
- * numbers that are told here (crate `hirgwamo` of the repository). Nothing is kept from one call to the next and nothing is allocated, so any number of
- * threads may call at once, each with answers of its own; books, packs, zone files, logs and queries may be shared.
+ * numbers that are told here (crates `hirgwamo` and `query_numbers` of the repository). Nothing is kept from one call to the next and nothing is allocated,
+ * so any number of threads may call at once, each with answers of its own; books, packs, zone files, logs and queries may be shared.
  *
  * Platform: x86-64 Linux, System V calling convention, with the C library's memcpy and memset.
  *

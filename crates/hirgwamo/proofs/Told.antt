@@ -54,20 +54,8 @@ module _ {v : Answer (List ℤ)} {c : ℕ} {d : Answer Reply} (k : KeepsReply v 
 
 -- ---- the numbers of an answer, as they are handed on
 
-module _ {x₁ u₁ : ℤ} (p₁ : u₁ ≡ x₁) where
-  pub one : _≡_ {A = Answer (List ℤ)} (gives (u₁ ∷ [])) (gives (x₁ ∷ []))
-  one = rw p₁
-
-  module _ {x₂ u₂ : ℤ} (p₂ : u₂ ≡ x₂) where
-    pub two : _≡_ {A = Answer (List ℤ)} (gives (u₁ ∷ u₂ ∷ [])) (gives (x₁ ∷ x₂ ∷ []))
-    two = rw (p₁, p₂)
-
-    pub changed : _≡_ {A = Answer (List ℤ)} (gives (pos 1 ∷ u₁ ∷ u₂ ∷ [])) (gives (pos 1 ∷ x₁ ∷ x₂ ∷ []))
-    changed = rw (p₁, p₂)
-
-    module _ {x₃ u₃ : ℤ} (p₃ : u₃ ≡ x₃) {x₄ u₄ : ℤ} (p₄ : u₄ ≡ x₄) where
-      pub four : _≡_ {A = Answer (List ℤ)} (gives (u₁ ∷ u₂ ∷ u₃ ∷ u₄ ∷ [])) (gives (x₁ ∷ x₂ ∷ x₃ ∷ x₄ ∷ []))
-      four = rw (p₁, p₂, p₃, p₄)
+pub numbers : {l m : List ℤ} → l ≡ m → _≡_ {A = Answer (List ℤ)} (gives l) (gives m)
+numbers p = ap gives p
 
 -- ---- the listing
 

@@ -23,6 +23,7 @@ use Rattle.laws_base.specs.Made.{Any}
 use Rattle.laws_base.specs.Test.{by-test, by-either, or-true, never, clash}
 use Rattle.laws_part.specs.Placed.{PlacedIn, gave, refused-in}
 use Rattle.laws_part.specs.Replies.{FewWindows}
+use Rattle.answer_numbers.specs.Written.{written-same}
 use Rattle.answer_numbers.specs.Outcomes.{written, tooShort, EndsAs}
 use Rattle.walk_distance.specs.Distances.{wayOf}
 use Rattle.schedule.specs.Answers.{KeepsReply}
@@ -198,7 +199,7 @@ module _ {r : AnyAnswer} where
   refused-put e p q = rw (e, p, q)
 
 pub put-as : {x : List ℤ} (i : ℕ) (e : List ℤ) {l m : List ℤ} → x ≡ written i l e → l ≡ m → x ≡ written i m e
-put-as i e p q = p ∙ ap (λ l. written i l e) q
+put-as i e p q = p ∙ written-same i e q
 
 -- one query answered, whose numbers fit
 module _ (g : Answer Schedule) (q : List ℤ) (i at : ℕ) (e : List ℤ) (r : AnyAnswer) where

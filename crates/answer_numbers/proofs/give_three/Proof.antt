@@ -3,7 +3,8 @@ use mir.Facts.{toZ-ofZ}
 use lib.ListN.{length-set}
 use native.Mathlib.Omega.{arith}
 use mathlib.Core.Path.{refl}
-use Rattle.answer_numbers.proofs.Written.{three-written}
+use Rattle.answer_numbers.specs.Outcomes.{written}
+use Rattle.answer_numbers.specs.Written.{stored, no-more, written-same}
 use borrow.Author.Needs.{needs}
 use Rattle.answer_numbers.proofs.give_three.Statement.{statement}
 use Rattle.answer_numbers.proofs.give_three.Tie as tie
@@ -21,7 +22,8 @@ same-length : tie.Need-same-length
 same-length c = search needs
 
 returns : tie.Need-returns
-returns c = (refl, three-written (toZ-ofZ (c .fits .a)) (toZ-ofZ (c .fits .b)) (toZ-ofZ (c .fits .c)) 0 _)
+unfolding written
+returns c = (refl, written-same 0 (c .args .answer .now) (stored (toZ-ofZ (c .fits .a)) (stored (toZ-ofZ (c .fits .b)) (stored (toZ-ofZ (c .fits .c)) no-more))))
 
 pub give-three-spec : {M : Type 1} → statement M
 give-three-spec =

@@ -1,7 +1,8 @@
 --
 use mir.Facts.{toZ-ofZ}
 use mathlib.Core.Path.{refl}
-use Rattle.answer_numbers.proofs.Written.{two-written}
+use Rattle.answer_numbers.specs.Outcomes.{written}
+use Rattle.answer_numbers.specs.Written.{stored, no-more, written-same}
 use borrow.Author.Needs.{needs}
 use Rattle.answer_numbers.proofs.give_two.Statement.{statement}
 use Rattle.answer_numbers.proofs.give_two.Tie as tie
@@ -16,7 +17,8 @@ same-length : tie.Need-same-length
 same-length c = search needs
 
 returns : tie.Need-returns
-returns c = (refl, two-written (toZ-ofZ (c .fits .a)) (toZ-ofZ (c .fits .b)) 0 _)
+unfolding written
+returns c = (refl, written-same 0 (c .args .answer .now) (stored (toZ-ofZ (c .fits .a)) (stored (toZ-ofZ (c .fits .b)) no-more)))
 
 pub give-two-spec : {M : Type 1} → statement M
 give-two-spec = tie.close (tie.spec slice-set-from-a slice-set-from-b same-length returns)

@@ -2,7 +2,8 @@
 use mir.Facts.{toZ-ofZ}
 use lib.ListN.{length-set}
 use native.Mathlib.Omega.{arith}
-use Rattle.answer_numbers.proofs.Written.{six-written}
+use Rattle.answer_numbers.specs.Outcomes.{written}
+use Rattle.answer_numbers.specs.Written.{stored, no-more, written-same}
 use borrow.Author.Needs.{needs}
 use Rattle.answer_numbers.proofs.put_six.Statement.{statement}
 use Rattle.answer_numbers.proofs.put_six.Tie as tie
@@ -62,7 +63,8 @@ same-length : tie.Need-same-length
 same-length c = simp length-set (omega arith)
 
 returns : tie.Need-returns
-returns c = six-written (toZ-ofZ (c .fits .a)) (toZ-ofZ (c .fits .b)) (toZ-ofZ (c .fits .c)) (toZ-ofZ (c .fits .d)) (toZ-ofZ (c .fits .e)) (toZ-ofZ (c .fits .f)) _ _
+unfolding written
+returns c = written-same (c .args .at) (c .args .out .now) (stored (toZ-ofZ (c .fits .a)) (stored (toZ-ofZ (c .fits .b)) (stored (toZ-ofZ (c .fits .c)) (stored (toZ-ofZ (c .fits .d)) (stored (toZ-ofZ (c .fits .e)) (stored (toZ-ofZ (c .fits .f)) no-more))))))
 
 pub put-six-spec : {M : Type 1} → statement M
 put-six-spec =

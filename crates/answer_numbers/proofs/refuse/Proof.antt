@@ -2,7 +2,8 @@
 use mir.Facts.{toZ-pos}
 use mir.Syntax.{w64}
 use mathlib.Core.Path.{refl}
-use Rattle.answer_numbers.proofs.Written.{one-written}
+use Rattle.answer_numbers.specs.Outcomes.{written}
+use Rattle.answer_numbers.specs.Written.{stored, no-more, written-same}
 use borrow.Author.Needs.{needs}
 use Rattle.answer_numbers.proofs.refuse.Statement.{statement}
 use Rattle.answer_numbers.proofs.refuse.Tie as tie
@@ -17,7 +18,8 @@ same-length : tie.Need-same-length
 same-length c = search needs
 
 returns : tie.Need-returns
-returns c = (refl, one-written (toZ-pos w64 (c .pre .1)) 0 _)
+unfolding written
+returns c = (refl, written-same 0 (c .args .answer .now) (stored (toZ-pos w64 (c .pre .1)) no-more))
 
 pub refuse-spec : {M : Type 1} → statement M
 refuse-spec = tie.close (tie.spec cast-answer slice-set-from-answer same-length returns)

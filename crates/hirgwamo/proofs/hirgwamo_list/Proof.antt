@@ -3,6 +3,7 @@ use mir.Facts.{toZ-ofZ, toZ-pos}
 use mir.Syntax.{w64}
 use native.Mathlib.Omega.{arith}
 use mathlib.Core.Path.{refl, sym, ap, _∙_}
+use Rattle.answer_numbers.specs.Written.{stored, no-more}
 use Rattle.hirgwamo.proofs.Told as T
 use Rattle.laws_part.specs.Replies.{list-fits}
 use Rattle.schedule_listing.specs.Listings.{listingIs}
@@ -38,7 +39,7 @@ same-length-2 : tie.Need-same-length-2
 same-length-2 c = search needs
 
 returns-2 : tie.Need-returns-2
-returns-2 c = T.list-told _ _ _ (c .before .before .before .before .before .before .before .before .before .if1 .left) (sym (ap listingIs (c .before .before .before .before .n .given .1)) ∙ (rw (toZ-ofZ (c .before .before .before .before .before .before .before .before .before .before .before .before .fits .a-sec), toZ-ofZ (c .before .before .before .before .before .before .before .before .before .before .before .before .fits .a-ns), toZ-ofZ (c .before .before .before .before .before .before .before .before .before .before .before .before .fits .b-sec), toZ-ofZ (c .before .before .before .before .before .before .before .before .before .before .before .before .fits .b-ns)) at (c .before .before .before .before .before .before .before .list .ensures .0))) (T.one (toZ-pos w64 (let h = T.stretches-fit (c .before .before .before .before .before .before .before .before .before .before .before .before .args .stretches .now) (list-fits _ _ _ _ _ _ _) (sym (ap listingIs (c .before .before .before .before .n .given .1)) ∙ (c .before .before .before .before .before .before .before .list .ensures .0)) in omega arith))) (rw (toZ-ofZ (c .before .before .before .before .before .before .before .before .before .before .before .before .fits .a-sec), toZ-ofZ (c .before .before .before .before .before .before .before .before .before .before .before .before .fits .a-ns), toZ-ofZ (c .before .before .before .before .before .before .before .before .before .before .before .before .fits .b-sec), toZ-ofZ (c .before .before .before .before .before .before .before .before .before .before .before .before .fits .b-ns)) at (c .before .before .before .before .before .before .before .list .ensures .1)) (c .before .give-one .ensures)
+returns-2 c = T.list-told _ _ _ (c .before .before .before .before .before .before .before .before .before .if1 .left) (sym (ap listingIs (c .before .before .before .before .n .given .1)) ∙ (rw (toZ-ofZ (c .before .before .before .before .before .before .before .before .before .before .before .before .fits .a-sec), toZ-ofZ (c .before .before .before .before .before .before .before .before .before .before .before .before .fits .a-ns), toZ-ofZ (c .before .before .before .before .before .before .before .before .before .before .before .before .fits .b-sec), toZ-ofZ (c .before .before .before .before .before .before .before .before .before .before .before .before .fits .b-ns)) at (c .before .before .before .before .before .before .before .list .ensures .0))) (T.numbers (stored (toZ-pos w64 (let h = T.stretches-fit (c .before .before .before .before .before .before .before .before .before .before .before .before .args .stretches .now) (list-fits _ _ _ _ _ _ _) (sym (ap listingIs (c .before .before .before .before .n .given .1)) ∙ (c .before .before .before .before .before .before .before .list .ensures .0)) in omega arith)) no-more)) (rw (toZ-ofZ (c .before .before .before .before .before .before .before .before .before .before .before .before .fits .a-sec), toZ-ofZ (c .before .before .before .before .before .before .before .before .before .before .before .before .fits .a-ns), toZ-ofZ (c .before .before .before .before .before .before .before .before .before .before .before .before .fits .b-sec), toZ-ofZ (c .before .before .before .before .before .before .before .before .before .before .before .before .fits .b-ns)) at (c .before .before .before .before .before .before .before .list .ensures .1)) (c .before .give-one .ensures)
 
 same-length-3 : tie.Need-same-length-3
 same-length-3 c = search needs

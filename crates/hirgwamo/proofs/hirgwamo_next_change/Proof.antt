@@ -2,7 +2,9 @@
 use mir.Facts.{toZ-ofZ}
 use mir.Syntax.{w64}
 use native.Mathlib.Omega.{arith}
-use mathlib.Core.Path.{sym, ap, _∙_}
+use mathlib.Core.Path.{refl, sym, ap, _∙_}
+use lib.IntN.{pos}
+use Rattle.answer_numbers.specs.Written.{stored, no-more}
 use Rattle.hirgwamo.proofs.Told as T
 use Rattle.laws_part.specs.Placed.{place-most}
 use Rattle.laws_part.specs.Replies.{change-placed}
@@ -40,7 +42,7 @@ same-length : tie.Need-same-length
 same-length c = search needs
 
 returns-2 : tie.Need-returns-2
-returns-2 c = T.told _ _ _ (c .before .before .before .before .before .before .before .if1 .left) (T.changed (toZ-ofZ {w = w64} (record { sfits = (c .before .before .before .known-told .given .0 .1) })) (toZ-ofZ {w = w64} (record { sfits = (c .before .before .before .known-told .given .1 .0 .1) })) ∙ sym (ap (λ r. whenChanged (changeIs r)) (c .before .before .before .before .s .given .1)) ∙ ap whenChanged (rw (toZ-ofZ (c .before .before .before .before .before .before .before .before .before .fits .sec), toZ-ofZ (c .before .before .before .before .before .before .before .before .before .fits .ns)) at (c .before .before .before .before .before .before .next-change-in .ensures))) (c .before .give-three .ensures)
+returns-2 c = T.told _ _ _ (c .before .before .before .before .before .before .before .if1 .left) (T.numbers (stored {u = pos 1} {a = pos 1} refl (stored (toZ-ofZ {w = w64} (record { sfits = (c .before .before .before .known-told .given .0 .1) })) (stored (toZ-ofZ {w = w64} (record { sfits = (c .before .before .before .known-told .given .1 .0 .1) })) no-more))) ∙ sym (ap (λ r. whenChanged (changeIs r)) (c .before .before .before .before .s .given .1)) ∙ ap whenChanged (rw (toZ-ofZ (c .before .before .before .before .before .before .before .before .before .fits .sec), toZ-ofZ (c .before .before .before .before .before .before .before .before .before .fits .ns)) at (c .before .before .before .before .before .before .next-change-in .ensures))) (c .before .give-three .ensures)
 
 same-length-2 : tie.Need-same-length-2
 same-length-2 c = search needs

@@ -3,6 +3,7 @@ use mir.Facts.{toZ-ofZ}
 use mir.Syntax.{w64}
 use native.Mathlib.Omega.{arith}
 use mathlib.Core.Path.{sym, ap, _∙_}
+use Rattle.answer_numbers.specs.Written.{stored, no-more}
 use Rattle.hirgwamo.proofs.Told as T
 use Rattle.laws_part.specs.Replies.{period-fits}
 use Rattle.schedule_periods.specs.Replies.{periodIs}
@@ -34,7 +35,7 @@ same-length : tie.Need-same-length
 same-length c = search needs
 
 returns-2 : tie.Need-returns-2
-returns-2 c = T.told _ _ _ (c .before .before .before .before .before .before .before .if1 .left) (T.four (toZ-ofZ {w = w64} (record { sfits = (c .before .before .before .known-told .given .0 .1) })) (toZ-ofZ {w = w64} (record { sfits = (c .before .before .before .known-told .given .1 .0 .1) })) (toZ-ofZ {w = w64} (record { sfits = (c .before .before .before .known-told .given .1 .1 .0 .1) })) (toZ-ofZ {w = w64} (record { sfits = (c .before .before .before .known-told .given .1 .1 .1 .0 .1) })) ∙ sym (ap (λ r. said (periodIs r)) (c .before .before .before .before .a .given .1)) ∙ ap said (rw (toZ-ofZ (c .before .before .before .before .before .before .before .before .before .before .fits .sec), toZ-ofZ (c .before .before .before .before .before .before .before .before .before .before .fits .ns)) at (c .before .before .before .before .before .before .next-period .ensures))) (c .before .give-four .ensures)
+returns-2 c = T.told _ _ _ (c .before .before .before .before .before .before .before .if1 .left) (T.numbers (stored (toZ-ofZ {w = w64} (record { sfits = (c .before .before .before .known-told .given .0 .1) })) (stored (toZ-ofZ {w = w64} (record { sfits = (c .before .before .before .known-told .given .1 .0 .1) })) (stored (toZ-ofZ {w = w64} (record { sfits = (c .before .before .before .known-told .given .1 .1 .0 .1) })) (stored (toZ-ofZ {w = w64} (record { sfits = (c .before .before .before .known-told .given .1 .1 .1 .0 .1) })) no-more)))) ∙ sym (ap (λ r. said (periodIs r)) (c .before .before .before .before .a .given .1)) ∙ ap said (rw (toZ-ofZ (c .before .before .before .before .before .before .before .before .before .before .fits .sec), toZ-ofZ (c .before .before .before .before .before .before .before .before .before .before .fits .ns)) at (c .before .before .before .before .before .before .next-period .ensures))) (c .before .give-four .ensures)
 
 same-length-2 : tie.Need-same-length-2
 same-length-2 c = search needs
