@@ -8,3 +8,4 @@ pub mod Resolve
 pub mod Zones
 pub mod Examples
 pub mod Runs
+pub mod Readings

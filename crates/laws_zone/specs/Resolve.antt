@@ -92,7 +92,7 @@ module _ (z : Zone) (f : FooterFits (z .footer)) (low : (u : ℕ) → 1 ≤ offs
   tries = map (λ e. l - offsetAt z e) (begin ∷ changesIn z begin l)
 
   -- the seconds that read l are among those tried
-  read-tried : (u : ℕ) → Reads (offsetAt z) l u → Member u (filter (reads z l) tries)
+  pub read-tried : (u : ℕ) → Reads (offsetAt z) l u → Member u (filter (reads z l) tries)
   read-tried u p =
       let r = has-tried z f begin l u (omega (arith, p, high u)) (omega (arith, p)) in
       let e : l - offsetAt z (r .0) ≡ u = omega (arith, p, r .2) in

@@ -18,8 +18,9 @@ use Rattle.model.specs.Skip.{skips}
 use Rattle.model.specs.Calls.{calls}
 use Rattle.model.specs.Hardest.{hardests}
 use Rattle.model.specs.ZoneCalls.{zoneCalls}
+use Rattle.model.specs.Marks.{marks}
 use Rattle.model.specs.Lines.{lines}
 
 unfoldable pub everything : Unit {0}
-unfolding basics bytes calendar instants directory packs footers tzif zones nextChanges books blocks workings builds walks skips calls hardests zoneCalls lines
+unfolding basics bytes calendar instants directory packs footers tzif zones nextChanges books blocks workings builds walks skips calls hardests zoneCalls marks lines
 everything = tt

@@ -20,6 +20,7 @@ pub mod Skip
 pub mod Calls
 pub mod Hardest
 pub mod ZoneCalls
+pub mod Marks
 pub mod Lines
 pub mod All
 pub mod Label

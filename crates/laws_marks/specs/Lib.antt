@@ -1,0 +1,13 @@
+pub mod Around
+pub mod AroundLaws
+pub mod Forget
+pub mod Best
+pub mod Instants
+pub mod Covered
+pub mod Ends
+pub mod Periods
+pub mod MarkedWalk
+pub mod WalkedPeriods
+pub mod Resolve
+pub mod Plain
+pub mod Examples
