@@ -9,7 +9,8 @@ signed numbers of 8 bytes with 2^63 added, all big-endian. The expected lines go
 
 The answers come from Python's zoneinfo, which reads the same files with code of its own. Its dates begin with the year 1, before every zone's first
 transition: an earlier second has the offset of the year 1, and the day of an earlier date is counted 400 years at a time. The next change is looked for
-between the table's transitions and then week by week to the range's end. What is refused, and the range's ends, are written from document 01.
+between the table's transitions and then week by week to the range's end. A local time's mark is by how many seconds read it: every offset that the zone
+has is tried. What is refused, and the range's ends, are written from document 01.
 """
 import datetime, io, os, struct, sys
 from zoneinfo import ZoneInfo
@@ -21,6 +22,7 @@ FIRST, LAST, NANO = -377705023201, 253402207200, 10 ** 9
 YEAR_ONE = int((datetime.datetime(1, 1, 3) - EPOCH).total_seconds())
 DAY, WEEK = 86400, 604800
 OFFSET, CHANGE, RESOLVE = 1, 2, 3
+PLAIN, REPEATED, SKIPPED, BEYOND = 0, 1, 2, 3
 NAMES = {OFFSET: "offset", CHANGE: "change", RESOLVE: "resolve"}
 
 
@@ -37,9 +39,17 @@ class Zone:
         self.place = place
         self.usable = file != ruled(b"2")
         self.zone = ZoneInfo.from_file(io.BytesIO(file))
-        self.times = [t for t in parse(self.bytes)[0] if t > YEAR_ONE]
+        times, offsets, initial = parse(self.bytes)
+        self.times = [t for t in times if t > YEAR_ONE]
         late = in_zone(self.zone)
         self.offset = lambda u: late(max(u, YEAR_ONE))
+        # those of the table and, of the range's last year, those of the footer
+        self.offsets = {initial, *offsets, *(self.offset(LAST - k * WEEK) for k in range(53))}
+
+    def mark(self, local):
+        """whether no second, one or more than one reads the local second"""
+        reads = [o for o in self.offsets if self.offset(local - o) == o]
+        return SKIPPED if not reads else PLAIN if len(reads) == 1 else REPEATED
 
     def next_change(self, u):
         """the first second after u, up to the last of the range, whose offset is another than a second before; None if there is none"""
@@ -79,8 +89,8 @@ def resolved(zone, year, month, day, second, ns):
     local = date * DAY + second
     sec = by_zoneinfo(zone.zone, local) if year > 0 else local - zone.offset(YEAR_ONE)
     if FIRST <= sec <= LAST:
-        return f"{sec} {ns}"
-    return f"{FIRST} 0" if year < 0 else f"{LAST} {NANO - 1}"
+        return f"{sec} {ns} {zone.mark(local)}"
+    return f"{FIRST} 0 {BEYOND}" if year < 0 else f"{LAST} {NANO - 1} {BEYOND}"
 
 
 def answer(zone, call, length, numbers):

@@ -68,7 +68,7 @@ fn change(file: &[u8], sec: i64, ns: i64) {
     }
 }
 
-// Asks for the instant of a local time, and writes the question and the answer.
+// Asks for the instant and the mark of a local time, and writes the question and the answer.
 fn resolve(file: &[u8], year: i64, month: i64, day: i64, second: i64, ns: i64) {
     text(b"resolve");
     number(year);
@@ -78,9 +78,11 @@ fn resolve(file: &[u8], year: i64, month: i64, day: i64, second: i64, ns: i64) {
     number(ns);
     text(b":");
     match zone_calls::resolve_in(file, year, month, day, second, ns) {
-        ResolveAnswer::At(s, n) => {
+        ResolveAnswer::At(s, n, m) => {
             number(s);
             number(n);
+            text(b" ");
+            io::print_decimal(STDOUT_FILENO, m as u64);
         },
         ResolveAnswer::Refused(n, p) => refused(n, p),
     }

@@ -1,5 +1,5 @@
 -- One step of each search over the runs of a zone, as the code takes it.
-use mathlib.Core.Path.{_≡_, sym, _∙_, ap}
+use mathlib.Core.Path.{_≡_, refl, sym, _∙_, ap}
 use mathlib.Core.Bool.{Bool, true, false}
 use mathlib.Core.Logic.{_⊎_, inl, inr}
 use mathlib.Core.List.{List}
@@ -8,12 +8,17 @@ use native.Mathlib.Omega.{arith}
 use native.Mathlib.Decide.{decLt}
 use lib.Dec.{ltb, leb}
 use borrow.Author.Tests.{ltb-true, ltb-false, leb-true, leb-false}
-use Rattle.laws_base.specs.Test.{by-test, and-both}
+use Rattle.laws_base.specs.Test.{by-test, and-both, clash}
 use Rattle.laws_zone.specs.Grammar.{FooterFits}
-use Rattle.laws_zone.specs.Resolve.{Resolves}
+use Rattle.laws_zone.specs.Resolve.{Reads, Resolves, by-offset, reads-if}
 use Rattle.laws_zone.specs.Runs.{Run, Low, Past, low-start, low-found, low-next, low-jump, past-found, past-next}
 use Rattle.model.specs.Footer.{Footer, empty, fixed, rules, changeIn}
-use Rattle.model.specs.Zone.{offsetAt, ruledAt, latest}
+use Rattle.model.specs.Tzif.{Zone}
+use Rattle.model.specs.Zone.{offsetAt, secondOf, ruledAt, latest}
+use Rattle.model.specs.Marks.{plain, repeated, skipped, markOf, readings}
+use Rattle.laws_zone.specs.Sound.{firstLocal}
+use Rattle.laws_zone.specs.Zones.{ZoneFits, offset-fits, second-resolves}
+use Rattle.laws_zone.specs.Readings.{mark-skipped, mark-plain, mark-repeated}
 use Rattle.zone_tzif.specs.declared.Layout.{Layout}
 use Rattle.zone_tzif.specs.Places.{offsetAfter, timeAt}
 use Rattle.zone_tzif.specs.Opened.{Opened, TableBounds, zoneAt, countAt}
@@ -23,7 +28,7 @@ use Rattle.zone_footer.specs.declared.Footer as F
 use Rattle.zone_footer.specs.declared.Footer.the-variants.{Fixed, Rules}
 use Rattle.zone_footer.specs.declared.ChangeRule.{ChangeRule}
 use Rattle.zone_changes.specs.Meaning.{theFooter, footerRules}
-use Rattle.zone.specs.Zones.{inRun, nextCount, ZoneBounds}
+use Rattle.zone.specs.Zones.{inRun, nextCount, ZoneBounds, ReadsFrom}
 use Rattle.model.specs.Offset.{greatestOffset}
 
 pub in-run-yes : (u o e x : ℕ) → inRun u o e x ≡ true → (u + o ≤ x) × (x - o < e)
@@ -51,6 +56,34 @@ module _ {offset : ℕ → ℕ} {x u d o e : ℕ} {b : Bool} (p : Past offset x 
       go (inl a) = inl (omega arith)
       go (inr a) = inr (omega arith)
 
+-- no second from `from` on and before u reads x
+abbrev pub NoneFrom : (ℕ → ℕ) → ℕ → ℕ → ℕ → Type 0
+NoneFrom offset x from u = (v : ℕ) → from ≤ v → v < u → Reads offset x v → ⊥
+
+-- looking for a reading from `from` on, at u, with the run there
+module _ {offset : ℕ → ℕ} {x from u o e : ℕ} {b : Bool} (h : from ≤ u) (s : o ≡ offset u) (r : Run offset u e) (q : b ≡ inRun u o e x) where
+  pub reads-found : b ≡ true → ReadsFrom offset x from true
+  reads-found y =
+      let k = in-run-yes u o e x (sym q ∙ y) in
+      record {
+        some = λ i. (x - o, omega arith, omega (arith, r .same (x - o) (omega arith) (omega arith)));
+        none = λ i. clash true refl i;
+      }
+
+  pub reads-next : NoneFrom offset x from u → b ≡ false → NoneFrom offset x from e
+  reads-next n y v i j p = go (decLt v u) (in-run-no u o e x (sym q ∙ y))
+    where
+      go : Dec (v < u) → (x < u + o) ⊎ ((u + o ≤ x) × (e ≤ x - o)) → ⊥
+      go (yes k) w = n v i k p
+      go (no k) (inl a) = omega (arith, p, r .same v (omega arith) j)
+      go (no k) (inr a) = omega (arith, p, r .same v (omega arith) j)
+
+pub reads-done : {offset : ℕ → ℕ} {x from u : ℕ} → ((v : ℕ) → 1 ≤ offset v) → NoneFrom offset x from u → x ≤ u → ReadsFrom offset x from false
+reads-done low n h = record {
+  some = λ i. clash false i refl;
+  none = λ i v j p. n v j (omega (arith, p, low v)) p;
+}
+
 -- where the search of `second_of` is: before any reading and any jump, in a run of the offset o that ends at e
 pub record At (offset : ℕ → ℕ) (x o e : ℕ) : Type 0 where
   pub u : ℕ
@@ -77,6 +110,37 @@ module _ {offset : ℕ → ℕ} {x o e : ℕ} (a : At offset x o e) where
 
     pub at-jump : x < e + q → Past offset x e (x - o)
     at-jump h = rw (a .same) (low-jump (a .run) x (a .low) up (omega (arith, s)))
+
+-- ---- the mark of the local second x, by what `second_of` gave and by the run there
+
+-- the second is no later than x
+pub second-upto : (z : Zone) (k : ZoneFits z) {x s : ℕ} → firstLocal ≤ x → s ≡ secondOf z x → s ≤ x
+second-upto z k {x} h q = let w = by-offset (offsetAt z) (second-resolves z k x h) in omega (arith, q, w .1)
+
+module _ (z : Zone) (k : ZoneFits z) {x s o e : ℕ} (h : firstLocal ≤ x) (q : s ≡ secondOf z x) (g : o ≡ offsetAt z s) (r : Run (offsetAt z) s e) where
+  resolves : Resolves (offsetAt z) x s
+  resolves = rw q (second-resolves z k x h)
+
+  pub not-read : (s + o ≡ x → ⊥) → skipped ≡ markOf (readings z x)
+  not-read n =
+      sym (mark-skipped z (k .footer-fits) (λ u. offset-fits z k u .0) (λ u. offset-fits z k u .1) x h
+      (λ v p. n (let w = reads-if (offsetAt z) resolves p .0 in omega arith)))
+
+  module _ (p : s + o ≡ x) {b : Bool} (m : ReadsFrom (offsetAt z) x e b) where
+    pub read-again : b ≡ true → repeated ≡ markOf (readings z x)
+    read-again y =
+        let v = m .some y in
+        sym (mark-repeated z (k .footer-fits) (λ u. offset-fits z k u .0) (λ u. offset-fits z k u .1) x h s (v .0) (omega arith) (v .2)
+        (λ d. omega (arith, v .1, r .on)))
+
+    pub read-only-once : b ≡ false → plain ≡ markOf (readings z x)
+    read-only-once y =
+        sym (mark-plain z (k .footer-fits) (λ u. offset-fits z k u .0) (λ u. offset-fits z k u .1) x h s (omega arith)
+        (λ v i. go v i (reads-if (offsetAt z) resolves i .1) (decLt v e)))
+      where
+        go : (v : ℕ) → Reads (offsetAt z) x v → s ≤ v → Dec (v < e) → v ≡ s
+        go v i j (yes a) = omega (arith, i, r .same v j a)
+        go v i j (no a) = absurd (m .none y v (omega arith) i)
 
 -- ---- the run at a second
 

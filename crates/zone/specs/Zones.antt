@@ -1,6 +1,6 @@
 -- What the code's zone means: with the bytes of its file it is a zone of the definitions.
 use mathlib.Core.Path.{_≡_}
-use mathlib.Core.Bool.{Bool, _&&_}
+use mathlib.Core.Bool.{Bool, true, false, _&&_}
 use mathlib.Core.Option.{Option, none, some}
 use mathlib.Core.List.{List}
 use Prim.Native.Nat.{ℕ, _+_, _-_, _≤_, _<_, min}
@@ -21,6 +21,7 @@ use Rattle.zone.specs.declared.ZoneRead.the-variants as R
 use Rattle.instant.specs.Instant.{yearsEnd}
 use Rattle.laws_zone.specs.Sound.{firstLocal}
 use Rattle.laws_zone.specs.Runs.{Past}
+use Rattle.laws_zone.specs.Resolve.{Reads}
 use Rattle.model.specs.Offset.{greatestOffset}
 
 -- the zone of the definitions
@@ -91,3 +92,8 @@ pub record Searched (f : List ℕ) (z : Zone) (x : ℕ) (b : OffsetBounds) : Typ
 -- the same from a second on that lies past the first jump over x; n transitions are at or before it
 abbrev pub SearchedFrom : List ℕ → Zone → ℕ → OffsetBounds → ℕ → ℕ → ℕ → Type 0
 SearchedFrom f z x b from n d = Searched f z x b × Past (zoneOffset f z) x from d × (n ≡ countAt f (z .table) from)
+
+-- whether a second from `from` on reads x
+pub record ReadsFrom (offset : ℕ → ℕ) (x from : ℕ) (answer : Bool) : Type 0 where
+  pub some : answer ≡ true → (v : ℕ) × (from ≤ v) × Reads offset x v
+  pub none : answer ≡ false → (v : ℕ) → from ≤ v → Reads offset x v → ⊥

@@ -5,12 +5,13 @@ ghost use Prim.Native.Nat.{ℕ, _+_, _-_, _≤_, _<_};
 ghost use Rattle.model.specs.Zone as model;
 ghost use Rattle.model.specs.Tzif.{zoneOf};
 ghost use Rattle.model.specs.Offset.{greatestOffset};
+ghost use Rattle.model.specs.Marks.{markOf, readings};
 ghost use Rattle.laws_zone.specs.Resolve.{Resolves};
 ghost use Rattle.laws_zone.specs.Sound.{firstLocal};
 ghost use Rattle.instant.specs.Instant.{yearsEnd};
 ghost use Rattle.zone_changes.specs.Meaning.{IsOffset};
 ghost use Rattle.zone_tzif.specs.Opened.{countAt};
-ghost use Rattle.zone.specs.Zones.{zoneIs, ZoneOk, Asked, zoneOffset, zoneRead, ReadOk, ruled, inRun, nextCount, RunAfter, ZoneBounds, Searched, SearchedFrom};
+ghost use Rattle.zone.specs.Zones.{zoneIs, ZoneOk, Asked, zoneOffset, zoneRead, ReadOk, ruled, inRun, nextCount, RunAfter, ZoneBounds, Searched, SearchedFrom, ReadsFrom};
 use zone_changes::OffsetUntil;
 use zone_footer::Footer;
 use zone_tzif::Layout;
@@ -196,4 +197,38 @@ pub fn second_of(f: &[u8], z: Zone, x: u64) -> u64
         return x - offset;
     }
     second_by_runs(f, z, x, bounds_of(f, z))
+}
+
+// ---- the mark of a local time
+
+// A second from `from` on reads x. Offsets are positive, so that none from x on does.
+fn reads_from(f: &[u8], z: Zone, x: u64, from: u64) -> bool
+    requires { ⌜ Asked (now f) z x ⌝ }
+    ensures { λ r. ⌜ ReadsFrom (zoneOffset (now (f .entry)) z) x from r ⌝ }
+{
+    let mut u = from;
+    while u < x {
+        let run = run_at(f, z, u);
+        if in_run(u, run.offset as u64, run.until, x) {
+            return true;
+        }
+        u = run.until;
+    }
+    false
+}
+
+// The mark of the local second x: whether no second, one or more than one reads it. `second_of` gives the first that does, if one does.
+pub fn local_mark(f: &[u8], z: Zone, x: u64) -> u32
+    requires { ⌜ ZoneOk (now f) z × (firstLocal ≤ x) × (x < yearsEnd) ⌝ }
+    ensures { λ r. ⌜ r ≡ markOf (readings (zoneIs (now (f .entry)) z) x) ⌝ }
+{
+    let s = second_of(f, z, x);
+    let r = run_at(f, z, s);
+    if s + r.offset as u64 != x {
+        return mark::SKIPPED;
+    }
+    if reads_from(f, z, x, r.until) {
+        return mark::REPEATED;
+    }
+    mark::PLAIN
 }

@@ -1,7 +1,7 @@
 -- What the answers of the calls say: document 01's numbers for each case, as the definitions' answers list them.
 use mathlib.Core.Option.{Option, none, some}
 use mathlib.Core.List.{List, [], _∷_}
-use lib.IntN.{ℤ}
+use lib.IntN.{ℤ, pos}
 use Rattle.model.specs.Answer.{Answer, gives, refuses}
 use Rattle.zone_calls.specs.declared.OffsetAnswer.{OffsetAnswer}
 use Rattle.zone_calls.specs.declared.OffsetAnswer.the-variants as O
@@ -21,7 +21,7 @@ changeIs (C.At s n) = gives (some (s ∷ n ∷ []))
 changeIs C.Never = gives none
 changeIs (C.Refused n p) = refuses n p
 
--- the instant, or the refusal
+-- the instant and the local time's mark, or the refusal
 abbrev pub resolveIs : ResolveAnswer → Answer (List ℤ)
-resolveIs (R.At s n) = gives (s ∷ n ∷ [])
+resolveIs (R.At s n m) = gives (s ∷ n ∷ pos m ∷ [])
 resolveIs (R.Refused n p) = refuses n p

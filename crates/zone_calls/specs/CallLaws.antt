@@ -1,7 +1,7 @@
 -- Each answer of the calls on a zone file, from what the code has found.
 use mathlib.Core.Bool.{true, false, not, _&&_, _||_}
 use mathlib.Core.Path.{_≡_, refl, sym, ap, _∙_}
-use mathlib.Core.List.{List, [], _∷_}
+use mathlib.Core.List.{List, [], _∷_, _++_}
 use mathlib.Core.Option.{Option, none, some, Option·map}
 use Prim.Native.Nat.{ℕ, _+_, _*_, _-_, _/_, _^_, min, _≤_, _<_}
 use native.Mathlib.Omega.{arith}
@@ -40,7 +40,8 @@ use Rattle.zone_next_change.specs.NextIs.{theNext}
 use Rattle.zone_next_change.specs.NextLaws.{next-in}
 use Rattle.zone_next_change.specs.declared.Next.{Next}
 use Rattle.zone_next_change.specs.declared.Next.the-variants as N
-use Rattle.model.specs.ZoneCalls.{zoneIn, east, offsetCall, changeCall, yearFrom, dayGiven, timeGiven, resolveCall}
+use Rattle.model.specs.ZoneCalls.{zoneIn, east, offsetCall, changeCall, yearFrom, dayGiven, timeGiven}
+use Rattle.model.specs.Marks.{resolveMark, resolveMarkedCall}
 use Rattle.zone_calls.specs.Given.{clippedTo, dayAnswer, yearZero, yearAfter, monthAfter, dayAfter}
 use Rattle.instant_signed.specs.InstantLaws.{ReadsInstant, instant-written}
 use Rattle.zone_local.specs.Dates.{IsDay}
@@ -269,24 +270,24 @@ module _ (s n : ℤ) (f : SFits w64 s) (g : SFits w64 n) {a b : ℕ} (i : a ≡ 
       let q = rest-is in
       is-time s n (omega arith) (omega arith) ∙ (λ k. gives (sym seconds-are k * second + sym rest-is k))
 
--- ---- the instant
+-- ---- the instant and the mark
 
 module _ (f : List ℕ) (y m d s n : ℤ) where
-  pub resolve-unusable : zoneIn f ≡ refuses 5 0 → refuses 5 0 ≡ resolveCall f y m d s n
-  unfolding resolveCall
+  pub resolve-unusable : zoneIn f ≡ refuses 5 0 → refuses 5 0 ≡ resolveMarkedCall f y m d s n
+  unfolding resolveMarkedCall
   resolve-unusable u = rw u
 
   module _ {z : model.Zone} (u : zoneIn f ≡ gives z) where
-    pub resolve-no-date : dayGiven y m d ≡ refuses 8 0 → refuses 8 0 ≡ resolveCall f y m d s n
-    unfolding resolveCall
+    pub resolve-no-date : dayGiven y m d ≡ refuses 8 0 → refuses 8 0 ≡ resolveMarkedCall f y m d s n
+    unfolding resolveMarkedCall
     resolve-no-date p = rw (u, p)
 
     module _ {day : ℕ} (p : dayGiven y m d ≡ gives day) where
-      pub resolve-no-time : timeGiven s n ≡ refuses 8 0 → refuses 8 0 ≡ resolveCall f y m d s n
-      unfolding resolveCall
+      pub resolve-no-time : timeGiven s n ≡ refuses 8 0 → refuses 8 0 ≡ resolveMarkedCall f y m d s n
+      unfolding resolveMarkedCall
       resolve-no-time q = rw (u, p, q)
 
       pub resolve-at : {k : ℕ} (t : Instant) {a b : ℤ} → timeGiven s n ≡ gives k → t .ns < second → nanos t ≡ resolve z day k
-          → a ≡ secondsFrom (t .sec) → b ≡ pos (t .ns) → gives (a ∷ b ∷ []) ≡ resolveCall f y m d s n
-      unfolding resolveCall
-      resolve-at t q h l a b = rw (u, p, q) (ap gives (instant-written t _ h l a b))
+          → a ≡ secondsFrom (t .sec) → b ≡ pos (t .ns) → {c : ℕ} → c ≡ resolveMark z day k → gives (a ∷ b ∷ pos c ∷ []) ≡ resolveMarkedCall f y m d s n
+      unfolding resolveMarkedCall
+      resolve-at t q h l a b {c} e = rw (u, p, q, ← e) (ap (λ w. gives (w ++ pos c ∷ [])) (instant-written t _ h l a b))

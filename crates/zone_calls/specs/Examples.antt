@@ -9,7 +9,8 @@ use Rattle.model.specs.Bytes.{text}
 use Rattle.model.specs.All.{everything}
 use Rattle.model.specs.Label.{ruledBy}
 use Rattle.model.specs.NextChange.{firstOf, nextChange}
-use Rattle.model.specs.ZoneCalls.{offsetCall, changeCall, resolveCall, zoneCalls}
+use Rattle.model.specs.ZoneCalls.{offsetCall, changeCall, zoneCalls}
+use Rattle.model.specs.Marks.{plain, repeated, skipped, beyond, resolveMarkedCall}
 
 abbrev cet : List ℕ
 cet = ruledBy (text "2") (text "CET-1CEST,M3.5.0,M10.5.0/3")
@@ -29,24 +30,26 @@ pub record Examples : Type 0 where
   pub spring : changeCall cet (pos 1774745999) (pos 999999999) ≡ gives (some (pos starts ∷ pos 0 ∷ []))
   pub autumn : changeCall cet (pos 1792889998) (pos 0) ≡ gives (some (pos ends ∷ pos 0 ∷ []))
   pub range-end : changeCall cet (pos 253402207199) (pos 0) ≡ gives none
-  -- "29 March 02:30 is 01:30Z", "25 October 02:30 is 00:30Z"
-  pub case11 : resolveCall cet (pos 2026) (pos 3) (pos 29) (pos 9000) (pos 0) ≡ gives (pos 1774747800 ∷ pos 0 ∷ [])
-  pub case12 : resolveCall cet (pos 2026) (pos 10) (pos 25) (pos 9000) (pos 5) ≡ gives (pos 1792888200 ∷ pos 5 ∷ [])
+  -- "29 March 02:30 is 01:30Z", "25 October 02:30 is 00:30Z": skipped, and repeated
+  pub case11 : resolveMarkedCall cet (pos 2026) (pos 3) (pos 29) (pos 9000) (pos 0) ≡ gives (pos 1774747800 ∷ pos 0 ∷ pos skipped ∷ [])
+  pub case12 : resolveMarkedCall cet (pos 2026) (pos 10) (pos 25) (pos 9000) (pos 5) ≡ gives (pos 1792888200 ∷ pos 5 ∷ pos repeated ∷ [])
+  -- 29 March 03:00 is 01:00Z, and no other instant reads so
+  pub read-after-jump : resolveMarkedCall cet (pos 2026) (pos 3) (pos 29) (pos 10800) (pos 0) ≡ gives (pos starts ∷ pos 0 ∷ pos plain ∷ [])
   -- "Beyond the range it becomes the first instant for negative years, else the last."
-  pub first-date : resolveCall cet (negℤ (pos 9999)) (pos 1) (pos 1) (pos 0) (pos 7) ≡ gives (negℤ (pos 377705023201) ∷ pos 0 ∷ [])
-  pub last-date : resolveCall (ruledBy (text "2") (text "EST5")) (pos 9999) (pos 12) (pos 31) (pos 86399) (pos 0) ≡ gives (pos 253402207200 ∷ pos 999999999 ∷ [])
+  pub first-date : resolveMarkedCall cet (negℤ (pos 9999)) (pos 1) (pos 1) (pos 0) (pos 7) ≡ gives (negℤ (pos 377705023201) ∷ pos 0 ∷ pos beyond ∷ [])
+  pub last-date : resolveMarkedCall (ruledBy (text "2") (text "EST5")) (pos 9999) (pos 12) (pos 31) (pos 86399) (pos 0) ≡ gives (pos 253402207200 ∷ pos 999999999 ∷ pos beyond ∷ [])
 
 -- the file is asked first
 pub record Refusals : Type 0 where
   pub file : offsetCall (text "TZif") (pos 253402207201) (pos 0) ≡ refuses 5 0
   pub change-file : changeCall (text "TZif") (pos 253402207201) (pos 0) ≡ refuses 5 0
-  pub resolve-file : resolveCall (text "TZif") (pos 2026) (pos 13) (pos 1) (pos 0) (pos 0) ≡ refuses 5 0
+  pub resolve-file : resolveMarkedCall (text "TZif") (pos 2026) (pos 13) (pos 1) (pos 0) (pos 0) ≡ refuses 5 0
   pub second : offsetCall cet (pos 253402207201) (pos 0) ≡ refuses 8 0
   pub nanoseconds : changeCall cet (pos 0) (negℤ (pos 1)) ≡ refuses 8 0
-  pub date : resolveCall cet (pos 2026) (pos 2) (pos 29) (pos 0) (pos 0) ≡ refuses 8 0
-  pub below : resolveCall cet (pos 2026) (negℤ (pos 3)) (pos 29) (pos 0) (pos 0) ≡ refuses 8 0
-  pub year : resolveCall cet (negℤ (pos 10000)) (pos 12) (pos 31) (pos 86399) (pos 0) ≡ refuses 8 0
-  pub time : resolveCall cet (pos 2026) (pos 3) (pos 29) (pos 86400) (pos 0) ≡ refuses 8 0
+  pub date : resolveMarkedCall cet (pos 2026) (pos 2) (pos 29) (pos 0) (pos 0) ≡ refuses 8 0
+  pub below : resolveMarkedCall cet (pos 2026) (negℤ (pos 3)) (pos 29) (pos 0) (pos 0) ≡ refuses 8 0
+  pub year : resolveMarkedCall cet (negℤ (pos 10000)) (pos 12) (pos 31) (pos 86399) (pos 0) ≡ refuses 8 0
+  pub time : resolveMarkedCall cet (pos 2026) (pos 3) (pos 29) (pos 86400) (pos 0) ≡ refuses 8 0
 
 pub examples : Examples
 unfolding everything firstOf nextChange zoneCalls
@@ -59,6 +62,7 @@ examples = record {
   range-end = refl;
   case11 = refl;
   case12 = refl;
+  read-after-jump = refl;
   first-date = refl;
   last-date = refl;
 }

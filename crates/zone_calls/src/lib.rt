@@ -4,6 +4,7 @@
 ghost use mathlib.Core.Path.{_≡_};
 ghost use Prim.Native.Nat.{min};
 ghost use Rattle.model.specs.ZoneCalls as definition;
+ghost use Rattle.model.specs.Marks as marks;
 ghost use Rattle.zone_calls.specs.Answers.{offsetIs, changeIs, resolveIs};
 ghost use Rattle.zone_calls.specs.Given.{yearAfter, clippedTo, dayAnswer};
 use civil::Date;
@@ -84,9 +85,9 @@ pub fn next_change_in(file: &[u8], sec: i64, ns: i64) -> ChangeAnswer
 
 // ---- the instant of a local time
 
-// What `resolve_in` answers: an instant's seconds and nanoseconds, or a refusal's number and place.
+// What `resolve_in` answers: an instant's seconds and nanoseconds and the local time's mark, or a refusal's number and place.
 pub enum ResolveAnswer {
-    At(i64, i64),
+    At(i64, i64, u32),
     Refused(u32, usize),
 }
 
@@ -129,7 +130,7 @@ fn day_given(year: i64, month: i64, day: i64) -> DayRead
     })
 }
 
-// The instant of a local time: a date, and a second and nanoseconds of its day.
+// The instant of a local time (a date, and a second and nanoseconds of its day) and whether it is plain, repeated, skipped or beyond the range.
 pub fn resolve_in(
     file: &[u8],
     year: i64,
@@ -138,7 +139,7 @@ pub fn resolve_in(
     second: i64,
     ns: i64,
 ) -> ResolveAnswer
-    ensures { λ r. ⌜ resolveIs r ≡ definition.resolveCall (now (file .entry)) year month day second ns ⌝ }
+    ensures { λ r. ⌜ resolveIs r ≡ marks.resolveMarkedCall (now (file .entry)) year month day second ns ⌝ }
 {
     let ZoneRead::Opened(z) = zone::open(file) else {
         return ResolveAnswer::Refused(refusal::ZONE_UNUSABLE, 0);
@@ -153,5 +154,6 @@ pub fn resolve_in(
     };
     let time = Time { seconds, nanos };
     let t = zone_local::resolve(file, z, d, time);
-    ResolveAnswer::At(instant_signed::seconds_of(t.sec), t.ns as i64)
+    let marked = zone_local::resolve_mark(file, z, d, time);
+    ResolveAnswer::At(instant_signed::seconds_of(t.sec), t.ns as i64, marked)
 }

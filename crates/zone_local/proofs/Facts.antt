@@ -15,6 +15,7 @@ use Rattle.model.specs.Tzif.{Zone}
 use Rattle.model.specs.Offset.{offsetBias, greatestOffset}
 use Rattle.model.specs.Zone.{offsetAt, secondOf, resolve}
 use Rattle.model.specs.Working.{localDay, firstDate, lastDate, startOf, endOf}
+use Rattle.model.specs.Marks.{beyond, markOf, readings, resolveMark, endMark}
 use Rattle.laws_base.specs.Test.{same-test}
 use Rattle.laws_calendar.specs.Numbers.{IsDayNumber, number-within}
 use Rattle.laws_zone.specs.Sound.{Sound}
@@ -100,6 +101,19 @@ module _ (z : Zone) (d sec ns s : ℕ) (h : ns < second) (e : s ≡ secondOf z (
   unfolding resolve rangeEnd
   resolve-late a = rw (quotient, remainder, ← e, le-leb firstInstant (s * second + ns) (omega arith), lt-leb (s * second + ns) lastInstant (omega arith))
 
+  -- its mark
+  pub mark-kept : {m : ℕ} → firstSecond ≤ s → s ≤ lastSecond → m ≡ markOf (readings z (d * daySeconds + sec + offsetBias)) → m ≡ resolveMark z d (sec * second + ns)
+  unfolding resolveMark
+  mark-kept a b q = rw (quotient, remainder, ← e, le-leb firstInstant (s * second + ns) (omega arith), le-leb (s * second + ns) lastInstant (omega arith)) q
+
+  pub mark-early : s < firstSecond → beyond ≡ resolveMark z d (sec * second + ns)
+  unfolding resolveMark
+  mark-early a = rw (quotient, remainder, ← e, lt-leb firstInstant (s * second + ns) (omega arith))
+
+  pub mark-late : lastSecond < s → beyond ≡ resolveMark z d (sec * second + ns)
+  unfolding resolveMark
+  mark-late a = rw (quotient, remainder, ← e, le-leb firstInstant (s * second + ns) (omega arith), lt-leb (s * second + ns) lastInstant (omega arith))
+
 -- ---- times of day
 
 module _ (a b x y : ℕ) (p : x < second) (q : y < second) where
@@ -123,6 +137,20 @@ module _ (z : Zone) (from to d t : ℕ) where
   pub end-last : ltb from to ≡ false → lastDay ≤ d → t ≡ lastInstant → t ≡ endOf (during z from to) d
   unfolding endOf
   end-last h k e = rw (h, le-ltb d lastDay k) e
+
+-- its mark
+module _ (z : Zone) (from to d m : ℕ) where
+  pub end-mark-same : ltb from to ≡ true → m ≡ resolveMark z d to → m ≡ endMark (during z from to) d
+  unfolding endMark
+  end-mark-same h e = rw h e
+
+  pub end-mark-next : ltb from to ≡ false → d < lastDay → m ≡ resolveMark z (d + 1) to → m ≡ endMark (during z from to) d
+  unfolding endMark
+  end-mark-next h k e = rw (h, lt-ltb d lastDay k) e
+
+  pub end-mark-last : ltb from to ≡ false → lastDay ≤ d → m ≡ beyond → m ≡ endMark (during z from to) d
+  unfolding endMark
+  end-mark-last h k e = rw (h, le-ltb d lastDay k) e
 
 pub start-is : (z : Zone) (from to d t : ℕ) → t ≡ resolve z d from → t ≡ startOf (during z from to) d
 unfolding startOf

@@ -8,6 +8,7 @@ ghost use Rattle.model.specs.Offset.{greatestOffset};
 ghost use Rattle.model.specs.DayNumber.{signedDay, dayOf};
 ghost use Rattle.model.specs.Zone as model;
 ghost use Rattle.model.specs.Working.{localDay, firstDate, lastDate, endOf};
+ghost use Rattle.model.specs.Marks.{resolveMark, endMark};
 ghost use Rattle.laws_calendar.specs.Numbers.{IsDayNumber};
 ghost use Rattle.civil.specs.Dates.{timeIn, TimeFits};
 ghost use Rattle.zone.specs.Zones.{zoneIs, ZoneOk};
@@ -129,6 +130,36 @@ pub fn end_of(f: &[u8], z: Zone, from: Time, to: Time, day: i32) -> Instant
         sec: instant::LAST,
         ns: instant::LAST_NS,
     }
+}
+
+// The mark of a time of day on a date: whether no second, one or more than one reads it, or it lies beyond the range.
+pub fn resolve_mark(f: &[u8], z: Zone, day: i32, time: Time) -> u32
+    requires { ⌜ ZoneOk (now f) z × IsDay (dayOf day) × TimeFits time ⌝ }
+    ensures { λ r. ⌜ r ≡ resolveMark (zoneIs (now (f .entry)) z) (dayOf day) (timeIn time) ⌝ }
+{
+    let x = civil::midnight(day) + time.seconds as u64 + zone_offset::BIAS_64;
+    let second = zone::second_of(f, z, x);
+    if second < instant::FIRST {
+        return mark::BEYOND;
+    }
+    if instant::LAST < second {
+        return mark::BEYOND;
+    }
+    zone::local_mark(f, z, x)
+}
+
+// The mark of `end_of`. An end that lacks a next date is beyond the range.
+pub fn end_mark(f: &[u8], z: Zone, from: Time, to: Time, day: i32) -> u32
+    requires { ⌜ AskedDate (now f) z (dayOf day) from to ⌝ }
+    ensures { λ r. ⌜ r ≡ endMark (ruleOf (now (f .entry)) z from to) (dayOf day) ⌝ }
+{
+    if is_before(from, to) {
+        return resolve_mark(f, z, day, to);
+    }
+    if civil::precedes(day, LAST_DAY) {
+        return resolve_mark(f, z, civil::later(day, 1), to);
+    }
+    mark::BEYOND
 }
 
 // What a rule takes of a date.
