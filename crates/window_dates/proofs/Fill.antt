@@ -39,7 +39,7 @@ use Rattle.rule.specs.Rules.{fileAt, ruleIs}
 -- ---- the dates of a rule
 
 -- what the dates of a list show, those that are on
-abbrev pub shown : (ℕ → Bool) → (ℕ → List Block) → List ℕ → List Block
+abbrev pub shown : {B : Type 0} → (ℕ → Bool) → (ℕ → List B) → List ℕ → List B
 shown on f l = joined (map f (filter on l))
 
 -- what the weekday of one day tells of another that is the same
@@ -65,31 +65,31 @@ dates-none : (first k i : ℕ) → k ≤ i → datesFrom first k i ≡ []
 unfolding run
 dates-none first k i h = let e : k - i ≡ 0 = omega arith in ap (run (first + i)) e
 
-module _ (on : ℕ → Bool) (f : ℕ → List Block) (first k i : ℕ) (done whole : List Block) (same : done ++ shown on f (datesFrom first k i) ≡ whole) where
+module _ {B : Type 0} (on : ℕ → Bool) (f : ℕ → List B) (first k i : ℕ) (done whole : List B) (same : done ++ shown on f (datesFrom first k i) ≡ whole) where
   -- a date that is on, with what it shows behind the blocks so far
-  pub date-on : i < k → on (first + i) ≡ true → (l : List Block) → l ≡ done ++ f (first + i) → l ++ shown on f (datesFrom first k (i + 1)) ≡ whole
+  pub date-on : i < k → on (first + i) ≡ true → (l : List B) → l ≡ done ++ f (first + i) → l ++ shown on f (datesFrom first k (i + 1)) ≡ whole
   unfolding joined filter
   date-on h t l e =
       let q : shown on f ((first + i) ∷ datesFrom first k (i + 1)) ≡ f (first + i) ++ shown on f (datesFrom first k (i + 1)) = rw t in
-      ap (λ (x : List Block). x ++ shown on f (datesFrom first k (i + 1))) e
+      ap (λ (x : List B). x ++ shown on f (datesFrom first k (i + 1))) e
       ∙ append-assoc done (f (first + i)) (shown on f (datesFrom first k (i + 1)))
-      ∙ ap (λ (x : List Block). done ++ x) (sym (ap (shown on f) (dates-step first k i h) ∙ q)) ∙ same
+      ∙ ap (λ (x : List B). done ++ x) (sym (ap (shown on f) (dates-step first k i h) ∙ q)) ∙ same
 
   pub date-off : i < k → on (first + i) ≡ false → done ++ shown on f (datesFrom first k (i + 1)) ≡ whole
   unfolding joined filter
   date-off h t =
       let q : shown on f ((first + i) ∷ datesFrom first k (i + 1)) ≡ shown on f (datesFrom first k (i + 1)) = rw t in
-      ap (λ (x : List Block). done ++ x) (sym (ap (shown on f) (dates-step first k i h) ∙ q)) ∙ same
+      ap (λ (x : List B). done ++ x) (sym (ap (shown on f) (dates-step first k i h) ∙ q)) ∙ same
 
   pub dates-done : k ≤ i → done ≡ whole
   unfolding joined filter
-  dates-done h = sym (append-nil done) ∙ ap (λ (x : List Block). done ++ x) (sym (ap (shown on f) (dates-none first k i h))) ∙ same
+  dates-done h = sym (append-nil done) ∙ ap (λ (x : List B). done ++ x) (sym (ap (shown on f) (dates-none first k i h))) ∙ same
 
 -- ---- the rules of a counted array
 
-module _ {A : Type 0} (g : A → List Block) where
+module _ {A B : Type 0} (g : A → List B) where
   -- what the first n of the array give from i on
-  abbrev pub restOf : ℕ → List A → ℕ → List Block
+  abbrev pub restOf : ℕ → List A → ℕ → List B
   restOf n l i = joined (map g (drop i (take n l)))
 
   pub rest-more : (n : ℕ) (l : List A) (i : ℕ) (x : A) → i < n → n ≤ length l → restOf n l i ≡ g (getD l i x) ++ restOf n l (i + 1)

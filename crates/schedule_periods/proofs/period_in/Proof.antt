@@ -1,9 +1,9 @@
 -- `schedule_periods::period_in` meets its contract: by what is read, walked and written. Assumes nothing.
 use mir.Facts.{toZ-ofZ}
 use mathlib.Core.Path.{refl, sym, _∙_}
-use Rattle.walk_period.specs.Found.{period-fits}
+use Rattle.walk_period.specs.Found.{period-fits, near-short, far-short}
 use Rattle.instant_signed.specs.InstantLaws.{instant-read}
-use Rattle.schedule_periods.proofs.Answers.{call-out, call-refused, call-found, near-short, far-short}
+use Rattle.schedule_periods.proofs.Answers.{call-out, call-refused, call-found}
 use borrow.Author.Needs.{needs}
 use Rattle.schedule_periods.proofs.period_in.Statement.{statement}
 use Rattle.schedule_periods.proofs.period_in.Tie as tie

@@ -1,0 +1,4 @@
+pub mod Filling
+pub mod Taken
+pub mod Looked
+pub mod Steady

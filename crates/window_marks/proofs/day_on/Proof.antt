@@ -1,0 +1,21 @@
+-- `window_marks::day_on` meets its contract. Assumes nothing.
+use native.Mathlib.Omega.{arith}
+use mir.Facts.{toZ-ofZ}
+use borrow.Author.Needs.{needs}
+use Rattle.window_dates.proofs.Fill.{zone-moved}
+use Rattle.window_marks.proofs.Taken.{day-taken}
+use Rattle.model.specs.DayNumber.{dayOf}
+use Rattle.window_marks.proofs.day_on.Statement.{statement}
+use Rattle.window_marks.proofs.day_on.Tie as tie
+
+part-requires : tie.Need-part-requires
+part-requires c κs = search needs
+
+whole-on-requires : tie.Need-whole-on-requires
+whole-on-requires c κs = rw (toZ-ofZ (c .before .before .before .fits .day)) (zone-moved _ _ _ (c .part .ensures) (c .before .before .before .pre .0), (c .before .before .before .pre .1), record { seconds = omega arith; nanos = omega arith }, record { seconds = omega arith; nanos = omega arith })
+
+returns : tie.Need-returns
+returns c = day-taken (c .before .before .before .before .args .pack .now) _ (c .before .before .before .before .args .c) (dayOf (c .before .before .before .before .args .day)) _ (c .before .part .ensures) (rw (toZ-ofZ (c .before .before .before .before .fits .day)) at (c .whole-on .ensures))
+
+pub day-on-spec : {M : Type 1} → statement M
+day-on-spec = tie.close (tie.spec part-requires whole-on-requires returns)
