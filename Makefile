@@ -34,6 +34,7 @@ python_files = $(wildcard python/hirgwamo/*.py python/hirgwamo/py.typed)
 exporting = hirgwamo query_numbers
 code = $(exporting:%=crates/%/src/lib.rt)
 refusals = crates/refusal/src/lib.rt
+marks = crates/mark/src/lib.rt
 built = $(out)/libhirgwamo.a $(out)/$(shared) $(out)/libhirgwamo.so $(out)/hirgwamo.h
 filled = sed 's|@PREFIX@|$(PREFIX)|' part/hirgwamo.pc.in
 
@@ -51,7 +52,7 @@ endif
 all: $(built) $(out)/hirgwamo.pc $(compared)
 
 $(out)/.compared: part/header.py part/hirgwamo.h part/hirgwamo.map part/hirgwamo.pc.in $(code) $(wildcard crates/*/src/lib.rt) $(out)/$(shared)
-	$(PYTHON) part/header.py $(code:%=--code %) --refusals $(refusals) --library $(out)/$(shared)
+	$(PYTHON) part/header.py $(code:%=--code %) --refusals $(refusals) --marks $(marks) --library $(out)/$(shared)
 	@touch $@
 
 # Bytes are compared, not times: the archive made or given last is the one that is built from.

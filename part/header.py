@@ -1,14 +1,14 @@
 #!/usr/bin/env python3
 """Compares hirgwamo.h with the functions that the crates `hirgwamo` and `query_numbers` export.
 
-usage: part/header.py [--root FOLDER] [--code FILE].. [--refusals FILE] [--header FILE] [--map FILE] [--pc FILE] [--library FILE]
+usage: part/header.py [--root FOLDER] [--code FILE].. [--refusals FILE] [--marks FILE] [--header FILE] [--map FILE] [--pc FILE] [--library FILE]
 
 Says what differs, one sentence for each difference, and ends with 1; where nothing differs it says how much was compared and ends with 0. Compared are
 
 - each function that the code exports with the prototype in the header, names of parameters included, and that neither has one more: a lent slice `&[T]` is
   a pointer to const and a length, `&mut [T]` a pointer and a length, and the length of the slice `book` is `book_len`;
-- the refusals' numbers with the constants of the crate `refusal`; the version, the sizes, the two numbers that are no refusals and the kinds of queries with
-  those of these crates, or of the crates that they name;
+- the refusals' numbers with the constants of the crate `refusal`, and the marks' with those of the crate `mark`; the version, the sizes, the two numbers that
+  are no refusals and the kinds of queries with those of these crates, or of the crates that they name;
 - the names in the version script with the header's functions, and the script's version and that of hirgwamo.pc.in with the code's;
 - with --library, the symbols that a shared library exports (nm) and their version with the header's functions and the script's, and the number in the
   library's name with the code's version.
@@ -30,7 +30,7 @@ PREFIX = "HIRGWAMO_"
 RETURNS = ["TOO_SHORT", "NO_QUERY"]  # returned numbers that are no refusals
 SIZES = [
     "VERDICT_SIZE", "TIME_SIZE", "INSTANT_SIZE", "PERIOD_SIZE", "COUNT_SIZE", "STRETCH_SIZE", "OFFSET_SIZE", "CHANGE_SIZE", "RESOLVED_SIZE", "QUERY_SIZE",
-    "ANSWER_SIZE",
+    "ANSWER_SIZE", "MARKED_PERIOD_SIZE", "MARKED_INSTANT_SIZE",
 ]  # fmt: skip
 KINDS = ["BETWEEN", "ADD", "SUB", "NEXT", "PREVIOUS"]  # of queries
 OK = {"OK": 0}
@@ -149,18 +149,19 @@ def constant(name, code, others):
     return found.pop() if len(found) == 1 else None
 
 
-def wanted_numbers(code, refusals, crates):
-    """The numbers that the header must name, and sentences about constants that the code lacks."""
+def wanted_numbers(code, named, crates):
+    """The numbers that the header must name, with those of the files of `named`, and sentences about constants that the code lacks."""
     others = named_crates(code, crates)
     own = {name: constant(name, code, others) for name in [*RETURNS, *SIZES, *KINDS]}
     missing = [f"the code has no constant {name}, or its crates have different ones" for name, number in own.items() if number is None]
     wanted = {**OK, **{name: number for name, number in own.items() if number is not None}}
-    wanted |= constants(refusals)
+    for file in named:
+        wanted |= constants(file)
     return wanted, missing
 
 
-def number_differences(code, refusals, header, crates):
-    wanted, missing = wanted_numbers(code, refusals, crates)
+def number_differences(code, named, header, crates):
+    wanted, missing = wanted_numbers(code, named, crates)
     told, _ = header_numbers(header)
     yield from missing
     for name in sorted(wanted.keys() | told.keys()):
@@ -228,10 +229,10 @@ def library_differences(library, code, script, told):
 def differences(files, crates, library):
     codes, *others = files
     code = "".join(path.read_text(encoding="utf-8") for path in codes)
-    refusals, header, script, pc = (path.read_text(encoding="utf-8") for path in others)
+    refusals, marks, header, script, pc = (path.read_text(encoding="utf-8") for path in others)
     told = declared(header)
     yield from function_differences(code, header)
-    yield from number_differences(code, refusals, header, crates)
+    yield from number_differences(code, [refusals, marks], header, crates)
     yield from version_differences(code, header, script, pc)
     yield from name_differences(script_names(script)[1], told, "the version script")
     if library:
@@ -245,13 +246,14 @@ def main():
     parser = argparse.ArgumentParser(description=__doc__, usage=argparse.SUPPRESS, formatter_class=argparse.RawDescriptionHelpFormatter)
     parser.add_argument("--root", type=Path, default=root)
     parser.add_argument("--code", type=Path, action="append")
-    for name in ("refusals", "header", "map", "pc", "library"):
+    for name in ("refusals", "marks", "header", "map", "pc", "library"):
         parser.add_argument(f"--{name}", type=Path)
     told = parser.parse_args()
     root = told.root
     files = [
         told.code or [root / "crates" / name / "src/lib.rt" for name in ("hirgwamo", "query_numbers")],
         told.refusals or root / "crates/refusal/src/lib.rt",
+        told.marks or root / "crates/mark/src/lib.rt",
         told.header or root / "part/hirgwamo.h",
         told.map or root / "part/hirgwamo.map",
         told.pc or root / "part/hirgwamo.pc.in",
@@ -264,7 +266,7 @@ def main():
         print(f"header: {sentence}")
     if found:
         sys.exit(1)
-    header = files[2].read_text(encoding="utf-8")
+    header = files[3].read_text(encoding="utf-8")
     print(f"header: {len(declared(header))} functions and {len(header_numbers(header)[0]) + 1} numbers are those of the code")
 
 

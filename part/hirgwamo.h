@@ -18,6 +18,9 @@
  * NUMBERS. An instant is two numbers: whole seconds from 1970-01-01T00:00:00Z, rounded down, and nanoseconds from 0 to 999,999,999; from
  * -377,705,023,201 s to 253,402,207,200.999999999 s. A duration is two numbers of one sign or zero: seconds, and nanoseconds below 10^9 in size.
  *
+ * MARKS. A function whose name ends with `_marked` answers as the one without that word does, and tells behind it, for each local time that an answer comes
+ * from, whether a change of the clock skipped or repeated it: HIRGWAMO_PLAIN, _REPEATED, _SKIPPED or _BEYOND. docs/FORMATS.md has examples.
+ *
  * WHAT IS RETURNED. 0 where the call answers; then its numbers stand at the front of `answer`, as many as told at each function. Else the number of a
  * refusal, and `answer[0]` is its place: where the record that is refused begins in the book for 4 and 5, else 0; the other numbers stay. Where `answer` has
  * fewer numbers than the function asks for, the return is HIRGWAMO_TOO_SHORT and nothing is written. Numbers behind the answer always stay.
@@ -58,7 +61,7 @@ extern "C" {
 #endif
 
 /* The version of this header: major * 1,000,000 + minor * 1,000 + patch. */
-#define HIRGWAMO_VERSION 1000000u
+#define HIRGWAMO_VERSION 1001000u
 
 /* Refusals. The first that applies in this order is given: 1, 2, 3; 4 or 5 of the default zone, then of the rules in the book's order; 6 of building; 8;
  * 9; 11; 12; then 6, 7 or 10 of the operation. The calls on a zone file give 5, then 8. */
@@ -94,7 +97,17 @@ enum {
     HIRGWAMO_CHANGE_SIZE = 3,
     HIRGWAMO_RESOLVED_SIZE = 2,
     HIRGWAMO_QUERY_SIZE = 5,
-    HIRGWAMO_ANSWER_SIZE = 6
+    HIRGWAMO_ANSWER_SIZE = 6,
+    HIRGWAMO_MARKED_PERIOD_SIZE = 6,
+    HIRGWAMO_MARKED_INSTANT_SIZE = 3 /* resolve_marked */
+};
+
+/* Marks. Where ends that are merged lie at the same instant, the greatest mark is kept. */
+enum {
+    HIRGWAMO_PLAIN = 0,    /* one instant reads so; or the end is no rule's own */
+    HIRGWAMO_REPEATED = 1, /* more than one instant reads so: the clock was set back; the earliest is given */
+    HIRGWAMO_SKIPPED = 2,  /* no instant reads so: the clock was set forward over it; the time moves on by the gap */
+    HIRGWAMO_BEYOND = 3    /* the instant would lie beyond the range; the first or the last instant is given */
 };
 
 /* The kinds of queries. */
@@ -135,6 +148,16 @@ uint32_t hirgwamo_next_period(const uint8_t *book, size_t book_len, const uint8_
 uint32_t hirgwamo_previous_period(const uint8_t *book, size_t book_len, const uint8_t *pack, size_t pack_len, int64_t sec, int64_t ns, int64_t *answer,
                                   size_t answer_len);
 
+/* As hirgwamo_next_period, and the marks of both ends: each has the mark of the local time at which work, a break or a holiday begins or ends there. An end
+ * that was moved to the instant given or to the search limit is plain. One that would lie on the day after 9999-12-31 is beyond the range.
+ * answer: start second, nanoseconds, end second, nanoseconds, the start's mark, the end's mark. Refusals 1 to 8. */
+uint32_t hirgwamo_next_period_marked(const uint8_t *book, size_t book_len, const uint8_t *pack, size_t pack_len, int64_t sec, int64_t ns,
+                                     int64_t *answer, size_t answer_len);
+
+/* As hirgwamo_previous_period, and the marks of both ends. Answer and refusals are those of hirgwamo_next_period_marked. */
+uint32_t hirgwamo_previous_period_marked(const uint8_t *book, size_t book_len, const uint8_t *pack, size_t pack_len, int64_t sec, int64_t ns,
+                                         int64_t *answer, size_t answer_len);
+
 /* All maximal working stretches from the instant a to the instant b, four numbers each: start second, nanoseconds, end second, nanoseconds.
  * answer: how many stretches. `stretches` changes only where the call answers, and behind the last stretch it stays. Refusals 1 to 6, 8, 10. */
 uint32_t hirgwamo_list(const uint8_t *book, size_t book_len, const uint8_t *pack, size_t pack_len, int64_t a_sec, int64_t a_ns, int64_t b_sec,
@@ -157,6 +180,10 @@ uint32_t hirgwamo_next_change(const uint8_t *file, size_t file_len, int64_t sec,
  * read twice it is the earlier one; a time that is skipped moves on by the gap. answer: seconds, nanoseconds. Refusals 5, 8. */
 uint32_t hirgwamo_resolve(const uint8_t *file, size_t file_len, int64_t year, int64_t month, int64_t day, int64_t second, int64_t ns, int64_t *answer,
                           size_t answer_len);
+
+/* As hirgwamo_resolve, and the local time's mark. answer: seconds, nanoseconds, mark. Refusals 5, 8. */
+uint32_t hirgwamo_resolve_marked(const uint8_t *file, size_t file_len, int64_t year, int64_t month, int64_t day, int64_t second, int64_t ns,
+                                 int64_t *answer, size_t answer_len);
 
 /* Many queries of one book and pack, which is built once. A query is five numbers: its kind (0 between, 1 add, 2 sub, 3 next, 4 previous), an instant, and
  * the other instant, a duration, or two zeros that are not looked at. An answer is six numbers, in the order of the queries:

@@ -15,7 +15,8 @@ cxx=${CXX:-g++}
 python=${PYTHON:-python3}
 strict='-Wall -Wextra -Werror -pedantic'
 common='part/test/guard.c part/test/fault.c part/test/bytes.c part/test/question.c part/test/compare.c
-    part/test/load.c part/test/load_lines.c part/test/load_lists.c part/test/load_hardest.c part/test/load_zones.c'
+    part/test/load.c part/test/load_lines.c part/test/load_lists.c part/test/load_hardest.c part/test/load_zones.c
+    part/test/load_marks.c part/test/load_worked.c'
 tmp=$(mktemp -d)
 trap 'rm -rf "$tmp"' EXIT
 passed=0
@@ -82,7 +83,8 @@ wrong_header() {
     count=0
     for edit in 's/int64_t width/int32_t width/' 's/const int64_t \*log/int64_t *log/' 's/size_t log_len/size_t length/' '/^uint32_t hirgwamo_version/d' \
         's/^uint32_t hirgwamo_version.*/&uint32_t hirgwamo_more(void);/' 's/LOG_MALFORMED = 11/LOG_MALFORMED = 13/' 's/CHANGE_SIZE = 3/CHANGE_SIZE = 2/' \
-        's/TOO_SHORT = 100/TOO_SHORT = 99/' 's/VERSION 1000000u/VERSION 1000001u/'; do
+        's/TOO_SHORT = 100/TOO_SHORT = 99/' 's/VERSION 1001000u/VERSION 1000000u/' 's/SKIPPED = 2/SKIPPED = 1/' 's/REPEATED = 1/READ_TWICE = 1/' \
+        's/MARKED_PERIOD_SIZE = 6/MARKED_PERIOD_SIZE = 4/' '/^uint32_t hirgwamo_resolve_marked/,/;$/d'; do
         sed "$edit" part/hirgwamo.h >"$tmp/wrong.h"
         if cmp -s part/hirgwamo.h "$tmp/wrong.h"; then
             echo "the edit $edit changes nothing"
@@ -189,7 +191,7 @@ prefix=$tmp/prefix
 installed() {
     has pkg-config || return 1
     make --no-print-directory install "PREFIX=$prefix" DESTDIR= || return 1
-    [ "$(PKG_CONFIG_PATH=$prefix/lib/pkgconfig pkg-config --modversion hirgwamo)" = 1.0.0 ] || { echo "pkg-config tells another version"; return 1; }
+    [ "$(PKG_CONFIG_PATH=$prefix/lib/pkgconfig pkg-config --modversion hirgwamo)" = 1.1.0 ] || { echo "pkg-config tells another version"; return 1; }
     for file in include/hirgwamo.h lib/libhirgwamo.a lib/libhirgwamo.so.1 lib/libhirgwamo.so lib/pkgconfig/hirgwamo.pc share/doc/hirgwamo/NOTICE; do
         [ -f "$prefix/$file" ] || { echo "$file is missing"; return 1; }
     done

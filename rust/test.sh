@@ -116,7 +116,7 @@ archive_is_found() {
     cat >"$work/find/pkgconfig/hirgwamo.pc" <<END
 Name: hirgwamo
 Description: for a test
-Version: 1.0.0
+Version: 1.1.0
 Libs: -L$HIRGWAMO_LIB_DIR -lhirgwamo
 END
     rustc --edition 2021 -o "$work/find/build" "$here/build.rs" 2>"$work/log/find" || return 1

@@ -65,10 +65,17 @@ uint32_t take_size(struct bytes *from) {
     return (uint32_t)take_big_endian(from, sizeof(uint32_t));
 }
 
+/* 2^63. */
+static const uint64_t HALF = UINT64_C(1) << 63;
+
 int64_t take_signed(struct bytes *from) {
     uint64_t stored = take_big_endian(from, sizeof(uint64_t));
-    uint64_t half = UINT64_C(1) << 63;
-    return stored >= half ? (int64_t)(stored - half) : (int64_t)stored + INT64_MIN;
+    return stored >= HALF ? (int64_t)(stored - HALF) : (int64_t)stored + INT64_MIN;
+}
+
+int64_t take_number(struct bytes *from) {
+    uint64_t stored = take_big_endian(from, sizeof(uint64_t));
+    return stored < HALF ? (int64_t)stored : (int64_t)(stored - HALF) + INT64_MIN;
 }
 
 int take_line(struct bytes *from, char line[LINE]) {

@@ -26,6 +26,9 @@ uint32_t take_size(struct bytes *from);
 /* Takes a signed number: 8 bytes, big-endian, stored with 2^63 added. */
 int64_t take_signed(struct bytes *from);
 
+/* Takes a signed number: 8 bytes, big-endian, two's complement. */
+int64_t take_number(struct bytes *from);
+
 /* The longest line that is read, with the byte behind it. */
 enum { LINE = 256 };
 

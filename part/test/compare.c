@@ -49,6 +49,16 @@ static int are_equal(const int64_t *numbers, const int64_t *expected, size_t cou
     return count == 0 || memcmp(numbers, expected, count * sizeof *numbers) == 0;
 }
 
+/* Whether numbers are marks. */
+static int are_marks(const int64_t *numbers, size_t count) {
+    for (size_t i = 0; i < count; i++) {
+        if (numbers[i] < HIRGWAMO_PLAIN || numbers[i] > HIRGWAMO_BEYOND) {
+            return 0;
+        }
+    }
+    return 1;
+}
+
 /* How many numbers a call lends with so many more or fewer than it needs. */
 static size_t with_more(size_t need, int more) {
     return more < 0 ? need - (size_t)-more : need + (size_t)more;
@@ -59,13 +69,16 @@ int question_agrees(struct asker *asker, const struct question *question, int mo
     struct numbers stretches = lend(&asker->stretches, question->stretches_len, asker->side);
     now_asking(name_of(question->call), question->number);
     uint32_t returned = ask(question, &stretches, &to);
-    size_t written = more < 0 ? 0 : question->written;
+    size_t written = more < 0 ? 0 : question->written, known = more < 0 ? 0 : question->known;
     size_t stretches_written = more < 0 ? 0 : question->stretches_written;
     if (returned != (more < 0 ? (uint32_t)HIRGWAMO_TOO_SHORT : question->returned)) {
         return differs(asker, question, &to, returned, "the returned number differs");
     }
-    if (!are_equal(to.at, question->answer, written)) {
+    if (!are_equal(to.at, question->answer, known)) {
         return differs(asker, question, &to, returned, "the answer differs");
+    }
+    if (!are_marks(to.at + known, written - known)) {
+        return differs(asker, question, &to, returned, "a number should be a mark");
     }
     if (!others_stay(&to, written)) {
         return differs(asker, question, &to, returned, "a number that is not the answer's was written");

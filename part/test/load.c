@@ -34,4 +34,6 @@ void load_all(struct stored *stored, const char *root, enum side side) {
     load_lists(stored, root, side);
     load_hardest(stored, root, side);
     load_zones(stored, root, side);
+    load_marks(stored, root, side);
+    load_worked(stored, side);
 }

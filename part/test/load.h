@@ -9,6 +9,10 @@ void load_lines(struct stored *stored, const char *root, enum side side);
 void load_lists(struct stored *stored, const char *root, enum side side);
 void load_hardest(struct stored *stored, const char *root, enum side side);
 void load_zones(struct stored *stored, const char *root, enum side side);
+void load_marks(struct stored *stored, const char *root, enum side side);
+
+/* Adds the worked examples of marks, which stand in the program itself. */
+void load_worked(struct stored *stored, enum side side);
 
 /* All of them. */
 void load_all(struct stored *stored, const char *root, enum side side);

@@ -123,6 +123,7 @@ static void add_file(struct stored *stored, struct bytes file, enum side side, s
         add_lines(stored, question, parts[LINES], parts[ANSWERS]);
         add_queries(stored, &question, first, side);
         add_build(stored, first);
+        add_marked(stored, first);
     }
 }
 

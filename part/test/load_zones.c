@@ -8,13 +8,14 @@
 
 static const char *const FOLDER = "test_zone_calls/data";
 
-/* The calls by their numbers in the file of questions, which begin with 1: their words in the lines that are expected, and how many numbers they take. */
+/* The calls by their numbers in the file of questions, which begin with 1: their words in the lines that are expected, and how many numbers they take. The
+ * line of a local time tells its mark. */
 enum { WORDS = 3 };
 static const struct {
     enum call call;
     const char *word;
     int asked;
-} ZONE_CALL[WORDS] = {{OFFSET, "offset", 2}, {CHANGE, "change", 2}, {RESOLVE, "resolve", 5}};
+} ZONE_CALL[WORDS] = {{OFFSET, "offset", 2}, {CHANGE, "change", 2}, {RESOLVE_MARKED, "resolve", 5}};
 
 static void fail(const char *what, const char *line) {
     fprintf(stderr, "%s: %s\n", what, line);
@@ -54,6 +55,20 @@ static void read_line(struct question *question, size_t which, char line[LINE]) 
     read_answer(question, colon + 1);
 }
 
+/* Adds a question, and one about a local time also by the call that tells no mark. */
+static void add_with_older(struct stored *stored, const struct question *question) {
+    add_question(stored, question);
+    if (question->call != RESOLVE_MARKED) {
+        return;
+    }
+    struct question older = *question;
+    older.call = RESOLVE;
+    if (question->returned == HIRGWAMO_OK) {
+        expect_answer(&older, question->answer, need_of(RESOLVE));
+    }
+    add_question(stored, &older);
+}
+
 /* The part of the zone files that a question is about. */
 static struct bytes part_of(struct bytes zones, size_t place, size_t len) {
     take(&zones, place);
@@ -77,7 +92,7 @@ void load_zones(struct stored *stored, const char *root, enum side side) {
             question.asked[i] = take_signed(&asked);
         }
         read_line(&question, which, line);
-        add_question(stored, &question);
+        add_with_older(stored, &question);
     }
     if (lines.len > 0) {
         fail("the questions about zone files", "there are more lines than questions");

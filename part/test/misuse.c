@@ -121,10 +121,50 @@ static void none(void) {
     expect(is_so(&trial), "no queries of a book that is refused write nothing");
 }
 
+/* ---- answers with marks */
+
+typedef uint32_t period_function(const uint8_t *, size_t, const uint8_t *, size_t, int64_t, int64_t, int64_t *, size_t);
+
+/* Whether a call for a marked period says that so many numbers are too few, and writes nothing. */
+static int period_is_refused(period_function *call, const uint8_t *book, size_t book_len, size_t len, enum side side) {
+    struct room room = room_of_numbers(len);
+    struct numbers to = lend(&room, len, side);
+    uint32_t returned = call(book, book_len, NO_ZONES, sizeof NO_ZONES, MONDAY, 0, to.at, to.len);
+    return returned == HIRGWAMO_TOO_SHORT && others_stay(&to, 0);
+}
+
+/* The same of a call for a marked local time. The zone file is not usable, which comes behind. */
+static int local_is_refused(size_t len, enum side side) {
+    struct room room = room_of_numbers(len);
+    struct numbers to = lend(&room, len, side);
+    uint32_t returned = hirgwamo_resolve_marked(BROKEN, sizeof BROKEN, 2026, 1, 5, 0, 0, to.at, to.len);
+    return returned == HIRGWAMO_TOO_SHORT && others_stay(&to, 0);
+}
+
+/* Each number of numbers below what an answer with marks needs. */
+static void too_short_for_marks(void) {
+    period_function *const CALLS[] = {hirgwamo_next_period_marked, hirgwamo_previous_period_marked};
+    int periods = 1, local = 1;
+    for (int side = 0; side < SIDES; side++) {
+        for (size_t len = 0; len < HIRGWAMO_MARKED_PERIOD_SIZE; len++) {
+            for (size_t i = 0; i < sizeof CALLS / sizeof *CALLS; i++) {
+                periods = periods && period_is_refused(CALLS[i], OFFICE, sizeof OFFICE, len, (enum side)side);
+                periods = periods && period_is_refused(CALLS[i], BROKEN, sizeof BROKEN, len, (enum side)side);
+            }
+        }
+        for (size_t len = 0; len < HIRGWAMO_MARKED_INSTANT_SIZE; len++) {
+            local = local && local_is_refused(len, (enum side)side);
+        }
+    }
+    expect(periods, "0 to 5 numbers are too few for a period with marks, whether the book builds or not");
+    expect(local, "0 to 2 numbers are too few for a local time with its mark, also where the zone file is not usable");
+}
+
 int main(void) {
     other_kinds();
     not_whole();
     none();
+    too_short_for_marks();
     expect(hirgwamo_version() == HIRGWAMO_VERSION, "the library's version is the header's");
     printf(different == 0 ? "all as told\n" : "NOT all as told\n");
     return different == 0 ? 0 : 1;

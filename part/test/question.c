@@ -24,6 +24,9 @@ static const struct {
     [OFFSET] = {"offset", HIRGWAMO_OFFSET_SIZE},
     [CHANGE] = {"next_change", HIRGWAMO_CHANGE_SIZE},
     [RESOLVE] = {"resolve", HIRGWAMO_RESOLVED_SIZE},
+    [NEXT_MARKED] = {"next_period_marked", HIRGWAMO_MARKED_PERIOD_SIZE},
+    [PREVIOUS_MARKED] = {"previous_period_marked", HIRGWAMO_MARKED_PERIOD_SIZE},
+    [RESOLVE_MARKED] = {"resolve_marked", HIRGWAMO_MARKED_INSTANT_SIZE},
 };
 
 const char *name_of(enum call call) {
@@ -74,7 +77,24 @@ static uint32_t ask_other(const struct question *q, const struct numbers *stretc
     }
 }
 
+/* Asks a question whose answer tells marks. */
+static uint32_t ask_marked(const struct question *q, const struct numbers *to) {
+    const struct bytes *book = &q->book, *pack = &q->pack;
+    const int64_t *n = q->asked;
+    switch (q->call) {
+    case NEXT_MARKED:
+        return hirgwamo_next_period_marked(book->at, book->len, pack->at, pack->len, n[0], n[1], to->at, to->len);
+    case PREVIOUS_MARKED:
+        return hirgwamo_previous_period_marked(book->at, book->len, pack->at, pack->len, n[0], n[1], to->at, to->len);
+    default:
+        return hirgwamo_resolve_marked(book->at, book->len, n[0], n[1], n[2], n[3], n[4], to->at, to->len);
+    }
+}
+
 uint32_t ask(const struct question *question, const struct numbers *stretches, const struct numbers *answer) {
+    if (question->call >= NEXT_MARKED) {
+        return ask_marked(question, answer);
+    }
     return question->call <= PREVIOUS ? ask_query(question, answer) : ask_other(question, stretches, answer);
 }
 
@@ -106,13 +126,13 @@ void add_batch(struct stored *stored, const struct batch *batch) {
 void expect_refusal(struct question *question, uint32_t number, int64_t place) {
     question->returned = number;
     question->answer[0] = place;
-    question->written = 1;
+    question->written = question->known = 1;
 }
 
 void expect_answer(struct question *question, const int64_t *numbers, size_t count) {
     question->returned = HIRGWAMO_OK;
     memcpy(question->answer, numbers, count * sizeof *numbers);
-    question->written = count;
+    question->written = question->known = count;
 }
 
 /* Whether a question is refused because of its book or pack. Refusal 6 of a search may be one of the operation, and is not told to be either. */
@@ -135,5 +155,32 @@ void add_build(struct stored *stored, size_t first) {
         }
         add_question(stored, &question);
         return;
+    }
+}
+
+/* The call that answers as this query does and tells marks too; CALLS where there is none. */
+static enum call marked_of(enum call call) {
+    switch (call) {
+    case NEXT:
+        return NEXT_MARKED;
+    case PREVIOUS:
+        return PREVIOUS_MARKED;
+    default:
+        return CALLS;
+    }
+}
+
+void add_marked(struct stored *stored, size_t first) {
+    size_t end = stored->count;
+    for (size_t i = first; i < end; i++) {
+        struct question question = stored->questions[i];
+        question.call = marked_of(question.call);
+        if (question.call == CALLS) {
+            continue;
+        }
+        if (question.returned == HIRGWAMO_OK) {
+            question.written = need_of(question.call);
+        }
+        add_question(stored, &question);
     }
 }

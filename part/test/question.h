@@ -9,9 +9,11 @@
 #include "guard.h"
 
 /* The calls. The first five have the numbers of the queries' kinds. */
-enum call { BETWEEN, ADD, SUB, NEXT, PREVIOUS, BUILD, LIST, HARDEST, OFFSET, CHANGE, RESOLVE, CALLS };
+enum call {
+    BETWEEN, ADD, SUB, NEXT, PREVIOUS, BUILD, LIST, HARDEST, OFFSET, CHANGE, RESOLVE, NEXT_MARKED, PREVIOUS_MARKED, RESOLVE_MARKED, CALLS
+};
 
-enum { QUERIES = PREVIOUS + 1, MOST_ASKED = 5, MOST_ANSWERED = 4 };
+enum { QUERIES = PREVIOUS + 1, MOST_ASKED = 5, MOST_ANSWERED = 6 };
 
 /* A question, and what is expected. */
 struct question {
@@ -27,6 +29,7 @@ struct question {
     uint32_t returned;
     int64_t answer[MOST_ANSWERED];
     size_t written;              /* how many numbers of the answer are written */
+    size_t known;                /* how many of these are known; those behind them are marks */
 };
 
 /* The queries of one case, to be asked in one call, and all numbers of the answers. */
@@ -48,6 +51,9 @@ struct stored {
     size_t bad_lines;            /* lines that are no queries: no call can ask them */
     size_t list_cases;
     size_t hardest_cases;
+    size_t marks_cases;
+    size_t marks_answers;        /* of these cases, with those about windows, which no call can ask */
+    size_t marks_refusals;
 };
 
 /* The call's name in the header, without `hirgwamo_`. */
@@ -67,6 +73,9 @@ void add_batch(struct stored *stored, const struct batch *batch);
 
 /* One question more: whether the book of a case builds, where the case's questions, which are those from `first` on, tell it. */
 void add_build(struct stored *stored, size_t first);
+
+/* More questions: of those from `first` on that ask for a period, the same by the call which tells marks too. The marks are not known. */
+void add_marked(struct stored *stored, size_t first);
 
 /* Sets what is expected: a refusal with its place. */
 void expect_refusal(struct question *question, uint32_t number, int64_t place);

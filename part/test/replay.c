@@ -36,16 +36,18 @@ static int is_counted(const char *root, const char *crate, const char *line) {
     return is;
 }
 
-/* Whether as much was compared as the crates' programs compare. */
+/* Whether as much was compared as the crates' programs compare. Of marks, what is stored is counted; is_whole tells whether all that was asked is equal. */
 static int all_are_counted(const char *root, const struct stored *stored, const struct seen *seen) {
-    char lines[LINE], lists[LINE], hardest[LINE];
+    char lines[LINE], lists[LINE], hardest[LINE], marks[LINE];
     snprintf(lines, LINE, "%zu cases, %zu lines equal, 0 cases different\n", seen->batches, seen->batch_answers + stored->bad_lines);
     snprintf(lists, LINE, "%zu cases, %zu listings and %zu refusals equal, 0 different\n", stored->list_cases, seen->answers[LIST], seen->refusals[LIST]);
     snprintf(hardest, LINE, "%zu cases, %zu answers and %zu refusals equal, 0 different\n", stored->hardest_cases, seen->answers[HARDEST],
              seen->refusals[HARDEST]);
+    snprintf(marks, LINE, "%zu cases, %zu answers and %zu refusals equal, 0 different\n", stored->marks_cases, stored->marks_answers, stored->marks_refusals);
     int is = is_counted(root, "test_replay", lines);
     is = is_counted(root, "test_replay_lists", lists) && is;
-    return is_counted(root, "test_replay_hardest", hardest) && is;
+    is = is_counted(root, "test_replay_hardest", hardest) && is;
+    return is_counted(root, "test_replay_marks", marks) && is;
 }
 
 /* Asks all with the memory against a page on this side, and adds what was seen. Whether all is as expected. */

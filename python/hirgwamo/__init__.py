@@ -14,6 +14,7 @@ numbers into answers.
 
 from . import numbers
 from .clock import Clock, Hardest
+from .marks import Mark, MarkedInstant, MarkedPeriod
 from .queries import Add, Between, NextPeriod, Period, PreviousPeriod, Query, Sub
 from .refusals import (
     BookLayout,
@@ -33,7 +34,7 @@ from .refusals import (
 from .times import BeyondDatetime, Duration, Instant
 from .zone import Zone
 
-__version__ = "1.0.0"
+__version__ = "1.1.0"
 
 __all__ = [
     "Add",
@@ -48,6 +49,9 @@ __all__ = [
     "Instant",
     "InstantOutOfRange",
     "LogMalformed",
+    "Mark",
+    "MarkedInstant",
+    "MarkedPeriod",
     "NextPeriod",
     "NoWorkingTime",
     "OutOfRange",

@@ -41,11 +41,14 @@ _TAKES: Dict[str, Tuple[object, ...]] = {
     "hirgwamo_sub": (*_BOOK_AND_PACK, *_PAIR, *_PAIR, *_NUMBERS),
     "hirgwamo_next_period": (*_BOOK_AND_PACK, *_PAIR, *_NUMBERS),
     "hirgwamo_previous_period": (*_BOOK_AND_PACK, *_PAIR, *_NUMBERS),
+    "hirgwamo_next_period_marked": (*_BOOK_AND_PACK, *_PAIR, *_NUMBERS),
+    "hirgwamo_previous_period_marked": (*_BOOK_AND_PACK, *_PAIR, *_NUMBERS),
     "hirgwamo_list": (*_BOOK_AND_PACK, *_PAIR, *_PAIR, *_NUMBERS, *_NUMBERS),
     "hirgwamo_hardest": (*_BOOK_AND_PACK, *_PAIR, *_NUMBERS, c_int64, *_NUMBERS),
     "hirgwamo_offset": (*_BYTES, *_PAIR, *_NUMBERS),
     "hirgwamo_next_change": (*_BYTES, *_PAIR, *_NUMBERS),
     "hirgwamo_resolve": (*_BYTES, c_int64, c_int64, c_int64, *_PAIR, *_NUMBERS),
+    "hirgwamo_resolve_marked": (*_BYTES, c_int64, c_int64, c_int64, *_PAIR, *_NUMBERS),
     "hirgwamo_answers": (*_BOOK_AND_PACK, *_NUMBERS, *_NUMBERS),
 }
 

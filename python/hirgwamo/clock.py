@@ -7,6 +7,7 @@ from typing import Iterable, List, NamedTuple, Tuple, TypeVar, Union
 
 from . import numbers
 from ._arguments import duration, instant, whole_seconds
+from .marks import MarkedPeriod
 from .queries import Period, Query
 from .refusals import Refusal, refusal
 from .times import BeyondDatetime, Duration, Instant
@@ -89,6 +90,18 @@ class Clock:
         It ends at t where that lies inside, and is cut to the search limit.
         """
         return Period.of_numbers(numbers.previous_period(self._book, self._pack, *instant(t, "t")))
+
+    def next_period_marked(self, t: datetime) -> MarkedPeriod:
+        """The period of `next_period`, and the marks of both ends.
+
+        Each end has the `Mark` of the local time at which work, a break or a holiday begins or ends there. An end that
+        was moved to t or to the search limit is plain.
+        """
+        return MarkedPeriod.of_numbers(numbers.next_period_marked(self._book, self._pack, *instant(t, "t")))
+
+    def previous_period_marked(self, t: datetime) -> MarkedPeriod:
+        """The period of `previous_period`, and the marks of both ends, as `next_period_marked` tells them."""
+        return MarkedPeriod.of_numbers(numbers.previous_period_marked(self._book, self._pack, *instant(t, "t")))
 
     def list(self, a: datetime, b: datetime) -> List[Period]:
         """All maximal working stretches from a to b, in their order."""

@@ -25,6 +25,7 @@ from .refusals import BY_NUMBER, TooFewNumbers, refusal
 
 BytesLike = Union[bytes, bytearray, memoryview]
 Stretch = Tuple[int, int, int, int]
+MarkedStretch = Tuple[int, int, int, int, int, int]
 QueryNumbers = Tuple[int, int, int, int, int]
 AnswerNumbers = Tuple[int, int, int, int, int, int]
 
@@ -33,6 +34,9 @@ LAST: Pair = (253_402_207_200, 999_999_999)
 
 # The kinds of queries that `answers` takes.
 BETWEEN, ADD, SUB, NEXT, PREVIOUS = range(5)
+
+# The marks of local times. `hirgwamo.Mark` tells what they mean.
+PLAIN, REPEATED, SKIPPED, BEYOND = range(4)
 
 _LEAST, _MOST = -(2**63), 2**63 - 1  # signed 64 bits
 _NO_DURATION: Pair = (1, -1)  # two signs: no duration
@@ -49,6 +53,8 @@ _CHANGE_SIZE = 3
 _RESOLVED_SIZE = 2
 _QUERY_SIZE = 5
 _ANSWER_SIZE = 6
+_MARKED_PERIOD_SIZE = 6
+_MARKED_INSTANT_SIZE = 3
 
 _FIRST_STRETCHES = 256  # how many stretches there is room for when a listing is first asked
 _GROWTH = 4  # how many times as many the next time
@@ -78,6 +84,11 @@ def _bounded(value: int, name: str) -> int:
 
 def _instant(sec: int, ns: int, name: str) -> Pair:
     return _bounded(sec, f"{name}_sec"), _bounded(ns, f"{name}_ns")
+
+
+def _local(year: int, month: int, day: int, second: int, ns: int) -> Tuple[int, int, int, int, int]:
+    date = _bounded(year, "year"), _bounded(month, "month"), _bounded(day, "day")
+    return (*date, _bounded(second, "second"), _bounded(ns, "ns"))
 
 
 def _duration(sec: int, ns: int, name: str) -> Pair:
@@ -164,6 +175,23 @@ def previous_period(book: BytesLike, pack: BytesLike, t_sec: int, t_ns: int) -> 
     return start, start_ns, end, end_ns
 
 
+def _marked_stretch(function: Any, book: BytesLike, pack: BytesLike, t_sec: int, t_ns: int) -> MarkedStretch:
+    lent, at = _lent(book, pack), _instant(t_sec, t_ns, "t")
+    told = _asked(function, _MARKED_PERIOD_SIZE, lent[0], *lent, *at)
+    start, start_ns, end, end_ns, start_mark, end_mark = told
+    return start, start_ns, end, end_ns, start_mark, end_mark
+
+
+def next_period_marked(book: BytesLike, pack: BytesLike, t_sec: int, t_ns: int) -> MarkedStretch:
+    """The numbers of `next_period`, then the start's mark and the end's mark."""
+    return _marked_stretch(_c.hirgwamo_next_period_marked, book, pack, t_sec, t_ns)
+
+
+def previous_period_marked(book: BytesLike, pack: BytesLike, t_sec: int, t_ns: int) -> MarkedStretch:
+    """The numbers of `previous_period`, then the start's mark and the end's mark."""
+    return _marked_stretch(_c.hirgwamo_previous_period_marked, book, pack, t_sec, t_ns)
+
+
 def list_into(
     book: BytesLike, pack: BytesLike, a_sec: int, a_ns: int, b_sec: int, b_ns: int, room: int
 ) -> List[Stretch]:
@@ -221,10 +249,16 @@ def resolve(file: BytesLike, year: int, month: int, day: int, second: int, ns: i
     Years before 0 are negative, as in ISO 8601. Of a time that is read twice it is the earlier one; a time that is
     skipped moves on by the gap.
     """
-    date = (_bounded(year, "year"), _bounded(month, "month"), _bounded(day, "day"))
-    given = (*_lent_file(file), *date, _bounded(second, "second"), _bounded(ns, "ns"))
-    sec, nanoseconds = _asked(_c.hirgwamo_resolve, _RESOLVED_SIZE, b"", *given)
+    local = _local(year, month, day, second, ns)
+    sec, nanoseconds = _asked(_c.hirgwamo_resolve, _RESOLVED_SIZE, b"", *_lent_file(file), *local)
     return sec, nanoseconds
+
+
+def resolve_marked(file: BytesLike, year: int, month: int, day: int, second: int, ns: int) -> Tuple[int, int, int]:
+    """The numbers of `resolve`, then the local time's mark."""
+    local = _local(year, month, day, second, ns)
+    sec, nanoseconds, mark = _asked(_c.hirgwamo_resolve_marked, _MARKED_INSTANT_SIZE, b"", *_lent_file(file), *local)
+    return sec, nanoseconds, mark
 
 
 # ---- many queries

@@ -7,6 +7,7 @@ from typing import Optional
 
 from . import numbers
 from ._arguments import instant, local as local_numbers
+from .marks import Mark, MarkedInstant
 from .times import Instant
 
 
@@ -48,3 +49,8 @@ class Zone:
         skipped moves on by the gap.
         """
         return Instant.of_numbers(*numbers.resolve(self._file, *local_numbers(local, nanosecond, "local")))
+
+    def resolve_marked(self, local: datetime, nanosecond: Optional[int] = None) -> MarkedInstant:
+        """The instant of `resolve`, and the `Mark` of the local time: whether it was skipped or comes twice."""
+        told = numbers.resolve_marked(self._file, *local_numbers(local, nanosecond, "local"))
+        return MarkedInstant(Instant.of_numbers(*told[:2]), Mark(told[2]))

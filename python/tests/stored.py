@@ -14,6 +14,7 @@ ROOT = PYTHON.parent
 CASES = ROOT / "crates" / "test_replay" / "data"
 LISTS = ROOT / "crates" / "test_replay_lists" / "data" / "lists.bin"
 HARDEST = ROOT / "crates" / "test_replay_hardest" / "data" / "hardest.bin"
+MARKS = ROOT / "crates" / "test_replay_marks" / "data" / "marks.bin"
 ZONE_CALLS = ROOT / "crates" / "test_zone_calls"
 SAMPLE = ROOT / "sample"
 CLOCK = Path(os.environ.get("CLOCK") or ROOT / "target" / "bin" / "clock").resolve()
@@ -21,6 +22,7 @@ CLOCK = Path(os.environ.get("CLOCK") or ROOT / "target" / "bin" / "clock").resol
 LIFTED = 2**63  # added to each signed number of 8 bytes
 LISTING = struct.Struct(">4QIII")  # span; room, refusal's number, its place or how many stretches
 LOG = struct.Struct(">3QII4QI")  # instant, width; refusal's number, its place; answer; how many numbers the log has
+MARKED = struct.Struct(">4I")  # kind, the question's length, refusal's number, its place
 QUESTION = struct.Struct(">III5Q")  # call, the file's place, its length; numbers
 NUMBER_SIZE = 8
 STRETCH = 4  # numbers of a stretch
@@ -28,6 +30,13 @@ EPOCH = datetime(1970, 1, 1, tzinfo=timezone.utc)
 YEAR_1 = -62_135_596_800  # 0001-01-01T00:00:00Z
 YEAR_10000 = 253_402_300_800  # 10000-01-01T00:00:00Z
 LONGEST = 86_400 * 999_999_999  # seconds of the longest timedelta, less a day
+
+# The kinds of stored questions about marks that a call answers, how many numbers each is given, and where an answer's marks begin.
+LOCAL, NEXT, PREVIOUS = range(3)
+_numbers = hirgwamo.numbers
+MARK_CALLS = {LOCAL: _numbers.resolve_marked, NEXT: _numbers.next_period_marked, PREVIOUS: _numbers.previous_period_marked}
+MARK_GIVEN = {LOCAL: 5, NEXT: 2, PREVIOUS: 2}
+MARKS_FROM = {LOCAL: 2, NEXT: 4, PREVIOUS: 4}
 
 OFFICE = bytes.fromhex("000000010000000C0000001301001F00007E90000000000000EF1000000000")  # Monday to Friday, 09:00 to 17:00, UTC
 NO_PACK = bytes(4)
@@ -93,15 +102,41 @@ def hardest():
             yield book, pack, (sec, ns), width, log, number, place, tuple(lowered((n0, n1, n2, n3)))
 
 
+def marks():
+    """Every stored question about marks that a call answers: kind, bytes lent, numbers, refusal's number, its place, answer."""
+    for book, pack, data in cases_of(MARKS.read_bytes(), 3):
+        at = 0
+        while at < len(data):
+            kind, length, number, place = MARKED.unpack_from(data, at)
+            told = [n for (n,) in struct.iter_unpack(">q", data[at + MARKED.size : at + length])]
+            at += length
+            if kind in MARK_CALLS:
+                given = MARK_GIVEN[kind]
+                yield kind, [pack] if kind == LOCAL else [book, pack], told[:given], number, place, told[given:]
+
+
 def zone_questions():
-    """Every stored question about a zone file: the file, the call's name, its numbers, the answer in words."""
+    """Every stored question about a zone file: the file, the call's name, its numbers, the answer in words. A local time is asked with its mark and without."""
     files, data = (ZONE_CALLS / "data" / "zones.bin").read_bytes(), (ZONE_CALLS / "data" / "questions.bin").read_bytes()
     lines = (ZONE_CALLS / "stdout").read_text().splitlines()
     for place, line in enumerate(lines):
         asked, _, answer = line.partition(": ")
         call, *numbers = asked.split(" ")
         _, at, length, *_ = QUESTION.unpack_from(data, QUESTION.size * place)
-        yield files[at : at + length], call, [int(number) for number in numbers], answer
+        file, given = files[at : at + length], [int(number) for number in numbers]
+        if call == "resolve":
+            yield file, "resolve_marked", given, answer
+            answer = answer if answer.startswith("no") else answer.rpartition(" ")[0]
+        yield file, call, given, answer
+
+
+def directory(*records):
+    """A book or a pack of these records."""
+    head, place = len(records).to_bytes(4, "big"), 4 + 8 * len(records)
+    for record in records:
+        head += place.to_bytes(4, "big") + len(record).to_bytes(4, "big")
+        place += len(record)
+    return head + b"".join(records)
 
 
 def zone_of_pack(pack):

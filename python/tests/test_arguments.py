@@ -40,6 +40,8 @@ def calls():
         ("t", lambda t: clock.sub(t, HOURS)),
         ("t", clock.next_period),
         ("t", clock.previous_period),
+        ("t", clock.next_period_marked),
+        ("t", clock.previous_period_marked),
         ("a", lambda t: clock.list(t, NINE)),
         ("b", lambda t: clock.list(NINE, t)),
         ("t", lambda t: clock.hardest(t, [], HOURS)),
@@ -153,6 +155,7 @@ class Offsets(unittest.TestCase):
         clock = Clock(OFFICE, NO_PACK)
         t = NINE.astimezone(BERLIN)
         told = [clock.add(t, HOURS), clock.sub(t, -HOURS), *clock.next_period(t), *clock.previous_period(t)]
+        told += [*clock.next_period_marked(t)[:2], *clock.previous_period_marked(t)[:2]]
         for answer in [*told, *clock.list(t, t + HOURS)[0], clock.hardest(t, [], HOURS).start]:
             self.assertIs(answer.tzinfo, timezone.utc)
 
@@ -167,6 +170,8 @@ class WholeNumbers(unittest.TestCase):
             (numbers.sub, (0, 0, 0, 0), ("t_sec", "t_ns", "d_sec", "d_ns")),
             (numbers.next_period, (0, 0), ("t_sec", "t_ns")),
             (numbers.previous_period, (0, 0), ("t_sec", "t_ns")),
+            (numbers.next_period_marked, (0, 0), ("t_sec", "t_ns")),
+            (numbers.previous_period_marked, (0, 0), ("t_sec", "t_ns")),
         ]
         for call, given, names in forms:
             call(book, pack, *given)

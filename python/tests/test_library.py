@@ -42,7 +42,7 @@ class Header(unittest.TestCase):
     def test_functions(self):
         seen = dict(prototypes())
         self.assertEqual(sorted(seen), sorted(_library._TAKES))
-        self.assertEqual(len(seen), 13)
+        self.assertEqual(len(seen), 16)
         for name, takes in seen.items():
             function = getattr(numbers._c, name)
             self.assertEqual(list(function.argtypes), [C_TYPES[take] for take in takes], name)
@@ -50,10 +50,13 @@ class Header(unittest.TestCase):
 
     def test_numbers(self):
         told = constants()
-        for name in ("VERDICT", "TIME", "INSTANT", "PERIOD", "COUNT", "STRETCH", "OFFSET", "CHANGE", "RESOLVED", "QUERY", "ANSWER"):
+        sizes = ["VERDICT", "TIME", "INSTANT", "PERIOD", "COUNT", "STRETCH", "OFFSET", "CHANGE", "RESOLVED", "QUERY", "ANSWER"]
+        for name in [*sizes, "MARKED_PERIOD", "MARKED_INSTANT"]:
             self.assertEqual(getattr(numbers, f"_{name}_SIZE"), told[f"{name}_SIZE"], name)
         for name in ("BETWEEN", "ADD", "SUB", "NEXT", "PREVIOUS"):
             self.assertEqual(getattr(numbers, name), told[name], name)
+        for mark in hirgwamo.Mark:
+            self.assertEqual((getattr(numbers, mark.name), mark.value), (told[mark.name], told[mark.name]), mark)
         returned = re.findall(r"HIRGWAMO_\w+ = (\d+)", re.search(r"enum \{(.*?)\};", HEADER, re.DOTALL)[1])
         self.assertEqual([int(number) for number in returned], [told["OK"], *BY_NUMBER, told["TOO_SHORT"], told["NO_QUERY"]])
         version = int(re.search(r"#define HIRGWAMO_VERSION (\d+)u", HEADER)[1])

@@ -12,11 +12,11 @@ import unittest
 from pathlib import Path
 
 import hirgwamo
-from hirgwamo import _arguments, _library, _whole, clock, numbers, queries, refusals, times, zone
+from hirgwamo import _arguments, _library, _whole, clock, marks, numbers, queries, refusals, times, zone
 
 from .stored import PYTHON, ROOT, SAMPLE, zone_of_pack
 
-MODULES = [hirgwamo, _arguments, _library, _whole, clock, numbers, queries, refusals, times, zone]
+MODULES = [hirgwamo, _arguments, _library, _whole, clock, marks, numbers, queries, refusals, times, zone]
 SOURCES = sorted((PYTHON / "hirgwamo").glob("*.py"))
 
 

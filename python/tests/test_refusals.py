@@ -8,21 +8,13 @@ import hirgwamo
 from hirgwamo import Add, Between, Clock, Duration, Refusal, Zone, numbers
 from hirgwamo.refusals import BY_NUMBER
 
-from .stored import HOUR, MONDAY, NO_PACK, OFFICE, at
+from .stored import HOUR, MONDAY, NO_PACK, OFFICE, at, directory
 
 UTC_BOOK = bytes.fromhex("00 00 00 01 00 00 00 0C 00 00 00 05 00 03 55 54 43")  # the default zone is "UTC"
 BAD_FILE = bytes.fromhex("00 00 00 01 00 00 00 0C 00 00 00 08 03 55 54 43 54 5A 69 66")  # the file of "UTC" is "TZif"
 NO_WORK = bytes(4)
 LAST_SEC, LAST_NS = numbers.LAST
 WORK = OFFICE[12:]
-
-
-def directory(*records):
-    head, place = len(records).to_bytes(4, "big"), 4 + 8 * len(records)
-    for record in records:
-        head += place.to_bytes(4, "big") + len(record).to_bytes(4, "big")
-        place += len(record)
-    return head + b"".join(records)
 
 
 def zoned(name):
@@ -65,6 +57,7 @@ class Refusals(Raised):
         self.refusal(5, 0, "the zone file is not usable", Zone, b"TZif")
         self.refusal(5, 0, "the zone file is not usable", Zone, b"")
         self.refusal(5, 0, "the zone file is not usable", numbers.resolve, b"", 2026, 1, 1, 0, 0)
+        self.refusal(5, 0, "the zone file is not usable", numbers.resolve_marked, b"", 2026, 1, 1, 0, 0)
 
     def test_6_no_working_time(self):
         self.refusal(6, 0, "no working time", Clock, NO_WORK, NO_PACK)
@@ -79,6 +72,8 @@ class Refusals(Raised):
         self.refusal(8, 0, "an instant, a date or a time of day that there is not", Clock(OFFICE, NO_PACK).next_period, late)
         self.refusal(8, 0, "an instant", numbers.next_period, OFFICE, NO_PACK, LAST_SEC + 1, 0)
         self.refusal(8, 0, "an instant", numbers.previous_period, OFFICE, NO_PACK, 0, 10**9)
+        self.refusal(8, 0, "an instant", Clock(OFFICE, NO_PACK).next_period_marked, late)
+        self.refusal(8, 0, "an instant", numbers.previous_period_marked, OFFICE, NO_PACK, 0, 10**9)
 
     def test_9_duration_malformed(self):
         self.refusal(9, 0, "a duration is malformed", numbers.add, OFFICE, NO_PACK, MONDAY, 0, 1, -1)
@@ -120,8 +115,8 @@ class OutsideSixtyFourBits(Raised):
     def test_instants(self):
         for far in self.FAR:
             for given in ((far, 0), (MONDAY, far)):
-                self.refusal(8, 0, "an instant", numbers.next_period, OFFICE, NO_PACK, *given)
-                self.refusal(8, 0, "an instant", numbers.previous_period, OFFICE, NO_PACK, *given)
+                for call in (numbers.next_period, numbers.previous_period, numbers.next_period_marked, numbers.previous_period_marked):
+                    self.refusal(8, 0, "an instant", call, OFFICE, NO_PACK, *given)
                 for call in (numbers.between, numbers.list):
                     self.refusal(8, 0, "an instant", call, OFFICE, NO_PACK, *given, 0, 0)
                     self.refusal(8, 0, "an instant", call, OFFICE, NO_PACK, 0, 0, *given)

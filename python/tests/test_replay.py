@@ -22,6 +22,7 @@ ANSWERED = 16_196  # of these lines
 TOO_FEW = hirgwamo.TooFewNumbers.number
 KINDS = {"between": numbers.BETWEEN, "add": numbers.ADD, "sub": numbers.SUB, "next": numbers.NEXT, "previous": numbers.PREVIOUS}
 CALLS = {"between": numbers.between, "add": numbers.add, "sub": numbers.sub, "next": numbers.next_period, "previous": numbers.previous_period}
+MARKED = {"next": numbers.next_period_marked, "previous": numbers.previous_period_marked}
 PERIODS = ("next", "previous")
 ZONES = [timezone.utc, timezone(timedelta(hours=5, minutes=45)), stored.BERLIN, timezone(timedelta(hours=-11, microseconds=1))]
 
@@ -45,6 +46,14 @@ def by_numbers(book, pack, words):
         return told(CALLS[words[0]](book, pack, *map(int, words[1:])))
     except Refusal as refusal:
         return refused(refusal)
+
+
+def by_marked_numbers(book, pack, words):
+    try:
+        *period, start_mark, end_mark = MARKED[words[0]](book, pack, *map(int, words[1:]))
+    except Refusal as refusal:
+        return refused(refusal)
+    return told(period) if {start_mark, end_mark} <= {*hirgwamo.Mark} else f"the marks {start_mark} {end_mark}"
 
 
 def by_many_numbers(book, pack, rows):
@@ -72,6 +81,18 @@ class ReplayNumbers(Shown):
         for word in [*KINDS, "ok", *(f"no {number}" for number in range(1, 10))]:
             self.assertGreater(seen[word], 1, word)
         self.assertEqual((sum(seen[word] for word in KINDS), seen["ok"]), (LINES, ANSWERED))
+
+    def test_marked_numbers(self):
+        """The calls that tell marks give the stored periods and refusals too."""
+        wrong, count = [], 0
+        for book, pack, rows in cases():
+            for words, answer in rows:
+                if words[0] in PERIODS:
+                    given = by_marked_numbers(book, pack, words)
+                    wrong += [(words, given, answer)] if given != answer else []
+                    count += 1
+        self.show(wrong)
+        self.assertGreater(count, 5000)
 
     def test_many_numbers(self):
         count = 0
@@ -239,3 +260,34 @@ class ReplayHardest(unittest.TestCase):
                 time, start = clock.hardest(at(*given, stored.BERLIN), runs, lasting(width))
                 self.assertEqual((*duration_pair(time), *instant_pair(start)), answer)
         self.assertTrue(seen[0] > 200 and seen[11] > 20 and seen[12] > 5, seen)
+
+
+class ReplayMarks(unittest.TestCase):
+    def asked(self, call, *given):
+        """The numbers of a call, or its refusal's number and place."""
+        try:
+            return list(call(*given))
+        except Refusal as refusal:
+            return [refusal.number, refusal.place]
+
+    def test_marks(self):
+        seen = Counter()
+        for kind, lent, given, number, place, answer in stored.marks():
+            told = self.asked(stored.MARK_CALLS[kind], *lent, *given)
+            self.assertEqual(told, [number, place] if number else answer, (kind, given))
+            seen[kind] += 1
+            seen.update([] if number else [("mark", mark) for mark in answer[stored.MARKS_FROM[kind] :]])
+        for word in [*stored.MARK_CALLS, *(("mark", mark) for mark in hirgwamo.Mark)]:
+            self.assertGreater(seen[word], 0, (word, seen))
+
+    def test_marks_of_datetimes(self):
+        count = 0
+        for kind, (book, *pack), given, number, _, answer in stored.marks():
+            if kind == stored.LOCAL or number or not all(has_datetime(*pair) for pair in (given, answer[:2], answer[2:4])):
+                continue
+            clock = Clock(book, *pack)
+            call = clock.next_period_marked if kind == stored.NEXT else clock.previous_period_marked
+            told = call(at(*given, stored.BERLIN))
+            self.assertEqual([*instant_pair(told.start), *instant_pair(told.end), told.start_mark, told.end_mark], answer)
+            count += 1
+        self.assertGreater(count, 0)

@@ -22,6 +22,7 @@ def asked(clock, zone, seed):
     d = Duration(hours=seed, nanoseconds=seed)
     log = [(timedelta(hours=k * 7), timedelta(hours=5)) for k in range(seed % 9)]
     told = [clock.between(t, t + 40 * DAY), clock.add(t, d), clock.sub(t, d), clock.next_period(t), clock.previous_period(t)]
+    told += [clock.next_period_marked(t), clock.previous_period_marked(t)]
     told += [clock.list(t, t + 300 * DAY), clock.hardest(t, log, DAY), zone.offset(t), zone.next_change(t)]
     return told + [zone.resolve(t.replace(tzinfo=None, **({"nanosecond": 0} if seed % 1000 else {})), seed)]
 

@@ -6,11 +6,11 @@ from collections import Counter
 from datetime import date, datetime, timedelta, timezone
 from zoneinfo import ZoneInfo
 
-from hirgwamo import BeyondDatetime, Instant, InstantOutOfRange, Refusal, Zone, numbers
+from hirgwamo import BeyondDatetime, Instant, InstantOutOfRange, Mark, Refusal, Zone, numbers
 
 from .stored import BERLIN_FILE, DAY, QUESTION, YEAR_1, ZONE_CALLS, at, has_datetime, instant_pair, zone_questions
 
-CALLS = {"offset": numbers.offset, "change": numbers.next_change, "resolve": numbers.resolve}
+CALLS = {"offset": numbers.offset, "change": numbers.next_change, "resolve": numbers.resolve, "resolve_marked": numbers.resolve_marked}
 START = datetime(1970, 1, 1, tzinfo=timezone.utc)
 STEP = timedelta(days=11, hours=7, minutes=13)
 NEAR = [timedelta(hours=hours, minutes=30) for hours in range(-4, 4)]
@@ -32,13 +32,20 @@ def local_time(year, month, day, second, ns):
         return None
 
 
+def by_local_time(zone, call, local, nanosecond):
+    if call == "resolve":
+        return "{} {}".format(*instant_pair(zone.resolve(local, nanosecond)))
+    instant, mark = zone.resolve_marked(local, nanosecond)
+    return "{} {} {:d}".format(*instant_pair(instant), mark)
+
+
 def by_datetimes(file, call, given):
     """The answer of a Zone as the same words; None where a datetime cannot hold what is given."""
     try:
         zone = Zone(file)
-        if call == "resolve":
+        if call in ("resolve", "resolve_marked"):
             local = local_time(*given)
-            return local and "{} {}".format(*instant_pair(zone.resolve(local, given[-1] % 1000)))
+            return local and by_local_time(zone, call, local, given[-1] % 1000)
         if not has_datetime(*given):
             return None
         if call == "offset":
@@ -63,8 +70,12 @@ class Stored(unittest.TestCase):
             self.assertEqual(by_numbers(file, call, given), answer, (call, given))
             seen[call] += 1
             seen[answer[:4]] += 1
+            if call == "resolve_marked" and not answer.startswith("no"):
+                seen["mark " + answer.split(" ")[2]] += 1
         self.assertTrue(all(seen[word] for word in ("offset", "change", "resolve", "neve", "no 5", "no 8")), seen)
+        self.assertTrue(all(seen[f"mark {mark:d}"] for mark in Mark), seen)
         self.assertEqual(seen["offset"] + seen["change"] + seen["resolve"], 521)
+        self.assertEqual(seen["resolve_marked"], seen["resolve"])
 
     def test_datetimes(self):
         seen = Counter()
@@ -120,6 +131,19 @@ class AgainstZoneinfo(unittest.TestCase):
                 expected = local.replace(tzinfo=other).astimezone(timezone.utc)
                 self.assertEqual(zone.resolve(local), expected)
 
+    def test_marks(self):
+        """Where fold changes the offset, a time was skipped (the greater one comes later) or comes twice."""
+        seen = Counter()
+        for zone, other in self.pairs:
+            before = [(t - timedelta(seconds=1)).whole_microseconds().astimezone(other) for t in self.changes(zone, 2045)]
+            for local in (shown.replace(tzinfo=None, fold=0) + less for shown in before for less in NEAR):
+                first, second = (local.replace(tzinfo=other, fold=fold).utcoffset() for fold in (0, 1))
+                expected = Mark.PLAIN if first == second else Mark.SKIPPED if first < second else Mark.REPEATED
+                told = zone.resolve_marked(local)
+                self.assertEqual(told, (zone.resolve(local), expected), local)
+                seen[told.mark] += 1
+        self.assertTrue(seen[Mark.PLAIN] > 1000 and seen[Mark.SKIPPED] > 100 and seen[Mark.REPEATED] > 100, seen)
+
 
 class Zones(unittest.TestCase):
     zone = Zone(BERLIN_FILE)
@@ -148,22 +172,25 @@ class Zones(unittest.TestCase):
 
     def test_refused(self):
         noon = datetime(2026, 7, 1, 12)
-        with self.assertRaises(ValueError) as caught:
-            self.zone.resolve(noon.replace(tzinfo=timezone.utc))
-        self.assertTrue(str(caught.exception).startswith("local is an aware datetime"), caught.exception)
-        self.assertRaises(ValueError, self.zone.resolve, noon.replace(fold=1))
-        for other in (date(2026, 7, 1), "2026-07-01T12:00", None, 5):
-            with self.assertRaises(TypeError) as caught:
-                self.zone.resolve(other)
-            self.assertTrue(str(caught.exception).startswith("local is "), caught.exception)
+        for call in (self.zone.resolve, self.zone.resolve_marked):
+            with self.assertRaises(ValueError) as caught:
+                call(noon.replace(tzinfo=timezone.utc))
+            self.assertTrue(str(caught.exception).startswith("local is an aware datetime"), caught.exception)
+            self.assertRaises(ValueError, call, noon.replace(fold=1))
+            for other in (date(2026, 7, 1), "2026-07-01T12:00", None, 5):
+                with self.assertRaises(TypeError) as caught:
+                    call(other)
+                self.assertTrue(str(caught.exception).startswith("local is "), caught.exception)
         self.assertRaises(InstantOutOfRange, self.zone.offset, datetime(9999, 12, 31, tzinfo=timezone.utc))
         for place in range(5):
             given = [2026, 7, 1, 0, 0]
             for far in (2**63, 2**64 + given[place], -(2**64)):
                 given[place] = far
                 self.assertRaises(InstantOutOfRange, numbers.resolve, BERLIN_FILE, *given)
+                self.assertRaises(InstantOutOfRange, numbers.resolve_marked, BERLIN_FILE, *given)
             given[place] = 1.0
             self.assertRaises(TypeError, numbers.resolve, BERLIN_FILE, *given)
+            self.assertRaises(TypeError, numbers.resolve_marked, BERLIN_FILE, *given)
         for call in (numbers.offset, numbers.next_change):
             self.assertRaises(InstantOutOfRange, call, BERLIN_FILE, 2**64, 0)
             self.assertRaises(InstantOutOfRange, call, BERLIN_FILE, 0, 2**64)
@@ -172,10 +199,11 @@ class Zones(unittest.TestCase):
 
     def test_before_the_year_1(self):
         east = at(YEAR_1).replace(tzinfo=None)
-        with self.assertRaises(BeyondDatetime) as caught:
-            self.zone.resolve(east, 5)
         expected = numbers.resolve(BERLIN_FILE, 1, 1, 1, 0, 5)
-        self.assertEqual((caught.exception.seconds, caught.exception.nanoseconds), expected)
+        for call in (self.zone.resolve, self.zone.resolve_marked):
+            with self.assertRaises(BeyondDatetime) as caught:
+                call(east, 5)
+            self.assertEqual((caught.exception.seconds, caught.exception.nanoseconds), expected)
         self.assertLess(expected[0], YEAR_1)
 
 

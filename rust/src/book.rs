@@ -2,7 +2,7 @@
 
 use jiff::civil::{Date, Time};
 
-use crate::Weekdays;
+use crate::{numbers, Weekdays};
 
 const DEFAULT_ZONE: u8 = 0;
 pub(crate) const WORK: u8 = 1;
@@ -18,8 +18,6 @@ const NO_NAME: &[u8] = b"\0";
 
 const COUNT_BYTES: usize = 4;
 const ENTRY_BYTES: usize = 8;
-const MINUTE: i32 = 60;
-const HOUR: i32 = 60 * MINUTE;
 
 /// A record of a book, and the zone that it names.
 pub(crate) struct Record<'a> {
@@ -43,8 +41,7 @@ impl<'a> Record<'a> {
         let mut record = Record::new(kind, zone);
         record.bytes.push(days.byte());
         for time in times {
-            let second = HOUR * i32::from(time.hour()) + MINUTE * i32::from(time.minute()) + i32::from(time.second());
-            record.bytes.extend(second.to_be_bytes());
+            record.bytes.extend(numbers::second_of_day(time).to_be_bytes());
             record.bytes.extend(time.subsec_nanosecond().to_be_bytes());
         }
         record

@@ -11,6 +11,9 @@
 /// Two numbers: an instant's or a duration's seconds and nanoseconds.
 pub(crate) type Pair = [i64; 2];
 
+/// A local time: year, month, day, second of the day and nanoseconds.
+pub(crate) type Local = [i64; 5];
+
 pub(crate) const VERDICT_SIZE: usize = 1;
 pub(crate) const TIME_SIZE: usize = 3;
 pub(crate) const INSTANT_SIZE: usize = 3;
@@ -19,6 +22,8 @@ pub(crate) const COUNT_SIZE: usize = 1;
 pub(crate) const STRETCH_SIZE: usize = 4;
 pub(crate) const QUERY_SIZE: usize = 5;
 pub(crate) const ANSWER_SIZE: usize = 6;
+pub(crate) const MARKED_PERIOD_SIZE: usize = 6;
+pub(crate) const MARKED_INSTANT_SIZE: usize = 3;
 
 /// What a call returns where it answers; any other number is a refusal's.
 pub(crate) const ANSWERED: u32 = 0;
@@ -106,6 +111,26 @@ extern "C" {
         answer: *mut i64,
         answer_len: usize,
     ) -> u32;
+    fn hirgwamo_next_period_marked(
+        book: *const u8,
+        book_len: usize,
+        pack: *const u8,
+        pack_len: usize,
+        sec: i64,
+        ns: i64,
+        answer: *mut i64,
+        answer_len: usize,
+    ) -> u32;
+    fn hirgwamo_previous_period_marked(
+        book: *const u8,
+        book_len: usize,
+        pack: *const u8,
+        pack_len: usize,
+        sec: i64,
+        ns: i64,
+        answer: *mut i64,
+        answer_len: usize,
+    ) -> u32;
     fn hirgwamo_list(
         book: *const u8,
         book_len: usize,
@@ -117,6 +142,17 @@ extern "C" {
         b_ns: i64,
         stretches: *mut i64,
         stretches_len: usize,
+        answer: *mut i64,
+        answer_len: usize,
+    ) -> u32;
+    fn hirgwamo_resolve_marked(
+        file: *const u8,
+        file_len: usize,
+        year: i64,
+        month: i64,
+        day: i64,
+        second: i64,
+        ns: i64,
         answer: *mut i64,
         answer_len: usize,
     ) -> u32;
@@ -211,6 +247,35 @@ pub(crate) fn next_period(lent: Lent<'_>, t: Pair) -> Result<[i64; PERIOD_SIZE],
 
 pub(crate) fn previous_period(lent: Lent<'_>, t: Pair) -> Result<[i64; PERIOD_SIZE], Refusal> {
     on_instant(hirgwamo_previous_period, lent, t)
+}
+
+pub(crate) fn next_period_marked(lent: Lent<'_>, t: Pair) -> Result<[i64; MARKED_PERIOD_SIZE], Refusal> {
+    on_instant(hirgwamo_next_period_marked, lent, t)
+}
+
+pub(crate) fn previous_period_marked(lent: Lent<'_>, t: Pair) -> Result<[i64; MARKED_PERIOD_SIZE], Refusal> {
+    on_instant(hirgwamo_previous_period_marked, lent, t)
+}
+
+pub(crate) fn resolve_marked(file: &[u8], local: Local) -> Result<[i64; MARKED_INSTANT_SIZE], Refusal> {
+    let mut answer = [0; MARKED_INSTANT_SIZE];
+    let [year, month, day, second, ns] = local;
+    // SAFETY: pointers and lengths are those of a slice and of an array of this
+    // function, which does not overlap it; any numbers are allowed.
+    let number = unsafe {
+        hirgwamo_resolve_marked(
+            file.as_ptr(),
+            file.len(),
+            year,
+            month,
+            day,
+            second,
+            ns,
+            answer.as_mut_ptr(),
+            answer.len(),
+        )
+    };
+    told(number, answer)
 }
 
 /// Writes the stretches to the front of `stretches` and tells how many there are.

@@ -49,7 +49,8 @@
 //! - Zone files come from a folder alone, not from a database that jiff has compiled
 //!   in. `UTC` and `Etc/Unknown` work on a system without zone files too, where jiff
 //!   0.2.37 knows no name.
-//! - [`Schedule::list`], [`Schedule::answers`], [`Schedule::book`],
+//! - [`Schedule::list`], [`Schedule::answers`], [`Schedule::next_period_marked`],
+//!   [`Schedule::previous_period_marked`], [`resolve_marked`], [`Schedule::book`],
 //!   [`Schedule::pack`] and [`version`] are added.
 //!
 //! On the zones of the tz database no answer was seen to differ. `docs/DIFFERENCES.md`
@@ -81,6 +82,7 @@ mod book;
 mod error;
 #[allow(unsafe_code)]
 mod ffi;
+mod marks;
 mod numbers;
 mod rules;
 mod schedule;
@@ -89,6 +91,7 @@ mod zones;
 
 pub use batch::{Answer, Query};
 pub use error::Error;
+pub use marks::{resolve_marked, Mark, MarkedInstant, MarkedPeriod};
 pub use rules::{Break, Holidays, Rule, WorkDay};
 pub use schedule::{Schedule, ScheduleBuilder};
 pub use weekdays::Weekdays;

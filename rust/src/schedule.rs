@@ -8,7 +8,7 @@ use crate::batch::{self, Answer, Query};
 use crate::book::{self, Record};
 use crate::ffi::{self, Lent, Refusal, STRETCH_SIZE};
 use crate::numbers::{duration, instant, of_duration, of_instant, period};
-use crate::{zones, Error, Rule};
+use crate::{zones, Error, MarkedPeriod, Rule};
 
 const BOOK_LIMIT: u32 = 2;
 const UNKNOWN_ZONE: u32 = 4;
@@ -227,6 +227,69 @@ impl Schedule {
         Ok(period(&numbers))
     }
 
+    /// The period of [`next_period`](Self::next_period), and the marks of both its
+    /// ends: whether a change of the clock skipped or repeated the local time at which
+    /// work, a break or a holiday begins or ends there. Workclock has no such call.
+    ///
+    /// An end that was moved to `t` or to the search limit is [`Mark::Plain`](crate::Mark::Plain).
+    ///
+    /// # Errors
+    ///
+    /// Those of [`add`](Self::add).
+    ///
+    /// # Examples
+    ///
+    /// ```
+    /// use hirgwamo::{Break, Mark, Schedule, Weekdays, WorkDay};
+    /// use jiff::civil::{time, Weekday};
+    /// use jiff::Timestamp;
+    ///
+    /// let midnight = time(0, 0, 0, 0);
+    /// let sunday = Weekdays::from_iter([Weekday::Sunday]);
+    /// let plant = Schedule::builder()
+    ///     .time_zone("Europe/Berlin")
+    ///     .rule(WorkDay::new(midnight, midnight, Weekdays::ALL))
+    ///     .rule(Break::new(time(2, 30, 0, 0), time(4, 0, 0, 0), sunday))
+    ///     .build()?;
+    /// let saturday: Timestamp = "2026-03-28T12:00:00Z".parse()?;
+    /// let period = plant.next_period_marked(saturday)?;
+    /// assert_eq!(period.span, plant.next_period(saturday)?);
+    /// assert_eq!(period.span.end.to_string(), "2026-03-29T01:30:00Z"); // 02:30 is skipped
+    /// assert_eq!((period.start, period.end), (Mark::Plain, Mark::Skipped));
+    /// # Ok::<(), Box<dyn std::error::Error>>(())
+    /// ```
+    pub fn next_period_marked(&self, t: impl Into<Timestamp>) -> Result<MarkedPeriod, Error> {
+        let numbers = ffi::next_period_marked(self.lent(), of_instant(t.into())).map_err(search_error)?;
+        Ok(MarkedPeriod::of_numbers(numbers))
+    }
+
+    /// The period of [`previous_period`](Self::previous_period), and the marks of both
+    /// its ends, as [`next_period_marked`](Self::next_period_marked) tells them.
+    ///
+    /// # Errors
+    ///
+    /// Those of [`add`](Self::add).
+    ///
+    /// # Examples
+    ///
+    /// ```
+    /// use hirgwamo::{Mark, Schedule, Weekdays, WorkDay};
+    /// use jiff::civil::{time, Weekday};
+    /// use jiff::Timestamp;
+    ///
+    /// let night = WorkDay::new(time(22, 0, 0, 0), time(2, 30, 0, 0), Weekdays::from_iter([Weekday::Saturday]));
+    /// let schedule = Schedule::builder().time_zone("Europe/Berlin").rule(night).build()?;
+    /// let sunday: Timestamp = "2026-10-25T12:00:00Z".parse()?;
+    /// let period = schedule.previous_period_marked(sunday)?;
+    /// assert_eq!(period.span.end.to_string(), "2026-10-25T00:30:00Z"); // the first 02:30 of two
+    /// assert_eq!((period.start, period.end), (Mark::Plain, Mark::Repeated));
+    /// # Ok::<(), Box<dyn std::error::Error>>(())
+    /// ```
+    pub fn previous_period_marked(&self, t: impl Into<Timestamp>) -> Result<MarkedPeriod, Error> {
+        let numbers = ffi::previous_period_marked(self.lent(), of_instant(t.into())).map_err(search_error)?;
+        Ok(MarkedPeriod::of_numbers(numbers))
+    }
+
     /// All working periods from `a` to `b` in their order, cut at `a` and at `b`
     /// and nowhere else; none where `b` is not behind `a`. Workclock has no such
     /// call.
@@ -420,6 +483,14 @@ fn build_error(refusal: Refusal, records: &[Record<'_>]) -> Error {
     }
 }
 
+/// The error that a refusal of a call on a zone file stands for.
+pub(crate) fn zone_error(refusal: Refusal, zone: &str) -> Error {
+    match refusal.number {
+        ZONE_UNUSABLE => Error::UnusableZone { name: zone.into() },
+        _ => refused(refusal),
+    }
+}
+
 /// The error that a refusal of a search stands for.
 pub(crate) fn search_error(refusal: Refusal) -> Error {
     match refusal.number {
@@ -452,6 +523,11 @@ mod tests {
         assert_eq!(search_error(refusal(6)), Error::NoWorkingTime);
         assert_eq!(search_error(refusal(7)), Error::OutOfRange);
         assert_eq!(search_error(refusal(8)), Error::OutOfRange);
+    }
+
+    #[test]
+    fn a_zone_file_is_not_usable() {
+        assert_eq!(zone_error(refusal(5), "A/B"), Error::UnusableZone { name: "A/B".into() });
     }
 
     #[test]

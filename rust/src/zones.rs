@@ -35,6 +35,17 @@ const UTC_FILE: &[u8] = b"TZif2\0\0\0\0\0\0\0\0\0\0\0\0\0\0\0\
     \0\0\0\0\0\0UTC\0\
     \nUTC0\n";
 
+/// The zone file of a name that a book can have; `None` where there is none.
+pub(crate) fn file(name: &str) -> Option<Vec<u8>> {
+    if !book::can_be_written(name) {
+        return None;
+    }
+    if is_built_in(name) {
+        return Some(UTC_FILE.to_vec());
+    }
+    zone_file(&zone_folder()?, name)
+}
+
 /// A pack of those of the named zones that there are, each once; `None` where it is
 /// too long for its directory.
 pub(crate) fn pack<'a>(names: impl Iterator<Item = &'a str>) -> Option<Vec<u8>> {
@@ -143,5 +154,11 @@ mod tests {
     #[test]
     fn names_that_no_pack_can_have_are_left_out() {
         assert_eq!(pack(["", &"n".repeat(65)].into_iter()), Some(vec![0; 4]));
+    }
+
+    #[test]
+    fn built_in_zones_have_files() {
+        assert_eq!(file("utc").as_deref(), Some(UTC_FILE));
+        assert_eq!([file(""), file(&"n".repeat(65))], [None, None]);
     }
 }

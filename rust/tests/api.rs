@@ -4,7 +4,10 @@ use std::collections::hash_map::DefaultHasher;
 use std::fmt::Debug;
 use std::hash::{Hash, Hasher};
 
-use hirgwamo::{Answer, Break, Error, Holidays, Query, Rule, Schedule, ScheduleBuilder, Weekdays, WorkDay};
+use hirgwamo::{
+    resolve_marked, Answer, Break, Error, Holidays, Mark, MarkedInstant, MarkedPeriod, Query, Rule, Schedule,
+    ScheduleBuilder, Weekdays, WorkDay,
+};
 use jiff::civil::{date, time, Date, Weekday};
 use jiff::{SignedDuration, Timestamp, ToSpan, Zoned};
 
@@ -43,6 +46,9 @@ fn types_have_the_traits_of_the_original() {
     compared::<Error>();
     compared::<Query>();
     compared::<Answer>();
+    compared::<Mark>();
+    compared::<MarkedInstant>();
+    compared::<MarkedPeriod>();
     copied::<Weekdays>();
     let _: ScheduleBuilder = ScheduleBuilder::default();
     let _: Box<dyn std::error::Error + Send + Sync> = Box::new(Error::NoWorkingTime);
@@ -158,6 +164,8 @@ fn the_range_has_ends() {
     assert_eq!(schedule.add(Timestamp::MAX, SignedDuration::MIN), Err(Error::OutOfRange));
     assert_eq!(schedule.next_period(Timestamp::MAX), Err(Error::OutOfRange));
     assert_eq!(schedule.previous_period(Timestamp::MIN), Err(Error::OutOfRange));
+    assert_eq!(schedule.next_period_marked(Timestamp::MAX), Err(Error::OutOfRange));
+    assert_eq!(schedule.previous_period_marked(Timestamp::MIN), Err(Error::OutOfRange));
 }
 
 #[test]
@@ -183,6 +191,72 @@ fn many_queries_are_answered_as_single_ones_are() {
     ];
     assert_eq!(answers, expected);
     assert_eq!(schedule.answers(&[]), []);
+}
+
+/// The worked examples of docs/FORMATS.md: work all day, and a break on Sundays from
+/// 02:30 to 04:00.
+#[test]
+fn periods_have_marks() {
+    let (midnight, sunday) = (time(0, 0, 0, 0), Weekdays::from_iter([Weekday::Sunday]));
+    let rest = Break::new(time(2, 30, 0, 0), time(4, 0, 0, 0), sunday);
+    let always = WorkDay::new(midnight, midnight, Weekdays::ALL);
+    let schedule = Schedule::builder().time_zone("Europe/Berlin").rule(always.clone()).rule(rest).build().unwrap();
+    let marked = |start: &str, end: &str, marks: [Mark; 2]| {
+        Ok(MarkedPeriod { span: instant(start)..instant(end), start: marks[0], end: marks[1] })
+    };
+    let (saturday, skipped) = ("2026-03-28T12:00Z", "2026-03-29T01:30Z");
+    let week = marked("2026-03-22T03:00Z", skipped, [Mark::Plain, Mark::Skipped]);
+    let cut = marked(saturday, skipped, [Mark::Plain, Mark::Skipped]);
+    assert_eq!(schedule.next_period_marked(instant(saturday)), cut);
+    assert_eq!(schedule.next_period_marked(instant("2026-03-22T01:30Z")), week);
+    assert_eq!(schedule.previous_period_marked(instant(skipped)), week);
+    assert_eq!(schedule.previous_period_marked(instant("2026-03-29T01:33:20Z")), week);
+    let inside = "2026-03-29T01:29:59Z";
+    let before = marked("2026-03-22T03:00Z", inside, [Mark::Plain, Mark::Plain]);
+    assert_eq!(schedule.previous_period_marked(instant(inside)), before);
+    let evening = "2026-10-24T20:00Z";
+    let twice = marked(evening, "2026-10-25T00:30Z", [Mark::Plain, Mark::Repeated]);
+    assert_eq!(schedule.next_period_marked(instant(evening)), twice);
+    let utc = Schedule::builder().rule(always).build().unwrap();
+    let last = Timestamp::MAX - 1.hours();
+    let beyond = MarkedPeriod { span: last..Timestamp::MAX, start: Mark::Plain, end: Mark::Beyond };
+    assert_eq!(utc.next_period_marked(last), Ok(beyond));
+}
+
+/// Two shifts that start at one instant, of which one was skipped.
+#[test]
+fn of_two_marks_the_greater_is_kept() {
+    let sunday = Weekdays::from_iter([Weekday::Sunday]);
+    let from = |hour, minute| WorkDay::new(time(hour, minute, 0, 0), time(6, 0, 0, 0), sunday);
+    let builder = Schedule::builder().time_zone("Europe/Berlin").rule(from(3, 30)).rule(from(2, 30));
+    let schedule = builder.build().unwrap();
+    let (start, end) = (instant("2026-03-29T01:30Z"), instant("2026-03-29T04:00Z"));
+    for t in [instant("2026-03-28T12:00Z"), start] {
+        let told = MarkedPeriod { span: start..end, start: Mark::Skipped, end: Mark::Plain };
+        assert_eq!(schedule.next_period_marked(t), Ok(told));
+    }
+    let later = start + 1.second();
+    let told = MarkedPeriod { span: later..end, start: Mark::Plain, end: Mark::Plain };
+    assert_eq!(schedule.next_period_marked(later), Ok(told));
+}
+
+#[test]
+fn local_times_have_marks() {
+    let told = |local| resolve_marked("europe/BERLIN", local);
+    let expected = |text: &str, mark| Ok(MarkedInstant { instant: instant(text), mark });
+    let (march, october) = (date(2026, 3, 29), date(2026, 10, 25));
+    assert_eq!(told(march.at(2, 30, 0, 0)), expected("2026-03-29T01:30Z", Mark::Skipped));
+    assert_eq!(told(march.at(3, 0, 0, 0)), expected("2026-03-29T01:00Z", Mark::Plain));
+    assert_eq!(told(march.at(1, 59, 59, 7)), expected("2026-03-29T00:59:59.000000007Z", Mark::Plain));
+    assert_eq!(told(october.at(2, 30, 0, 0)), expected("2026-10-25T00:30Z", Mark::Repeated));
+    assert_eq!(told(october.at(3, 0, 0, 0)), expected("2026-10-25T02:00Z", Mark::Plain));
+    for (date, instant) in [(Date::MIN, Timestamp::MIN), (Date::MAX, Timestamp::MAX)] {
+        assert_eq!(resolve_marked("UTC", date.at(0, 0, 0, 0)), Ok(MarkedInstant { instant, mark: Mark::Beyond }));
+    }
+    let long = "x".repeat(65);
+    for name in ["", "No/Such", "../zoneinfo/Europe/Berlin", &long] {
+        assert_eq!(resolve_marked(name, march.at(0, 0, 0, 0)), Err(unknown(name)));
+    }
 }
 
 /// A listing that needs far more room than the first one has.

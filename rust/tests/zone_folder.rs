@@ -4,8 +4,8 @@ use std::fs;
 use std::os::unix::fs::symlink;
 use std::path::{Path, PathBuf};
 
-use hirgwamo::{Error, Schedule, Weekdays, WorkDay};
-use jiff::civil::time;
+use hirgwamo::{resolve_marked, Error, Mark, Schedule, Weekdays, WorkDay};
+use jiff::civil::{date, time};
 use jiff::Timestamp;
 
 /// A zone file of version 2 with one type of this offset, and without a footer.
@@ -96,6 +96,20 @@ fn names_in_a_folder(folder: &Path) {
     assert_eq!(opens("LONG"), unusable("LONG"));
 }
 
+/// Local times are asked of the same files. The folder is the one that was filled.
+fn local_times_in_a_folder() {
+    let instant = |name: &str| {
+        let told = resolve_marked(name, date(1970, 1, 1).at(12, 0, 0, 0))?;
+        assert_eq!(told.mark, Mark::Plain);
+        Ok(told.instant.as_second() / 3600)
+    };
+    for (name, hour) in [("Made/Two", 10), ("MADE/three", 9), ("UTC", 12)] {
+        assert_eq!(instant(name), Ok(hour), "{name}");
+    }
+    assert_eq!(instant("short"), unusable("short"));
+    assert_eq!(instant("posix/Made/Two"), unknown("posix/Made/Two"));
+}
+
 /// A folder that has no file is passed over, and so is one that is not there.
 fn folders_without_files(folder: &Path) {
     let usual = PathBuf::from("/usr/share/zoneinfo/Asia/Tokyo");
@@ -114,6 +128,7 @@ fn folders_without_files(folder: &Path) {
 fn zones_come_from_the_folder_alone() {
     let base = Path::new(env!("CARGO_TARGET_TMPDIR")).join(format!("zones-{}", std::process::id()));
     names_in_a_folder(&base.join("zones"));
+    local_times_in_a_folder();
     folders_without_files(&base.join("none"));
     fs::remove_dir_all(base).unwrap();
 }

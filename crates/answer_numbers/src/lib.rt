@@ -55,6 +55,15 @@ pub fn give_four(answer: &mut [i64], a: i64, b: i64, c: i64, d: i64) -> u32
     ANSWERED
 }
 
+// Gives six numbers.
+pub fn give_six(answer: &mut [i64], a: i64, b: i64, c: i64, d: i64, e: i64, f: i64) -> u32
+    requires { ⌜ 6 ≤ length (now answer) ⌝ }
+    ensures { λ r. ⌜ EndsAs r (now (answer .exit)) (answering (gives («a» ∷ «b» ∷ «c» ∷ «d» ∷ «e» ∷ «f» ∷ [])) (now (answer .entry))) ⌝ }
+{
+    put_six(answer, 0, a, b, c, d, e, f);
+    ANSWERED
+}
+
 // Gives a refusal's place, and returns its number.
 pub fn refuse(answer: &mut [i64], number: u32, place: usize) -> u32
     requires { ⌜ (1 ≤ length (now answer)) × (place < 2 ^ 63) ⌝ }

@@ -4,7 +4,7 @@ use mathlib.Core.List.{List, [], _∷_}
 use Prim.Native.Nat.{ℕ, _*_, _^_, _≤_, _<_}
 use native.Mathlib.Omega.{arith}
 use lib.IntN.{ℤ, pos}
-use lib.ListN.{length}
+use lib.ListN.{length, take}
 use borrow.Author.Tests.{lt-ltb, le-ltb}
 use Rattle.model.specs.Answer.{Answer, gives, refuses, _>>=_}
 use Rattle.model.specs.Calls.{Reply, Listing, said, mostOf, stretchCount, numbersAfter}
@@ -56,6 +56,10 @@ module _ {v : Answer (List ℤ)} {c : ℕ} {d : Answer Reply} (k : KeepsReply v 
 
 pub numbers : {l m : List ℤ} → l ≡ m → _≡_ {A = Answer (List ℤ)} (gives l) (gives m)
 numbers p = ap gives p
+
+-- the instant of a local time, without its mark
+abbrev pub firstTwo : Answer (List ℤ) → Answer (List ℤ)
+firstTwo a = a >>= λ l. gives (take 2 l)
 
 -- ---- the listing
 

@@ -14,7 +14,7 @@ use Rattle.answer_numbers.specs.Outcomes.{outcome, EndsAs}
 
 -- "major * 1,000,000 + minor * 1,000 + patch"
 abbrev pub version : ℕ
-version = 1000000
+version = 1001000
 
 -- ---- how many numbers each answer has
 
@@ -30,6 +30,9 @@ instantSize = 3
 abbrev pub periodSize : ℕ
 periodSize = 4
 
+abbrev pub markedPeriodSize : ℕ
+markedPeriodSize = 6
+
 abbrev pub countSize : ℕ
 countSize = 1
 
@@ -44,6 +47,9 @@ changeSize = 3
 
 abbrev pub resolvedSize : ℕ
 resolvedSize = 2
+
+abbrev pub markedInstantSize : ℕ
+markedInstantSize = 3
 
 -- ---- which numbers
 

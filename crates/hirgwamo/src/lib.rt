@@ -5,19 +5,20 @@ ghost use mathlib.Core.Path.{_≡_};
 ghost use Rattle.model.specs.Build as books;
 ghost use Rattle.model.specs.Calls as model;
 ghost use Rattle.model.specs.Hardest as logs;
+ghost use Rattle.model.specs.Marks as marks;
 ghost use Rattle.model.specs.ZoneCalls as zones;
-ghost use Rattle.hirgwamo.specs.Part.{version, Tells, TellsList, verdict, withCount, oneNumber, whenChanged, verdictSize, betweenSize, instantSize, periodSize, stretchSize, offsetSize, changeSize, resolvedSize};
+ghost use Rattle.hirgwamo.specs.Part.{version, Tells, TellsList, verdict, withCount, oneNumber, whenChanged, verdictSize, betweenSize, instantSize, periodSize, markedPeriodSize, stretchSize, offsetSize, changeSize, resolvedSize, markedInstantSize};
 use schedule::MoveAnswer;
 use schedule::TimeAnswer;
 use schedule_hardest::HardestAnswer;
 use schedule_listing::Listing;
-use schedule_periods::PeriodAnswer;
+use schedule_periods::MarkedPeriodAnswer;
 use zone_calls::ChangeAnswer;
 use zone_calls::OffsetAnswer;
 use zone_calls::ResolveAnswer;
 
 // Major times 1,000,000, minor times 1,000, patch.
-pub const VERSION: u32 = 1000000;
+pub const VERSION: u32 = 1001000;
 
 // The numbers of each answer.
 pub const VERDICT_SIZE: usize = 1;
@@ -28,6 +29,8 @@ pub const INSTANT_SIZE: usize = 3;
 
 pub const PERIOD_SIZE: usize = 4;
 
+pub const MARKED_PERIOD_SIZE: usize = 6;
+
 pub const COUNT_SIZE: usize = 1;
 
 pub const STRETCH_SIZE: usize = 4;
@@ -37,6 +40,8 @@ pub const OFFSET_SIZE: usize = 1;
 pub const CHANGE_SIZE: usize = 3;
 
 pub const RESOLVED_SIZE: usize = 2;
+
+pub const MARKED_INSTANT_SIZE: usize = 3;
 
 // ---- books
 
@@ -155,8 +160,8 @@ pub extern "C" fn hirgwamo_next_period(
         return answer_numbers::TOO_SHORT;
     }
     match schedule_periods::next_period(book, pack, sec, ns) {
-        PeriodAnswer::Is(a, b, c, d) => answer_numbers::give_four(answer, a, b, c, d),
-        PeriodAnswer::Refused(number, place) => answer_numbers::refuse(answer, number, place),
+        MarkedPeriodAnswer::Is(a, b, c, d, _, _) => answer_numbers::give_four(answer, a, b, c, d),
+        MarkedPeriodAnswer::Refused(number, place) => answer_numbers::refuse(answer, number, place),
     }
 }
 
@@ -176,8 +181,64 @@ pub extern "C" fn hirgwamo_previous_period(
         return answer_numbers::TOO_SHORT;
     }
     match schedule_periods::previous_period(book, pack, sec, ns) {
-        PeriodAnswer::Is(a, b, c, d) => answer_numbers::give_four(answer, a, b, c, d),
-        PeriodAnswer::Refused(number, place) => answer_numbers::refuse(answer, number, place),
+        MarkedPeriodAnswer::Is(a, b, c, d, _, _) => answer_numbers::give_four(answer, a, b, c, d),
+        MarkedPeriodAnswer::Refused(number, place) => answer_numbers::refuse(answer, number, place),
+    }
+}
+
+// The period at an instant or the first one after it, with the marks of both ends.
+#[no_mangle]
+pub extern "C" fn hirgwamo_next_period_marked(
+    book: &[u8],
+    pack: &[u8],
+    sec: i64,
+    ns: i64,
+    answer: &mut [i64],
+) -> u32
+    ensures { λ r. ⌜ Tells markedPeriodSize (marks.nextMarked (book .entry .now) (pack .entry .now) «sec» «ns») r (answer .entry .now) (answer .exit .now) ⌝ }
+{
+    if answer.len() < MARKED_PERIOD_SIZE {
+        return answer_numbers::TOO_SHORT;
+    }
+    match schedule_periods::next_period(book, pack, sec, ns) {
+        MarkedPeriodAnswer::Is(a, b, c, d, m, n) => answer_numbers::give_six(
+            answer,
+            a,
+            b,
+            c,
+            d,
+            m as i64,
+            n as i64,
+        ),
+        MarkedPeriodAnswer::Refused(number, place) => answer_numbers::refuse(answer, number, place),
+    }
+}
+
+// The last period that begins before an instant, with the marks of both ends.
+#[no_mangle]
+pub extern "C" fn hirgwamo_previous_period_marked(
+    book: &[u8],
+    pack: &[u8],
+    sec: i64,
+    ns: i64,
+    answer: &mut [i64],
+) -> u32
+    ensures { λ r. ⌜ Tells markedPeriodSize (marks.previousMarked (book .entry .now) (pack .entry .now) «sec» «ns») r (answer .entry .now) (answer .exit .now) ⌝ }
+{
+    if answer.len() < MARKED_PERIOD_SIZE {
+        return answer_numbers::TOO_SHORT;
+    }
+    match schedule_periods::previous_period(book, pack, sec, ns) {
+        MarkedPeriodAnswer::Is(a, b, c, d, m, n) => answer_numbers::give_six(
+            answer,
+            a,
+            b,
+            c,
+            d,
+            m as i64,
+            n as i64,
+        ),
+        MarkedPeriodAnswer::Refused(number, place) => answer_numbers::refuse(answer, number, place),
     }
 }
 
@@ -277,7 +338,30 @@ pub extern "C" fn hirgwamo_resolve(
         return answer_numbers::TOO_SHORT;
     }
     match zone_calls::resolve_in(file, year, month, day, second, ns) {
-        ResolveAnswer::At(s, n) => answer_numbers::give_two(answer, s, n),
+        ResolveAnswer::At(s, n, _) => answer_numbers::give_two(answer, s, n),
+        ResolveAnswer::Refused(number, place) => answer_numbers::refuse(answer, number, place),
+    }
+}
+
+// The instant of a local time, with its mark.
+#[no_mangle]
+pub extern "C" fn hirgwamo_resolve_marked(
+    file: &[u8],
+    year: i64,
+    month: i64,
+    day: i64,
+    second: i64,
+    ns: i64,
+    answer: &mut [i64],
+) -> u32
+    ensures { λ r. ⌜ Tells markedInstantSize (marks.resolveMarkedCall (file .entry .now) «year» «month» «day» «second» «ns»)
+        r (answer .entry .now) (answer .exit .now) ⌝ }
+{
+    if answer.len() < MARKED_INSTANT_SIZE {
+        return answer_numbers::TOO_SHORT;
+    }
+    match zone_calls::resolve_in(file, year, month, day, second, ns) {
+        ResolveAnswer::At(s, n, m) => answer_numbers::give_three(answer, s, n, m as i64),
         ResolveAnswer::Refused(number, place) => answer_numbers::refuse(answer, number, place),
     }
 }

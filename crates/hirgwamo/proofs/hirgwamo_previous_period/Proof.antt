@@ -6,9 +6,9 @@ use mathlib.Core.Path.{sym, ap, _∙_}
 use Rattle.answer_numbers.specs.Written.{stored, no-more}
 use Rattle.hirgwamo.proofs.Told as T
 use Rattle.laws_part.specs.Replies.{period-fits}
-use Rattle.schedule_periods.specs.Replies.{periodIs}
+use Rattle.schedule_periods.specs.Replies.{markedPeriodIs}
+use Rattle.laws_marks.specs.Periods.{unmarkedPeriod, previous-forgets}
 use Rattle.model.specs.Walk.{back}
-use Rattle.model.specs.Calls.{said}
 use borrow.Author.Needs.{needs}
 use Rattle.hirgwamo.proofs.hirgwamo_previous_period.Statement.{statement}
 use Rattle.hirgwamo.proofs.hirgwamo_previous_period.Tie as tie
@@ -29,19 +29,19 @@ enum-known-number : tie.Need-enum-known-number
 enum-known-number c = search needs
 
 refuse-requires : tie.Need-refuse-requires
-refuse-requires c κs = let h = T.said-place (period-fits _ _ back _ _) (sym (ap said (c .before .before .before .before .previous-period .ensures)) ∙ ap (λ r. said (periodIs r)) (c .before .before .number .given .1)) in (omega arith, omega arith)
+refuse-requires c κs = let h = T.said-place (period-fits _ _ back _ _) (sym (previous-forgets _ _ _ _) ∙ ap unmarkedPeriod (sym (c .before .before .before .before .previous-period .ensures) ∙ ap markedPeriodIs (c .before .before .number .given .1))) in (omega arith, omega arith)
 
 same-length : tie.Need-same-length
 same-length c = search needs
 
 returns-2 : tie.Need-returns-2
-returns-2 c = T.told _ _ _ (c .before .before .before .before .before .before .before .if1 .left) (T.numbers (stored (toZ-ofZ {w = w64} (record { sfits = (c .before .before .before .known-told .given .0 .1) })) (stored (toZ-ofZ {w = w64} (record { sfits = (c .before .before .before .known-told .given .1 .0 .1) })) (stored (toZ-ofZ {w = w64} (record { sfits = (c .before .before .before .known-told .given .1 .1 .0 .1) })) (stored (toZ-ofZ {w = w64} (record { sfits = (c .before .before .before .known-told .given .1 .1 .1 .0 .1) })) no-more)))) ∙ sym (ap (λ r. said (periodIs r)) (c .before .before .before .before .a .given .1)) ∙ ap said (rw (toZ-ofZ (c .before .before .before .before .before .before .before .before .before .before .fits .sec), toZ-ofZ (c .before .before .before .before .before .before .before .before .before .before .fits .ns)) at (c .before .before .before .before .before .before .previous-period .ensures))) (c .before .give-four .ensures)
+returns-2 c = T.told _ _ _ (c .before .before .before .before .before .before .before .if1 .left) (T.numbers (stored (toZ-ofZ {w = w64} (record { sfits = (c .before .before .before .known-told .given .0 .1) })) (stored (toZ-ofZ {w = w64} (record { sfits = (c .before .before .before .known-told .given .1 .0 .1) })) (stored (toZ-ofZ {w = w64} (record { sfits = (c .before .before .before .known-told .given .1 .1 .0 .1) })) (stored (toZ-ofZ {w = w64} (record { sfits = (c .before .before .before .known-told .given .1 .1 .1 .0 .1) })) no-more)))) ∙ sym (ap (λ r. unmarkedPeriod (markedPeriodIs r)) (c .before .before .before .before .a .given .1)) ∙ ap unmarkedPeriod (rw (toZ-ofZ (c .before .before .before .before .before .before .before .before .before .before .fits .sec), toZ-ofZ (c .before .before .before .before .before .before .before .before .before .before .fits .ns)) at (c .before .before .before .before .before .before .previous-period .ensures)) ∙ previous-forgets _ _ _ _) (c .before .give-four .ensures)
 
 same-length-2 : tie.Need-same-length-2
 same-length-2 c = search needs
 
 returns-3 : tie.Need-returns-3
-returns-3 c = T.told _ _ _ (c .before .before .before .before .before .before .before .if1 .left) (sym (ap (λ r. said (periodIs r)) (c .before .before .before .before .number .given .1)) ∙ ap said (rw (toZ-ofZ (c .before .before .before .before .before .before .before .before .before .before .fits .sec), toZ-ofZ (c .before .before .before .before .before .before .before .before .before .before .fits .ns)) at (c .before .before .before .before .before .before .previous-period .ensures))) (c .before .refuse .ensures)
+returns-3 c = T.told _ _ _ (c .before .before .before .before .before .before .before .if1 .left) (sym (ap (λ r. unmarkedPeriod (markedPeriodIs r)) (c .before .before .before .before .number .given .1)) ∙ ap unmarkedPeriod (rw (toZ-ofZ (c .before .before .before .before .before .before .before .before .before .before .fits .sec), toZ-ofZ (c .before .before .before .before .before .before .before .before .before .before .fits .ns)) at (c .before .before .before .before .before .before .previous-period .ensures)) ∙ previous-forgets _ _ _ _) (c .before .refuse .ensures)
 
 pub hirgwamo-previous-period-spec : {M : Type 1} → statement M
 hirgwamo-previous-period-spec =

@@ -2,13 +2,15 @@
 //! same questions, and compares every answer and every error.
 //!
 //!     random schedules SEED COUNT   a plain schedule in each zone of the system, and
-//!                                   COUNT random ones
+//!                                   COUNT random ones; local times near the changes
+//!                                   of each zone, with their marks
 //!     random names FOLDER           every name below the zone folder that is in use
 //!
 //! Prints how much was compared and each difference, and ends with 1 if there is
 //! one that is not known.
 
 mod compared;
+mod local;
 mod names;
 mod plan;
 mod questions;

@@ -3,10 +3,11 @@
 use std::ops::Range;
 use std::thread;
 
-use hirgwamo::{Answer, Query, Schedule};
+use hirgwamo::{Answer, Mark, Query, Schedule};
 use jiff::{SignedDuration, Timestamp};
 
 use crate::compared::Compared;
+use crate::local;
 use crate::plan::{Days, Plan, PlanRule, Planner};
 use crate::questions::{abouts, Asker};
 use crate::rng::Rng;
@@ -29,7 +30,7 @@ const UNKNOWN: &str = "schedules refused by both: UnknownZone";
 const NO_WORK: &str = "schedules refused by both: NoWorkingTime";
 const LIMITS: &str = "known difference: schedules refused here alone, TooManyRules";
 const LEAST_ANSWERS: usize = 20_000;
-const EXPECTED: [&str; 12] = [
+const EXPECTED: [&str; 20] = [
     ANSWERS,
     "answers: times",
     "answers: instants",
@@ -42,6 +43,14 @@ const EXPECTED: [&str; 12] = [
     LIMITS,
     "lists compared",
     "lists of more stretches than the first room",
+    "ends of periods: plain",
+    "ends of periods: repeated",
+    "ends of periods: skipped",
+    "ends of periods: beyond the range",
+    "local times: plain",
+    "local times: repeated",
+    "local times: skipped",
+    "local times: beyond the range",
 ];
 const FIRST_ROOM: usize = 64;
 const TOO_MANY: &str = "TooManyRules: ";
@@ -55,6 +64,7 @@ pub fn run(seed: u64, count: usize) -> bool {
     for (number, name) in all.iter().enumerate() {
         let mut rng = Rng::new(seed.wrapping_add(number as u64));
         let abouts = abouts(&mut rng, std::slice::from_ref(name));
+        local::compare(name, &abouts, &mut compared);
         let asker = Asker { rng: &mut rng, abouts: &abouts, long: false };
         one(&Plan::plain(name), &format!("plain schedule {number}"), PLAIN_QUERIES, asker, &mut compared);
     }
@@ -91,6 +101,7 @@ fn one(plan: &Plan, title: &str, queries: usize, mut asker: Asker<'_>, compared:
     let about = |what: String| format!("{title}, {what}: {plan:?}");
     let told = compare_queries(&theirs, &mine, &queries, compared, &about);
     compare_answers(&mine, &queries, &told, compared, &about);
+    compare_marked(&mine, &queries, &told, compared, &about);
     for _ in 0..LISTS {
         compare_list(&theirs, &mine, asker.listed(), compared, &about);
     }
@@ -188,6 +199,33 @@ fn compare_answers(mine: &Schedule, queries: &[Query], told: &[Told], compared: 
     }
     for ((query, single), answer) in queries.iter().zip(told).zip(&answers) {
         compared.same(single, answer, || about(format!("`answers` on {query:?}")));
+    }
+}
+
+/// The calls for periods that tell marks, against those that do not.
+fn compare_marked(mine: &Schedule, queries: &[Query], told: &[Told], compared: &mut Compared, about: About<'_>) {
+    for (query, single) in queries.iter().zip(told) {
+        let marked = match *query {
+            Query::Next(t) => mine.next_period_marked(t),
+            Query::Previous(t) => mine.previous_period_marked(t),
+            _ => continue,
+        };
+        for mark in marked.iter().flat_map(|period| [period.start, period.end]) {
+            compared.count(
+                match mark {
+                    Mark::Plain => "ends of periods: plain",
+                    Mark::Repeated => "ends of periods: repeated",
+                    Mark::Skipped => "ends of periods: skipped",
+                    Mark::Beyond => "ends of periods: beyond the range",
+                },
+                1,
+            );
+        }
+        let given = match marked {
+            Ok(period) => Told::Period(period.span),
+            Err(error) => Told::Error(format!("{error:?}: {error}")),
+        };
+        compared.same(single, &given, || about(format!("with marks, {query:?}")));
     }
 }
 
