@@ -3,6 +3,7 @@
 
 Usage: second.py BOOK ZONES [--bounds] [--listing] [--every] < queries > answers
        second.py BOOK ZONES --hardest < calls > answers
+       second.py BOOK ZONES --marks < calls > answers
 
 It is the program of document 01: a rule book and a zone pack are read, then
 query lines are answered one by one. A file that is missing or longer than
@@ -17,10 +18,16 @@ results when every window that may be skipped is skipped.
   --hardest  answer the lines `hardest SEC NS WIDTH NUMBER..` alone and pass over
              all others: the hardest stretch of a log of runs, from an instant on,
              printed as `ok SEC NS SEC NS` (the duration, the window's start)
+  --marks    answer the lines that tell marks alone and pass over all others:
+             `resolve YEAR MONTH DAY SEC NS`, a local time in the default zone,
+             printed as `ok SEC NS MARK`; `next SEC NS` and `previous SEC NS`,
+             printed as `ok SEC NS SEC NS MARK MARK`; `blocks SEC NS SEC NS`, the
+             blocks of a window of at most seven days, printed as `ok` and
+             `SEC NS MARK SEC NS MARK` for each
 
 It is written from document 01, with the rule times that version 3 of a zone file
-may have since the first change to it and the hardest stretch of the second, and
-shares no code with the verified program.
+may have since the first change to it, the hardest stretch of the second and the
+marks of the fourth, and shares no code with the verified program.
 Instants and durations are whole numbers of nanoseconds, dates are day numbers
 from 1970-01-01, zone offsets and changes are whole seconds.
 """
@@ -40,6 +47,8 @@ FILE_LIMIT = 65_536
 FARTHEST = 93_599  # the largest offset, either way
 RUNS = 4_096  # the most of a log
 WIDEST = 400 * DAY  # the largest width of a window of a log, in seconds
+PLAIN, REPEATED, SKIPPED, BEYOND = range(4)  # marks; of two the greater is kept
+MARKS = ("plain", "repeated", "skipped", "beyond")
 
 
 class Refusal(Exception):
@@ -307,6 +316,24 @@ class Zone:
             return instant
         return FIRST if date < new_year(0) else LAST
 
+    def mark(self, date, time):
+        """The mark of a time of day on a date: by how many seconds read so, past
+        the range too. Beyond the range wins."""
+        local, nano = divmod(date * DAY * NANO + time, NANO)
+        if not FIRST <= self.reading(local) * NANO + nano <= LAST:
+            return BEYOND
+        readings = [offset for offset in self.descending if self.offset(local - offset) == offset]
+        if not readings:
+            return SKIPPED
+        return PLAIN if len(readings) == 1 else REPEATED
+
+    def edge(self, date, time):
+        """The end of a block at a time of day on a date: its instant and its mark;
+        beyond the range where there is no such date."""
+        if date > LAST_DATE:
+            return LAST, BEYOND
+        return self.resolve(date, time), self.mark(date, time)
+
     def date_at(self, instant):
         second = instant // NANO
         return (second + self.offset(second)) // DAY
@@ -493,6 +520,60 @@ def read_book(data):
     return records
 
 
+# ----------------------------------------------------------------- marked blocks
+
+# A marked block is its start and its end, each an edge: an instant and a mark.
+
+
+def merged(blocks):
+    """Marked blocks, those that overlap or touch made one. Of the starts that are
+    the least, and of the ends that are the greatest, the greatest mark is kept."""
+    groups = []
+    for start, end in sorted(blocks, key=lambda block: block[0][0]):
+        if groups and start[0] <= max(end[0] for _, end in groups[-1]):
+            groups[-1].append((start, end))
+        else:
+            groups.append([(start, end)])
+    found = []
+    for group in groups:
+        first = min(start[0] for start, _ in group)
+        last = max(end[0] for _, end in group)
+        first_mark = max(start[1] for start, _ in group if start[0] == first)
+        last_mark = max(end[1] for _, end in group if end[0] == last)
+        found.append(((first, first_mark), (last, last_mark)))
+    return found
+
+
+def subtracted(blocks, gaps):
+    """Marked blocks less the gaps, both merged. Where a gap cuts, the new end is
+    the gap's edge; one that only touches cuts nothing."""
+    found = []
+    for start, end in blocks:
+        for gap_start, gap_end in gaps:
+            if gap_end[0] <= start[0] or end[0] <= gap_start[0]:
+                continue
+            if start[0] < gap_start[0]:
+                found.append((start, gap_start))
+            start = gap_end
+        if start[0] < end[0]:
+            found.append((start, end))
+    return found
+
+
+def cut(blocks, low, high):
+    """Marked blocks cut to a window. An end that is moved is plain; one on the
+    border isn't moved."""
+    found = []
+    for start, end in blocks:
+        if start[0] < low:
+            start = low, PLAIN
+        if end[0] > high:
+            end = high, PLAIN
+        if start[0] < end[0]:
+            found.append((start, end))
+    return found
+
+
 # ------------------------------------------------------------------ the schedule
 
 
@@ -514,6 +595,16 @@ class Shift:
                 end = self.zone.resolve(ending, self.end) if ending <= LAST_DATE else LAST
                 yield start, end
 
+    def marked(self, low, high):
+        """The same blocks with their marks, those that hold nothing left out."""
+        first, last = self.zone.local_dates(low, high)
+        for date in range(first, last + 1):
+            if self.days >> weekday(date) & 1:
+                start = self.zone.edge(date, self.start)
+                end = self.zone.edge(date + (self.end <= self.start), self.end)
+                if start[0] < end[0]:
+                    yield start, end
+
 
 class Holidays:
     """A holiday record with its zone."""
@@ -533,6 +624,13 @@ class Holidays:
             end = self.zone.resolve(date + 1, 0) if date < LAST_DATE else LAST
             yield start, end
 
+    def marked(self, low, high):
+        """The same blocks with their marks, those that hold nothing left out."""
+        for date in self.among(low, high):
+            start, end = self.zone.edge(date, 0), self.zone.edge(date + 1, 0)
+            if start[0] < end[0]:
+                yield start, end
+
 
 class Schedule:
     """A book that was built over a pack."""
@@ -547,6 +645,7 @@ class Schedule:
                     raise Refusal(4, place)
                 default = zones.zone(name, place)
                 break
+        self.default = default
         self.work, self.breaks, holidays = [], [], []
         for kind, place, name, body in records:
             if kind == 0:
@@ -598,6 +697,13 @@ class Schedule:
                 stretches.append((since, instant))
                 since = None
         return stretches
+
+    def marked(self, low, high):
+        """The same with the marks of all ends. Work merges, and breaks with
+        holidays, before subtraction; the window cuts last."""
+        work = merged(block for rule in self.work for block in rule.marked(low, high))
+        off = merged(block for rule in self.breaks + self.holidays for block in rule.marked(low, high))
+        return cut(subtracted(work, off), low, high)
 
     def may_skip(self, low, high):
         """The skip test for a span, usually 11 days before and after a border."""
@@ -714,6 +820,42 @@ class Schedule:
         start, end = found[0], min(found[1], found[0] + self.limit)
         return (start, end) if sign > 0 else (-end, -start)
 
+    def marked_from(self, sign, low, high):
+        if sign > 0:
+            return self.marked(low, high)
+        return [((-end[0], end[1]), (-start[0], start[1])) for start, end in reversed(self.marked(-high, -low))]
+
+    def marked_period(self, sign, instant):
+        """The period with the marks of both ends, each an edge. Pieces that touch
+        at a window's border join, and the ends between them vanish."""
+        end_of_range = LAST if sign > 0 else -FIRST
+        given = low = sign * instant
+        period = None
+        ended = False
+        while low < end_of_range and not ended:
+            high = min(low + WINDOW, end_of_range)
+            for start, end in self.marked_from(sign, low, high):
+                if period is None:
+                    if start[0] - given > self.limit:
+                        raise Refusal(6)
+                    period = start, end
+                elif period[1][0] == start[0]:
+                    period = period[0], end
+                else:
+                    ended = True
+                    break
+            if period is None and high - given > self.limit:
+                raise Refusal(6)
+            if period and (period[1][0] < high or period[1][0] - period[0][0] >= self.limit):
+                ended = True
+            low = high
+        if period is None:
+            raise Refusal(7)
+        start, end = period
+        if end[0] - start[0] > self.limit:
+            end = start[0] + self.limit, PLAIN
+        return (start, end) if sign > 0 else ((-end[0], end[1]), (-start[0], start[1]))
+
     def listing(self, low, high, room):
         """All maximal stretches in [low, high); refusal 10 if `room` numbers
         are too few for them."""
@@ -794,6 +936,18 @@ def read_call(line):
     return word.decode(), numbers
 
 
+MARKED = {b"resolve": 5, b"next": 2, b"previous": 2, b"blocks": 4}
+
+
+def read_marked(line):
+    """The same for a line that tells marks."""
+    word, *fields = line.split(b" ")
+    numbers = read_numbers(fields)
+    if MARKED.get(word) != len(fields) or numbers is None:
+        return None
+    return word.decode(), numbers
+
+
 def read_instant(second, nano):
     if not 0 <= nano < NANO or not FIRST <= second * NANO + nano <= LAST:
         raise Refusal(8)
@@ -804,6 +958,15 @@ def read_duration(second, nano):
     if abs(nano) >= NANO or second * nano < 0:
         raise Refusal(9)
     return second * NANO + nano
+
+
+def read_local(year, month, day, second, nano):
+    """A date and a time of day."""
+    if not -9999 <= year <= 9999 or not 1 <= month <= 12 or not 1 <= day <= month_days(year, month):
+        raise Refusal(8)
+    if not 0 <= second < DAY or not 0 <= nano < NANO:
+        raise Refusal(8)
+    return day_number(year, month, day), second * NANO + nano
 
 
 def read_log(given, numbers):
@@ -873,6 +1036,27 @@ def answer(schedule, word, numbers, bounds):
     return f"ok {shown} {least} {most}" if bounds else f"ok {shown} {least}"
 
 
+def resolved(zone, numbers):
+    """The edge of a local time: year, month, day, second, nanosecond."""
+    return zone.edge(*read_local(*numbers))
+
+
+def show_edge(edge):
+    return f"{show_instant(edge[0])} {MARKS[edge[1]]}"
+
+
+def marked_answer(schedule, word, numbers):
+    """The `ok` line for a call that tells marks; Refusal otherwise."""
+    if word == "resolve":
+        return f"ok {show_edge(resolved(schedule.default, numbers))}"
+    given = read_instant(numbers[0], numbers[1])
+    if word == "blocks":
+        found = schedule.marked(given, read_instant(numbers[2], numbers[3]))
+        return "ok" + "".join(f" {show_edge(edge)}" for block in found for edge in block)
+    start, end = schedule.marked_period(1 if word == "next" else -1, given)
+    return f"ok {show_instant(start[0])} {show_instant(end[0])} {MARKS[start[1]]} {MARKS[end[1]]}"
+
+
 def read_file(path):
     try:
         with open(path, "rb") as file:
@@ -883,11 +1067,11 @@ def read_file(path):
 
 
 def main(arguments):
-    known = {"--bounds", "--listing", "--every", "--hardest"}
+    known = {"--bounds", "--listing", "--every", "--hardest", "--marks"}
     options = {argument for argument in arguments if argument.startswith("--")}
     paths = [argument for argument in arguments if argument not in options]
     if options - known or len(paths) != 2:
-        sys.exit("usage: second.py BOOK ZONES [--bounds] [--listing] [--every] | [--hardest] < queries")
+        sys.exit("usage: second.py BOOK ZONES [--bounds] [--listing] [--every] | [--hardest] | [--marks] < queries")
     refused = schedule = None
     try:
         schedule = Schedule(read_file(paths[0]), read_file(paths[1]))
@@ -897,16 +1081,20 @@ def main(arguments):
     lines = sys.stdin.buffer.read().split(b"\n")
     if not lines[-1]:
         lines.pop()
-    calls = "--hardest" in options
+    calls, marks = "--hardest" in options, "--marks" in options
     if calls:
         lines = [line for line in lines if line.startswith(b"hardest ")]
+    if marks:
+        lines = [line for line in lines if line.split(b" ")[0] in MARKED]
     for line in lines:
-        query = read_call(line) if calls else read_line(line, "--listing" in options)
+        query = read_marked(line) if marks else read_call(line) if calls else read_line(line, "--listing" in options)
         try:
             if query is None:
                 print("bad")
             elif refused:
                 print(f"no {refused.number} {refused.place}")
+            elif marks:
+                print(marked_answer(schedule, *query))
             else:
                 print(answer(schedule, *query, "--bounds" in options))
         except Refusal as refusal:
