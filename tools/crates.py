@@ -19,7 +19,7 @@ WINGS = [
     "meaning", "laws", "base", "block", "zone", "book", "window", "walk", "build", "schedule", "part", "query", "clock", "test", "bench",
 ]  # fmt: skip
 WING = {
-    "model": "meaning", "number": "base", "refusal": "base", "big_endian": "base", "instant": "base", "instant_signed": "base", "civil": "base",
+    "model": "meaning", "number": "base", "mark": "base", "refusal": "base", "big_endian": "base", "instant": "base", "instant_signed": "base", "civil": "base",
     "directory": "base", "run_log": "base", "rule": "book", "answer_line": "query",
     "laws_answers": "part", "answer_numbers": "part", "query_numbers": "part", "hirgwamo": "part",
 }  # fmt: skip

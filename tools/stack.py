@@ -26,6 +26,7 @@ POINTER = "through a pointer"
 DIGITS = 20  # how often a function that calls itself is in its own frames
 CALLS = [
     "build", "between", "add", "sub", "next_period", "previous_period", "list", "hardest", "answers", "offset", "next_change", "resolve",
+    "next_period_marked", "previous_period_marked", "resolve_marked",
 ]  # fmt: skip
 QUERIES = b"between 1767782400 0 2713862400 1\nadd 1767782400 0 14400000 0\nsub 1767782400 0 14400000 5\nnext 1768039200 0\nprevious 1768039200 0\n"
 
@@ -38,15 +39,16 @@ DRIVER = r"""
 #include "hirgwamo.h"
 typedef struct { const uint8_t *p; size_t n; } bytes; /* a lent slice is a pointer and a length */
 #define BOOK book.p, book.n, pack.p, pack.n
-enum { SIZE = 1 << 22, PAINT = 0xA5, NUMBERS = 1 << 20, CALLS = 12 };
+enum { SIZE = 1 << 22, PAINT = 0xA5, NUMBERS = 1 << 20, CALLS = 15 };
 enum { RUNS = 4096, SLOT = 8437, LONG = 6000, WIDTH = 30 * 86400 }; /* a log at its limit over 400 days, in seconds */
 static uint8_t stack[SIZE];
 static ucontext_t home, there;
 static bytes book, pack, file;
-static int64_t numbers[NUMBERS], runs[2 * RUNS], answer[HIRGWAMO_PERIOD_SIZE], answers[5 * HIRGWAMO_ANSWER_SIZE];
+static int64_t numbers[NUMBERS], runs[2 * RUNS], answer[HIRGWAMO_MARKED_PERIOD_SIZE], answers[5 * HIRGWAMO_ANSWER_SIZE];
 static int which;
 enum { ROOM = sizeof answer / sizeof *answer };
 #define WEDNESDAY INT64_C(1767782400) /* 2026-01-07T10:40Z */
+#define CLOCK_CHANGE INT64_C(1793160000) /* 2026-10-28T04:00Z, three days after the clock change in Berlin */
 #define YEAR INT64_C(31536000)
 
 static const int64_t queries[] = { /* one of each kind */
@@ -68,6 +70,9 @@ static void call(void) {
     case 9: hirgwamo_offset(file.p, file.n, WEDNESDAY + 40 * YEAR, 0, answer, ROOM); break;
     case 10: hirgwamo_next_change(file.p, file.n, WEDNESDAY + 40 * YEAR, 0, answer, ROOM); break;
     case 11: hirgwamo_resolve(file.p, file.n, 2066, 3, 28, 9000, 0, answer, ROOM); break;
+    case 12: hirgwamo_next_period_marked(BOOK, CLOCK_CHANGE, 0, answer, ROOM); break;
+    case 13: hirgwamo_previous_period_marked(BOOK, CLOCK_CHANGE, 0, answer, ROOM); break;
+    case 14: hirgwamo_resolve_marked(file.p, file.n, 2066, 3, 28, 9000, 0, answer, ROOM); break;
     default: break;
     }
 }

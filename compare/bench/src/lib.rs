@@ -11,6 +11,8 @@ pub const DAY: i64 = 86_400;
 pub const WEDNESDAY: i64 = 1_767_781_800;
 /// Saturday 2026-01-10T10:00:00Z.
 pub const SATURDAY: i64 = 1_768_039_200;
+/// Wednesday 2026-10-28T04:00:00Z: less than four days after the clock change in Berlin, and less than four days before that in New York.
+pub const CLOCK_CHANGE: i64 = 1_793_160_000;
 
 /// A directory with its records behind it.
 pub fn join(records: &[Vec<u8>]) -> Vec<u8> {
@@ -252,5 +254,7 @@ pub fn calls() -> Vec<(&'static str, Call)> {
         ("sub-4000-h", Call::Sub(start, 4_000)),
         ("next", Call::Next(saturday)),
         ("previous", Call::Previous(saturday)),
+        ("next-clock-change", Call::Next([CLOCK_CHANGE, 0])),
+        ("previous-clock-change", Call::Previous([CLOCK_CHANGE + 14 * i64::from(HOUR), 0])),
     ]
 }

@@ -26,9 +26,10 @@ use Rattle.schedule.specs.declared.TimeAnswer.the-variants as T
 use Rattle.schedule.specs.declared.MoveAnswer.{MoveAnswer}
 use Rattle.schedule.specs.declared.MoveAnswer.the-variants as M
 use Rattle.schedule.specs.Answers.{timeIs, moveIs}
-use Rattle.schedule_periods.specs.declared.PeriodAnswer.{PeriodAnswer}
-use Rattle.schedule_periods.specs.declared.PeriodAnswer.the-variants as P
-use Rattle.schedule_periods.specs.Replies.{periodIs}
+use Rattle.laws_marks.specs.Periods.{unmarkedPeriod}
+use Rattle.schedule_periods.specs.declared.MarkedPeriodAnswer.{MarkedPeriodAnswer}
+use Rattle.schedule_periods.specs.declared.MarkedPeriodAnswer.the-variants as P
+use Rattle.schedule_periods.specs.Replies.{markedPeriodIs}
 use Rattle.schedule_hardest.specs.declared.HardestAnswer.{HardestAnswer}
 use Rattle.schedule_hardest.specs.declared.HardestAnswer.the-variants as H
 use Rattle.schedule_hardest.specs.Hardests.{hardestIs}
@@ -51,12 +52,12 @@ moved-two k e u v p q = rw (p, q) (rw e at k)
 pub moved-no : {r : MoveAnswer} {d : Answer (List ℤ)} {n p : ℕ} → moveIs r ≡ d → r ≡ M.Refused n p → refuses n p ≡ d
 moved-no k e = rw e at k
 
-pub period-four : {r : PeriodAnswer} {d : Answer Reply} {x y z w : ℤ} → periodIs r ≡ d → r ≡ P.Is x y z w
-    → (a b e f : ℤ) → a ≡ x → b ≡ y → e ≡ z → f ≡ w → gives (a ∷ b ∷ e ∷ f ∷ []) ≡ said d
-period-four k h a b e f p q u v = rw (p, q, u, v) (ap said (rw h at k))
+pub period-four : {r : MarkedPeriodAnswer} {l d : Answer (List ℤ)} {x y z w : ℤ} {m n : ℕ} → markedPeriodIs r ≡ l → unmarkedPeriod l ≡ d → r ≡ P.Is x y z w m n
+    → (a b e f : ℤ) → a ≡ x → b ≡ y → e ≡ z → f ≡ w → gives (a ∷ b ∷ e ∷ f ∷ []) ≡ d
+period-four k g h a b e f p q u v = rw (p, q, u, v) (ap unmarkedPeriod (rw h at k) ∙ g)
 
-pub period-no : {r : PeriodAnswer} {d : Answer Reply} {n p : ℕ} → periodIs r ≡ d → r ≡ P.Refused n p → refuses n p ≡ said d
-period-no k h = ap said (rw h at k)
+pub period-no : {r : MarkedPeriodAnswer} {l d : Answer (List ℤ)} {n p : ℕ} → markedPeriodIs r ≡ l → unmarkedPeriod l ≡ d → r ≡ P.Refused n p → refuses n p ≡ d
+period-no k g h = ap unmarkedPeriod (rw h at k) ∙ g
 
 pub hardest-four : {r : HardestAnswer} {d : Answer Reply} {x y z w : ℤ} → hardestIs r ≡ d → r ≡ H.Is x y z w
     → (a b e f : ℤ) → a ≡ x → b ≡ y → e ≡ z → f ≡ w → gives (a ∷ b ∷ e ∷ f ∷ []) ≡ said d

@@ -12,7 +12,7 @@ use rule::Schedule;
 use schedule::MoveAnswer;
 use schedule::TimeAnswer;
 use schedule_hardest::HardestAnswer;
-use schedule_periods::PeriodAnswer;
+use schedule_periods::MarkedPeriodAnswer;
 
 // The numbers of a question, and the most of an answer.
 const GROUP_SIZE: usize = 4;
@@ -55,13 +55,14 @@ fn moved(
     }
 }
 
+// The marks of a period are looked for, as the calls do, and left out.
 fn period(book: &[u8], pack: &[u8], s: Schedule, back: bool, a: i64, b: i64) -> AnyAnswer
     requires { ⌜ ScheduleFits (now book) (now pack) s ⌝ }
     ensures { λ r. ⌜ IsPeriod (now (book .entry)) (now (pack .entry)) s back a b r ⌝ }
 {
-    match schedule_periods::period_in(book, pack, s, back, a, b) {
-        PeriodAnswer::Is(p, q, x, y) => AnyAnswer::Four(p, q, x, y),
-        PeriodAnswer::Refused(number, place) => AnyAnswer::Refused(number, place),
+    match schedule_periods::marked_period_in(book, pack, s, back, a, b) {
+        MarkedPeriodAnswer::Is(p, q, x, y, _, _) => AnyAnswer::Four(p, q, x, y),
+        MarkedPeriodAnswer::Refused(number, place) => AnyAnswer::Refused(number, place),
     }
 }
 
