@@ -1,18 +1,20 @@
-// The list of marked blocks: an array of blocks with its own count, by value. A block is its start and its end, the end excluded, each an instant with its
-// mark. And what blocks show around an instant u: whether they hold it and the one before it, and which marks their starts and ends there have.
+// The list of the marked blocks of one rule: an array of blocks with its own count, by value. A block is its start and its end, the end excluded, each an instant
+// with its mark. And what blocks show around an instant u: whether they hold it and the one before it, and which marks their starts and ends there have.
 ghost use mathlib.Core.Path.{_≡_};
 ghost use mathlib.Core.Bool.{_||_};
 ghost use mathlib.Core.List.{[]};
-ghost use Prim.Native.Nat.{_≤_, max};
+ghost use Prim.Native.Nat.{ℕ, _≤_, max};
 ghost use lib.Dec.{eqb};
 ghost use Rattle.model.specs.Basic.{if_then_else_};
 ghost use Rattle.model.specs.Marks.{plain};
 ghost use Rattle.laws_marks.specs.Around as marks;
 ghost use Rattle.laws_marks.specs.AroundLaws.{bothAround, aroundBlock};
 ghost use Rattle.instant.specs.Instant.{nanos};
-ghost use Rattle.block_list.specs.Listed.{capacity};
-ghost use Rattle.block_marked.specs.Marked.{markedIs, markedList, aroundIs};
+ghost use Rattle.block_marked.specs.Marked.{mostMarked, markedIs, markedList, aroundIs, SidesOf, BothSides};
 use instant::Instant;
+
+// How many blocks a list holds: 14 days show a rule at most 21 dates.
+pub const CAPACITY: usize = 21;
 
 // A block [start, end), with the marks of its ends.
 pub struct MarkedBlock {
@@ -24,7 +26,7 @@ pub struct MarkedBlock {
 
 // The first `len` items are the list.
 pub struct MarkedBlocks {
-    pub items: [MarkedBlock; block_list::CAPACITY],
+    pub items: [MarkedBlock; CAPACITY],
     pub len: usize,
 }
 
@@ -36,6 +38,12 @@ pub struct Around {
     // the greatest mark of the starts that lie there, and of the ends
     pub starts: u32,
     pub ends: u32,
+}
+
+// What blocks show around two instants: the start and the end of a period.
+pub struct Sides {
+    pub start: Around,
+    pub end: Around,
 }
 
 // No block: one block value repeated, of which none is used.
@@ -50,7 +58,7 @@ pub fn empty_marked() -> MarkedBlocks
         end_mark: mark::PLAIN,
     };
     MarkedBlocks {
-        items: [x; block_list::CAPACITY],
+        items: [x; CAPACITY],
         len: 0,
     }
 }
@@ -135,7 +143,7 @@ fn greater_mark(a: u32, b: u32) -> u32
 }
 
 // What two lists show together.
-pub fn together(a: Around, b: Around) -> Around
+fn together(a: Around, b: Around) -> Around
     ensures { λ r. ⌜ aroundIs r ≡ bothAround (aroundIs a) (aroundIs b) ⌝ }
 {
     let before = either(a.before, b.before);
@@ -150,18 +158,25 @@ pub fn together(a: Around, b: Around) -> Around
     }
 }
 
-// What the blocks of a list show around u.
-pub fn shown_around(b: MarkedBlocks, u: Instant) -> Around
-    requires { ⌜ b .len ≤ capacity ⌝ }
-    ensures { λ r. ⌜ aroundIs r ≡ marks.aroundOf (nanos u) (markedList b) ⌝ }
+// What no block shows.
+fn nothing_shown() -> Around
+    ensures { λ r. ⌜ ((u : ℕ) → aroundIs r ≡ marks.aroundOf u []) ⌝ }
 {
-    let n = b.len;
-    let mut a = Around {
+    Around {
         before: false,
         here: false,
         starts: mark::PLAIN,
         ends: mark::PLAIN,
-    };
+    }
+}
+
+// What the blocks of a list show around u.
+pub fn shown_around(b: MarkedBlocks, u: Instant) -> Around
+    requires { ⌜ b .len ≤ mostMarked ⌝ }
+    ensures { λ r. ⌜ aroundIs r ≡ marks.aroundOf (nanos u) (markedList b) ⌝ }
+{
+    let n = b.len;
+    let mut a = nothing_shown();
     let mut i: usize = 0;
     while i < n {
         let x = b.items[i];
@@ -169,6 +184,40 @@ pub fn shown_around(b: MarkedBlocks, u: Instant) -> Around
         i += 1;
     }
     a
+}
+
+// ---- around two instants
+
+// What the blocks of a list show around a and around b.
+pub fn shown_at(l: MarkedBlocks, a: Instant, b: Instant) -> Sides
+    requires { ⌜ l .len ≤ mostMarked ⌝ }
+    ensures { λ r. ⌜ SidesOf (nanos a) (nanos b) (markedList l) r ⌝ }
+{
+    let start = shown_around(l, a);
+    let end = shown_around(l, b);
+    Sides { start, end }
+}
+
+// What no block shows around any two instants.
+pub fn no_sides() -> Sides
+    ensures { λ r. ⌜ ((a : ℕ) (b : ℕ) → SidesOf a b [] r) ⌝ }
+{
+    let start = nothing_shown();
+    let end = start;
+    Sides { start, end }
+}
+
+// What two lists show together.
+pub fn both_sides(x: Sides, y: Sides) -> Sides
+    ensures { λ r. ⌜ BothSides x y r ⌝ }
+{
+    let xs = x.start;
+    let ys = y.start;
+    let start = together(xs, ys);
+    let xe = x.end;
+    let ye = y.end;
+    let end = together(xe, ye);
+    Sides { start, end }
 }
 
 // ---- the mark of a start or an end

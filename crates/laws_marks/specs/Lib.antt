@@ -10,4 +10,5 @@ pub mod MarkedWalk
 pub mod WalkedPeriods
 pub mod Resolve
 pub mod Plain
+pub mod Reach
 pub mod Examples

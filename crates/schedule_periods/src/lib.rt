@@ -16,7 +16,7 @@ use instant::Length;
 use instant_signed::InstantRead;
 use rule::Schedule;
 use walk_period::Found;
-use walk_period_marks::PeriodMarks;
+use window_marks::Marks;
 
 // A period: the start's and the end's seconds from 1970 and nanoseconds, or a refusal's number and place.
 pub enum PeriodAnswer {
@@ -81,7 +81,7 @@ pub fn period_in(
 // ---- with marks
 
 // A period with the marks of its ends.
-fn with_marks(r: PeriodAnswer, marks: PeriodMarks) -> MarkedPeriodAnswer
+fn with_marks(r: PeriodAnswer, marks: Marks) -> MarkedPeriodAnswer
     ensures { λ x. ⌜ markedPeriodIs x ≡ withMarks (periodIs r) (marks .start) (marks .end) ⌝ }
 {
     match r {

@@ -4,7 +4,7 @@
 // of a window with their marks. Writes a line for each question whose answer differs, and at the end how many questions there were.
 ghost use mathlib.Core.Path.{_≡_};
 ghost use mathlib.Core.Bool.{true};
-ghost use Prim.Native.Nat.{_*_, _≤_, _<_, _^_};
+ghost use Prim.Native.Nat.{_+_, _*_, _≤_, _<_, _^_};
 ghost use lib.ListN.{length};
 ghost use Rattle.big_endian.specs.Be.{be32, fourBytes};
 ghost use Rattle.instant.specs.Instant.{InRange, Exact};
@@ -22,6 +22,7 @@ use rule::Schedule;
 use schedule_periods::MarkedPeriodAnswer;
 use test_cases::LONGEST;
 use test_cases::Seen;
+use window_marks::Border;
 use zone_calls::ResolveAnswer;
 
 // The parts of a case: 0 the book, 1 the pack, 2 the questions.
@@ -225,8 +226,8 @@ fn is_within(lo: Instant, hi: Instant, u: Instant) -> bool
     !instant::precedes(hi, u)
 }
 
-// Does question q have u at a place, with its mark as a start in the window from lo to hi?
-fn is_start(
+// Does question q have the block from u to v at a place, with the marks of its ends in the window from lo to hi?
+fn is_block(
     book: &[u8],
     pack: &[u8],
     s: Schedule,
@@ -235,32 +236,26 @@ fn is_start(
     q: &[u8],
     at: usize,
     u: Instant,
+    v: Instant,
 ) -> bool
-    requires { ⌜ ScheduleFits (now book) (now pack) s × Window 7 lo hi × (at ≤ longestFile) × Exact u ⌝ }
+    requires { ⌜ ScheduleFits (now book) (now pack) s × Window 7 lo hi × (at + 24 ≤ longestFile) × Exact u × Exact v ⌝ }
 {
     if !is_within(lo, hi, u) {
         return false;
     }
-    is_edge(q, at, u, window_marks::start_mark(book, pack, s, lo, hi, u))
-}
-
-// The same as an end.
-fn is_end(
-    book: &[u8],
-    pack: &[u8],
-    s: Schedule,
-    lo: Instant,
-    hi: Instant,
-    q: &[u8],
-    at: usize,
-    u: Instant,
-) -> bool
-    requires { ⌜ ScheduleFits (now book) (now pack) s × Window 7 lo hi × (at ≤ longestFile) × Exact u ⌝ }
-{
-    if !is_within(lo, hi, u) {
+    if !is_within(lo, hi, v) {
         return false;
     }
-    is_edge(q, at, u, window_marks::end_mark(book, pack, s, lo, hi, u))
+    if instant::precedes(v, u) {
+        return false;
+    }
+    let start = Border { at: u, lo, hi };
+    let end = Border { at: v, lo, hi };
+    let marks = window_marks::edge_marks(book, pack, s, start, end);
+    if !is_edge(q, at, u, marks.start) {
+        return false;
+    }
+    is_edge(q, at + EDGE_SIZE, v, marks.end)
 }
 
 // The instant that is n nanoseconds after lo.
@@ -289,10 +284,7 @@ fn are_blocks(
         let u = after(lo, blocks[2 * i]);
         let v = after(lo, blocks[2 * i + 1]);
         let at = FIRST_BLOCK + BLOCK_SIZE * i;
-        if !is_start(book, pack, s, lo, hi, q, at, u) {
-            return false;
-        }
-        if !is_end(book, pack, s, lo, hi, q, at + EDGE_SIZE, v) {
+        if !is_block(book, pack, s, lo, hi, q, at, u, v) {
             return false;
         }
         i += 1;

@@ -1,5 +1,6 @@
 -- The ends of a period in the windows of the walk. Assumes nothing.
 use mathlib.Core.Path.{_≡_}
+use mathlib.Core.Bool.{Bool, true, false}
 use Prim.Native.Nat.{ℕ, _+_, _-_, _≤_, min}
 use native.Mathlib.Omega.{arith}
 use borrow.Author.Tests.{ltb-true, ltb-false}
@@ -16,31 +17,35 @@ use Rattle.model.specs.Walk.{Way, on, back, at, reach}
 use Rattle.model.specs.Marks.{plain, startMarkAt, endMarkAt, markedWorking, markedAhead, windowOfStart, windowOfEnd, startOfPeriod, endOfPeriod}
 use Rattle.instant.specs.Instant.{nanos, InRange}
 use Rattle.walk_distance.specs.declared.Ends.{Ends}
-use Rattle.walk_period_marks.specs.PeriodMarked.{IsSpan, span-on, span-back}
-use Rattle.walk_distance.specs.Distances.{WindowPlaced, placed-on, placed-back}
+use Rattle.walk_period_marks.specs.PeriodMarked.{IsBorder, IsSpan, span-on, span-back}
+use Rattle.window_marks.specs.Whole.{MarksWanted, IsMarks}
+use Rattle.window_marks.specs.declared.Border.{Border}
+use Rattle.window_marks.specs.declared.Marks.{Marks}
+use Rattle.model.specs.Basic.{if_then_else_}
+use Rattle.walk_distance.specs.Distances.{wayOf, WindowPlaced, placed-on, placed-back}
 
--- ---- an end of a window's block
+-- ---- a border and its window
 
--- an end between two distances lies between the instants there
-pub edge-from : (w : Way) (t x y d u lo hi : ℕ) → WindowPlaced w t x y lo hi → u ≡ at w t d → x ≤ d → d ≤ y → lo ≤ u
-edge-from on t x y d u lo hi (placed-on p q) e h k = omega arith
-edge-from back t x y d u lo hi (placed-back m p q) e h k = omega arith
-
-pub edge-upto : (w : Way) (t x y d u lo hi : ℕ) → WindowPlaced w t x y lo hi → u ≡ at w t d → x ≤ d → d ≤ y → u ≤ hi
-edge-upto on t x y d u lo hi (placed-on p q) e h k = omega arith
-edge-upto back t x y d u lo hi (placed-back m p q) e h k = omega arith
+-- what lies between two distances lies between the instants there
+border-in : (w : Way) (t x y d u lo hi : ℕ) → WindowPlaced w t x y lo hi → u ≡ at w t d → x ≤ d → d ≤ y → (lo ≤ u) × (u ≤ hi)
+border-in on t x y d u lo hi (placed-on p q) v h k = (omega arith, omega arith)
+border-in back t x y d u lo hi (placed-back m p q) v h k = (omega arith, omega arith)
 
 -- the blocks of a window that lies from lo to hi
-window-is : (w : Way) (s : Schedule) (t x y lo hi : ℕ) → WindowPlaced w t x y lo hi → y ≡ min (x + week) (reach w t) → markedWorking s lo hi ≡ markedAhead w s t x
+window-is : (w : Way) (s : Schedule) (t x lo hi : ℕ) → WindowPlaced w t x (min (x + week) (reach w t)) lo hi → markedWorking s lo hi ≡ markedAhead w s t x
 unfolding markedAhead
-window-is on s t x y lo hi (placed-on p q) e = rw (p, q, e)
-window-is back s t x y lo hi (placed-back m p q) e = rw (p, q, e)
+window-is on s t x lo hi (placed-on p q) = rw (p, q)
+window-is back s t x lo hi (placed-back m p q) = rw (p, q)
 
-pub start-is : (w : Way) (s : Schedule) (t x y d u lo hi : ℕ) → WindowPlaced w t x y lo hi → y ≡ min (x + week) (reach w t) → u ≡ at w t d → {m : ℕ} → m ≡ startMarkAt u (markedWorking s lo hi) → m ≡ startMarkAt (at w t d) (markedAhead w s t x)
-start-is w s t x y d u lo hi p e q m = rw (window-is w s t x y lo hi p e, q) at m
+module _ (w : Way) {t x d : ℕ} {r : Border} (e : IsBorder w t x d r) where
+  border-within : (nanos (r .lo) ≤ nanos (r .at)) × (nanos (r .at) ≤ nanos (r .hi))
+  border-within = border-in w t x (min (x + week) (reach w t)) d (nanos (r .at)) (nanos (r .lo)) (nanos (r .hi)) (e .placed) (e .instant) (e .from) (e .upto)
 
-pub end-is : (w : Way) (s : Schedule) (t x y d u lo hi : ℕ) → WindowPlaced w t x y lo hi → y ≡ min (x + week) (reach w t) → u ≡ at w t d → {m : ℕ} → m ≡ endMarkAt u (markedWorking s lo hi) → m ≡ endMarkAt (at w t d) (markedAhead w s t x)
-end-is w s t x y d u lo hi p e q m = rw (window-is w s t x y lo hi p e, q) at m
+  start-there : (s : Schedule) {m : ℕ} → m ≡ startMarkAt (nanos (r .at)) (markedWorking s (nanos (r .lo)) (nanos (r .hi))) → m ≡ startMarkAt (at w t d) (markedAhead w s t x)
+  start-there s m = rw (window-is w s t x (nanos (r .lo)) (nanos (r .hi)) (e .placed), e .instant) at m
+
+  end-there : (s : Schedule) {m : ℕ} → m ≡ endMarkAt (nanos (r .at)) (markedWorking s (nanos (r .lo)) (nanos (r .hi))) → m ≡ endMarkAt (at w t d) (markedAhead w s t x)
+  end-there s m = rw (window-is w s t x (nanos (r .lo)) (nanos (r .hi)) (e .placed), e .instant) at m
 
 -- ---- the windows of a period's ends
 
@@ -55,6 +60,31 @@ end-from e = omega arith
 
 pub end-upto : (e : ℕ) → e ≤ windowOfEnd e + week
 end-upto e = omega arith
+
+-- ---- the marks of a period
+
+-- going on the nearer border is the start, going back it is the end
+module _ (b : Bool) {t x y f e : ℕ} {near far start end : Border} (n : IsBorder (wayOf b) t x f near) (m : IsBorder (wayOf b) t y e far)
+    (p : start ≡ (if b then far else near)) (q : end ≡ (if b then near else far)) where
+  pub borders-wanted : f ≤ e → e ≤ reach (wayOf b) t → MarksWanted start end
+  borders-wanted o k = rw (p, q) (go b n m o k)
+    where
+      go : (c : Bool) → IsBorder (wayOf c) t x f near → IsBorder (wayOf c) t y e far → f ≤ e → e ≤ reach (wayOf c) t → MarksWanted (if c then far else near) (if c then near else far)
+      go true n m o k =
+          let i = n .instant in let j = m .instant in
+          record { start-window = m .window; end-window = n .window; start-in = m .in-range; end-in = n .in-range; order = omega arith; from = border-within back m .0; upto = border-within back n .1 }
+      go false n m o k =
+          let i = n .instant in let j = m .instant in
+          record { start-window = n .window; end-window = m .window; start-in = n .in-range; end-in = m .in-range; order = omega arith; from = border-within on n .0; upto = border-within on m .1 }
+
+  pub borders-told : (s : Schedule) {r : Marks} → x ≡ windowOfStart f → y ≡ windowOfEnd e → IsMarks s start end r
+      → (r .start ≡ startOfPeriod (wayOf b) s t (block f e)) × (r .end ≡ endOfPeriod (wayOf b) s t (block f e))
+  borders-told s {r} u v h = go b n m (rw (p, q) at h)
+    where
+      go : (c : Bool) → IsBorder (wayOf c) t x f near → IsBorder (wayOf c) t y e far → IsMarks s (if c then far else near) (if c then near else far) r
+          → (r .start ≡ startOfPeriod (wayOf c) s t (block f e)) × (r .end ≡ endOfPeriod (wayOf c) s t (block f e))
+      go true n m h = (rw v at (start-there back m s (h .0)), rw u at (end-there back n s (h .1)))
+      go false n m h = (rw u at (start-there on n s (h .0)), rw v at (end-there on m s (h .1)))
 
 -- ---- where all zones keep one offset around an end
 

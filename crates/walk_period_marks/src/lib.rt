@@ -1,22 +1,18 @@
 // The marks of a period's two ends: each is that of the block which has this end in the window of the walk where the period begins or ends.
 ghost use mathlib.Core.Path.{_≡_};
-ghost use Rattle.model.specs.Walk as way;
+ghost use Rattle.model.specs.Basic.{if_then_else_};
 ghost use Rattle.model.specs.Marks.{plain, windowOfStart, windowOfEnd};
 ghost use Rattle.instant.specs.Instant.{nanos, InRange};
 ghost use Rattle.rule.specs.Rules.{ScheduleFits};
 ghost use Rattle.walk_distance.specs.Distances.{wayOf, Short};
 ghost use Rattle.walk_period.specs.Found.{PeriodFits};
-ghost use Rattle.walk_period_marks.specs.PeriodMarked.{EdgeWithin, edgeMark, IsSpan, PlainWhere, IsPeriodMarks};
+ghost use Rattle.walk_period_marks.specs.PeriodMarked.{InWindow, IsBorder, IsSpan, PlainWhere, IsPeriodMarks};
 use instant::Instant;
 use instant::Length;
 use rule::Schedule;
 use walk_distance::Ends;
-
-// The marks of a period's start and of its end.
-pub struct PeriodMarks {
-    pub start: u32,
-    pub end: u32,
-}
+use window_marks::Border;
+use window_marks::Marks;
 
 // The distance at which the window begins that has a period's nearer border at the distance x: whole weeks.
 fn window_of_start(x: Length) -> Length
@@ -46,29 +42,6 @@ fn window_of_end(x: Length) -> Length
     })
 }
 
-// The mark that the instant at the distance d from t has as the start, or else as the end, of a block of the window that begins at the distance x.
-fn edge_mark(
-    book: &[u8],
-    pack: &[u8],
-    s: Schedule,
-    t: Instant,
-    back: bool,
-    x: Length,
-    d: Length,
-    start: bool,
-) -> u32
-    requires { ⌜ ScheduleFits (now book) (now pack) s × EdgeWithin t back x d ⌝ }
-    ensures { λ r. ⌜ r ≡ edgeMark (now (book .entry)) (now (pack .entry)) s t back x d start ⌝ }
-{
-    let y = walk_distance::window_end(x, walk_distance::reach(t, back));
-    let at = walk_distance::place(t, back, x, y);
-    let u = walk_distance::at(t, back, d);
-    if start {
-        return window_marks::start_mark(book, pack, s, at.lo, at.hi, u);
-    }
-    window_marks::end_mark(book, pack, s, at.lo, at.hi, u)
-}
-
 // The start and the end of the period between two distances from t.
 fn ends_of(t: Instant, back: bool, f: Length, e: Length) -> Ends
     requires { ⌜ InRange t × PeriodFits (wayOf back) (nanos t) f e ⌝ }
@@ -80,6 +53,29 @@ fn ends_of(t: Instant, back: bool, f: Length, e: Length) -> Ends
         return Ends { lo: far, hi: near };
     }
     Ends { lo: near, hi: far }
+}
+
+// The border at the distance d from t, in the window that begins at the distance x.
+fn border_at(t: Instant, back: bool, x: Length, d: Length) -> Border
+    requires { ⌜ InWindow t back x d ⌝ }
+    ensures { λ r. ⌜ IsBorder (wayOf back) (nanos t) (nanos x) (nanos d) r ⌝ }
+{
+    let y = walk_distance::window_end(x, walk_distance::reach(t, back));
+    let window = walk_distance::place(t, back, x, y);
+    let at = walk_distance::at(t, back, d);
+    let lo = window.lo;
+    let hi = window.hi;
+    Border { at, lo, hi }
+}
+
+// The second of two borders, or else the first.
+fn second_if(second: bool, a: Border, b: Border) -> Border
+    ensures { λ r. ⌜ r ≡ (if second then b else a) ⌝ }
+{
+    if second {
+        return b;
+    }
+    a
 }
 
 // Are both ends of the period plain at once, because all zones keep one offset from before its start to after its end?
@@ -100,10 +96,10 @@ pub fn is_plain(
 }
 
 // The marks of a period whose ends are plain.
-pub fn plain_marks() -> PeriodMarks
+pub fn plain_marks() -> Marks
     ensures { λ r. ⌜ (r .start ≡ plain) × (r .end ≡ plain) ⌝ }
 {
-    PeriodMarks {
+    Marks {
         start: mark::PLAIN,
         end: mark::PLAIN,
     }
@@ -118,20 +114,13 @@ pub fn period_marks(
     back: bool,
     f: Length,
     e: Length,
-) -> PeriodMarks
+) -> Marks
     requires { ⌜ ScheduleFits (now book) (now pack) s × InRange t × PeriodFits (wayOf back) (nanos t) f e ⌝ }
     ensures { λ r. ⌜ IsPeriodMarks (now (book .entry)) (now (pack .entry)) s t back f e r ⌝ }
 {
-    let near = edge_mark(book, pack, s, t, back, window_of_start(f), f, !back);
-    let far = edge_mark(book, pack, s, t, back, window_of_end(e), e, back);
-    if back {
-        return PeriodMarks {
-            start: far,
-            end: near,
-        };
-    }
-    PeriodMarks {
-        start: near,
-        end: far,
-    }
+    let near = border_at(t, back, window_of_start(f), f);
+    let far = border_at(t, back, window_of_end(e), e);
+    let start = second_if(back, near, far);
+    let end = second_if(back, far, near);
+    window_marks::edge_marks(book, pack, s, start, end)
 }

@@ -1,8 +1,8 @@
--- Filling a list of marked blocks from the front: what a turn of either loop keeps. Assumes nothing.
+-- Filling a list with the marked blocks of a rule that may touch an instant from a to b, and going through rules: what a turn of each loop keeps. Assumes nothing.
 use mathlib.Core.Path.{_≡_, refl, sym, _∙_, ap}
 use mathlib.Core.Bool.{true, false}
-use mathlib.Core.List.{List, _++_, map, append-assoc, append-nil}
-use Prim.Native.Nat.{ℕ, _+_, _*_, _-_, _≤_, _<_}
+use mathlib.Core.List.{List, [], _++_, map, append-nil}
+use Prim.Native.Nat.{ℕ, _+_, _-_, _≤_, _<_}
 use native.Mathlib.Omega.{arith}
 use lib.Dec.{ltb}
 use lib.ListN.{length, take, getD, set, length-set}
@@ -13,13 +13,20 @@ use Rattle.laws_base.specs.Front.{front-push, front-set}
 use Rattle.laws_base.specs.Test.{by-test}
 use Rattle.instant.specs.Instant.{nanos}
 use Rattle.instant.specs.declared.Instant.{Instant}
-use Rattle.block_list.specs.Listed.{capacity}
-use Rattle.block_marked.specs.Marked.{markedIs, firstMarked}
+use Rattle.block_marked.specs.Marked.{mostMarked, markedIs, markedList, firstMarked, aroundIs, SidesOf, BothSides}
 use Rattle.block_marked.specs.declared.MarkedBlock.{MarkedBlock as Item}
-use Rattle.window_dates.specs.Windows.{IsLocalDates, fromDay, uptoDay, mostWindowDates}
+use Rattle.block_marked.specs.declared.MarkedBlocks.{MarkedBlocks}
+use Rattle.block_marked.specs.declared.Sides.{Sides}
+use Rattle.laws_marks.specs.Around.{Around, aroundOf}
+use Rattle.laws_marks.specs.AroundLaws.{bothAround, around-lists, around-group, none-before, none-behind}
+use Rattle.window_dates.specs.Windows.{IsLocalDates, fromDay, uptoDay}
 use Rattle.window_dates.specs.declared.LocalDates.{LocalDates}
 use Rattle.window_dates.proofs.Fill.{shown, datesFrom, dates-whole, date-on, date-off, dates-done, restOf, rest-more, rest-end, maps}
-use Rattle.window_marks.specs.Whole.{heldMarked}
+use Rattle.civil.specs.declared.Time.{Time}
+use Rattle.zone.specs.declared.Zone.{Zone}
+use Rattle.window_marks.specs.Whole.{heldMarked, ruleBy, NearBlocks, RuleSides, RulesSides, wholeAt}
+use Rattle.window_marks.specs.declared.Border.{Border}
+use Rattle.window_marks.specs.declared.Dates.{Dates}
 
 -- ---- one block
 
@@ -37,98 +44,136 @@ module _ (out : List Item) (w : ℕ) (x : Item) (k : ℕ) (e : k ≡ (if ltb (na
 
 -- ---- the dates of a rule
 
--- the blocks in front of w, and those of the dates of a list
-abbrev pub withDates : Rule → List Item → ℕ → List ℕ → List MarkedBlock
-withDates r out w dates = firstMarked w out ++ shown (r .on) (wholeOn r) dates
+-- of k dates in a row, those from the i-th on are to come; around each instant from a to b the blocks so far and theirs show what all show
+pub record Nearing (r : Rule) (a b first k : ℕ) (out : List Item) (w i : ℕ) : Type 0 where
+  pub same : (u : ℕ) → a ≤ u → u ≤ b → aroundOf u (firstMarked w out ++ shown (r .on) (wholeOn r) (datesFrom first k i)) ≡ aroundOf u (shown (r .on) (wholeOn r) (run first k))
+  pub count : w ≤ i
+  pub long : length out ≡ mostMarked
 
--- of k dates in a row, those from the i-th on are to come: `whole` is what the list holds in the end, `top` how many it then has at most
-pub record Dating (r : Rule) (first k : ℕ) (whole : List MarkedBlock) (top : ℕ) (out : List Item) (w i : ℕ) : Type 0 where
-  pub same : withDates r out w (datesFrom first k i) ≡ whole
-  pub count : w + (k - i) ≤ top
-  pub long : length out ≡ capacity
+pub nearing-starts : (r : Rule) (a b first k : ℕ) (out : List Item) → length out ≡ mostMarked → Nearing r a b first k out 0 0
+nearing-starts r a b first k out l =
+    record { same = λ u _ _. ap (λ (d : List ℕ). aroundOf u (shown (r .on) (wholeOn r) d)) (dates-whole first k); count = omega arith; long = l }
 
-pub dating-starts : (r : Rule) (first k : ℕ) (out : List Item) (w : ℕ) → length out ≡ capacity → Dating r first k (withDates r out w (run first k)) (w + k) out w 0
-dating-starts r first k out w l = record { same = ap (withDates r out w) (dates-whole first k); count = omega arith; long = l }
+module _ (r : Rule) (a b first k : ℕ) (out : List Item) (w i : ℕ) (m : Nearing r a b first k out w i) where
+  -- what the dates from the j-th on show
+  abbrev rest : ℕ → List MarkedBlock
+  rest j = shown (r .on) (wholeOn r) (datesFrom first k j)
 
-module _ (r : Rule) (first k : ℕ) (whole : List MarkedBlock) (top : ℕ) (out : List Item) (w i : ℕ) (m : Dating r first k whole top out w i) where
-  pub dating-room : i < k → top ≤ capacity → w < capacity
-  dating-room h u = let a = m .count in omega arith
+  pub nearing-room : i < k → k ≤ mostMarked → w < mostMarked
+  nearing-room h u = let c = m .count in omega arith
 
   -- a date that is on: its block is stored at w and counted by `behind`
-  pub dating-on : top ≤ capacity → i < k → r .on (first + i) ≡ true → (x : Item) → heldMarked x ≡ wholeOn r (first + i)
-      → (n : ℕ) → n ≡ (if ltb (nanos (x .start)) (nanos (x .end)) then w + 1 else w) → Dating r first k whole top (set out w x) n (i + 1)
-  dating-on u h t x e n c =
-      let a = m .count in let b = m .long in
+  pub nearing-on : i < k → k ≤ mostMarked → r .on (first + i) ≡ true → (x : Item) → heldMarked x ≡ wholeOn r (first + i)
+      → (n : ℕ) → n ≡ (if ltb (nanos (x .start)) (nanos (x .end)) then w + 1 else w) → Nearing r a b first k (set out w x) n (i + 1)
+  nearing-on h f t x e n c =
+      let q = m .count in let l = m .long in
       let p = behind-count out w x n c in
-      let q : w < length out = omega arith in
-      record {
-        same = date-on (r .on) (wholeOn r) first k i (firstMarked w out) whole (m .same) h t (firstMarked n (set out w x)) (stored out w x n c q ∙ ap (λ (l : List MarkedBlock). firstMarked w out ++ l) e);
-        count = omega arith;
-        long = length-set out w x ∙ m .long;
-      }
+      let v : w < length out = omega arith in
+      let s = date-on (r .on) (wholeOn r) first k i (firstMarked w out) (firstMarked w out ++ rest i) refl h t (firstMarked n (set out w x)) (stored out w x n c v ∙ ap (λ (l : List MarkedBlock). firstMarked w out ++ l) e) in
+      record { same = λ u g j. ap (aroundOf u) s ∙ m .same u g j; count = omega arith; long = length-set out w x ∙ m .long }
 
-  pub dating-off : i < k → r .on (first + i) ≡ false → Dating r first k whole top out w (i + 1)
-  dating-off h t = let a = m .count in record { same = date-off (r .on) (wholeOn r) first k i (firstMarked w out) whole (m .same) h t; count = omega arith; long = m .long }
+  off-same : i < k → r .on (first + i) ≡ false → firstMarked w out ++ rest (i + 1) ≡ firstMarked w out ++ rest i
+  off-same h t = date-off (r .on) (wholeOn r) first k i (firstMarked w out) (firstMarked w out ++ rest i) refl h t
+
+  -- a date that is off, or whose block shows nothing around these instants
+  pub nearing-off : i < k → r .on (first + i) ≡ false → Nearing r a b first k out w (i + 1)
+  nearing-off h t = let c = m .count in record { same = λ u g j. ap (aroundOf u) (off-same h t) ∙ m .same u g j; count = omega arith; long = m .long }
+
+  pub nearing-apart : i < k → ((u : ℕ) → a ≤ u → u ≤ b → aroundOf u (wholeOn r (first + i)) ≡ aroundOf u []) → Nearing r a b first k out w (i + 1)
+  nearing-apart h f =
+      let c = m .count in
+      by-test (r .on (first + i))
+      (λ t. let s = date-on (r .on) (wholeOn r) first k i (firstMarked w out) (firstMarked w out ++ rest i) refl h t (firstMarked w out ++ wholeOn r (first + i)) refl in
+      record {
+        same = λ u g j.
+            around-lists u (firstMarked w out) (rest (i + 1))
+            ∙ ap (λ (x : Around). bothAround x (aroundOf u (rest (i + 1)))) (sym (around-lists u (firstMarked w out) (wholeOn r (first + i)) ∙ ap (bothAround (aroundOf u (firstMarked w out))) (f u g j) ∙ none-behind u (aroundOf u (firstMarked w out))))
+            ∙ sym (around-lists u (firstMarked w out ++ wholeOn r (first + i)) (rest (i + 1)))
+            ∙ ap (aroundOf u) s ∙ m .same u g j;
+        count = omega arith;
+        long = m .long;
+      })
+      (λ t. nearing-off h t)
 
 -- the dates of a window give the rule's whole blocks
 whole-shows : (r : Rule) (lo hi a b : ℕ) → a ≡ firstDate (r .zone) lo → b ≡ lastDate (r .zone) hi → shown (r .on) (wholeOn r) (run a (b + 1 - a)) ≡ wholeOf lo hi r
 unfolding wholeOf localDates
 whole-shows r lo hi a b p q = rw (p, q)
 
--- the dates of a window are done: the rule's blocks are behind those that were there
-pub dating-done : (r : Rule) (lo hi : Instant) (days : LocalDates) → IsLocalDates (r .zone) lo hi days → (first k : ℕ) → first ≡ fromDay days → k ≡ uptoDay days + 1 - first
-    → (out₀ : List Item) (w₀ : ℕ) (out : List Item) (w i : ℕ) → Dating r first k (withDates r out₀ w₀ (run first k)) (w₀ + k) out w i
-    → k ≤ i → (firstMarked w out ≡ firstMarked w₀ out₀ ++ wholeOf (nanos lo) (nanos hi) r) × (w ≤ w₀ + mostWindowDates)
-dating-done r lo hi days q first k e c out₀ w₀ out w i m h =
-    let a = m .count in let f = q .few in let l = q .last-is in (
-      dates-done (r .on) (wholeOn r) first k i (firstMarked w out) (withDates r out₀ w₀ (run first k)) (m .same) h
-          ∙ ap (λ (l : List MarkedBlock). firstMarked w₀ out₀ ++ l)
-          (ap (λ (n : ℕ). shown (r .on) (wholeOn r) (run first n)) c ∙ whole-shows r (nanos lo) (nanos hi) first (uptoDay days) (e ∙ q .first-is) l),
-      omega arith,
-    )
+-- the dates of a window are done
+pub nearing-done : (r : Rule) (lo hi : Instant) (days : LocalDates) → IsLocalDates (r .zone) lo hi days → (a b : Instant) (first k : ℕ) → first ≡ fromDay days → k ≡ uptoDay days + 1 - first
+    → (l : MarkedBlocks) (i : ℕ) → Nearing r (nanos a) (nanos b) first k (l .items) (l .len) i → k ≤ i → i ≤ k → NearBlocks r lo hi a b l
+nearing-done r lo hi days q a b first k e c l i m h n =
+    let f = q .few in let g = m .count in
+    let d : shown (r .on) (wholeOn r) (run first k) ≡ wholeOf (nanos lo) (nanos hi) r =
+    ap (λ (n : ℕ). shown (r .on) (wholeOn r) (run first n)) c ∙ whole-shows r (nanos lo) (nanos hi) first (uptoDay days) (e ∙ q .first-is) (q .last-is) in
+    let s = dates-done (r .on) (wholeOn r) first k i (markedList l) (markedList l ++ shown (r .on) (wholeOn r) (datesFrom first k i)) refl h in
+    record { same = λ u x y. ap (aroundOf u) s ∙ m .same u x y ∙ ap (aroundOf u) d; few = omega arith }
+
+-- the zone's file is a part of the pack
+pub near-moved : (k f g : List ℕ) (z : Zone) (from to : Time) (dates : Dates) (a b first n : ℕ) (out : List Item) (w i : ℕ) → f ≡ g
+    → Nearing (ruleBy k f z from to dates) a b first n out w i → Nearing (ruleBy k g z from to dates) a b first n out w i
+near-moved k f g z from to dates a b first n out w i e m = rw e at m
 
 -- ---- the rules of a counted array
 
-module _ {A : Type 0} (lo hi : ℕ) (h : A → Rule) (n : ℕ) (rules : List A) where
-  -- a rule's whole blocks
-  abbrev rule : A → List MarkedBlock
-  rule a = wholeOf lo hi (h a)
+-- one more rule in front of what is to come
+side-turn : (u : ℕ) (s y z whole : Around) (l k : List MarkedBlock) → bothAround s (aroundOf u (l ++ k)) ≡ whole → y ≡ aroundOf u l → z ≡ bothAround s y → bothAround z (aroundOf u k) ≡ whole
+side-turn u s y z whole l k m e f =
+    ap (λ (x : Around). bothAround x (aroundOf u k)) (f ∙ ap (bothAround s) e) ∙ around-group s (aroundOf u l) (aroundOf u k) ∙ ap (bothAround s) (sym (around-lists u l k)) ∙ m
 
-  -- the rules from i on are to come; each has at most 21 dates
-  pub record Ruling (out : List Item) (w i : ℕ) : Type 0 where
-    pub same : firstMarked w out ++ restOf rule n rules i ≡ restOf rule n rules 0
-    pub count : w ≤ i * mostWindowDates
+module _ {A : Type 0} (a b : Border) (h : A → Rule) (n : ℕ) (rules : List A) where
+  -- a rule's whole blocks in the window of an end, and those of the rules from the i-th on
+  abbrev rule : Border → A → List MarkedBlock
+  rule e x = wholeOf (nanos (e .lo)) (nanos (e .hi)) (h x)
+
+  abbrev left : Border → ℕ → List MarkedBlock
+  left e i = restOf (rule e) n rules i
+
+  -- the rules from i on are to come; s is what those before show around a and around b
+  pub record Folding (s : Sides) (i : ℕ) : Type 0 where
+    pub start : bothAround (aroundIs (s .start)) (aroundOf (nanos (a .at)) (left a i)) ≡ aroundOf (nanos (a .at)) (left a 0)
+    pub end : bothAround (aroundIs (s .end)) (aroundOf (nanos (b .at)) (left b i)) ≡ aroundOf (nanos (b .at)) (left b 0)
     pub upto : i ≤ n
     pub fits : n ≤ length rules
-    pub long : length out ≡ capacity
 
-  pub ruling-starts : (out : List Item) → n ≤ length rules → length out ≡ capacity → Ruling out 0 0
-  ruling-starts out f l = record { same = refl; count = omega arith; upto = omega arith; fits = f; long = l }
+  pub folding-starts : (s : Sides) → SidesOf (nanos (a .at)) (nanos (b .at)) [] s → n ≤ length rules → Folding s 0
+  folding-starts s e f = record {
+    start = ap (λ (x : Around). bothAround x (aroundOf (nanos (a .at)) (left a 0))) (e .0) ∙ none-before (nanos (a .at)) (aroundOf (nanos (a .at)) (left a 0));
+    end = ap (λ (x : Around). bothAround x (aroundOf (nanos (b .at)) (left b 0))) (e .1) ∙ none-before (nanos (b .at)) (aroundOf (nanos (b .at)) (left b 0));
+    upto = omega arith;
+    fits = f;
+  }
 
-  module _ (out : List Item) (w i : ℕ) (m : Ruling out w i) where
-    -- there is room for the dates of one more rule
-    pub ruling-room : (k : ℕ) → k ≤ mostWindowDates → n ≤ 16 → i < n → w + k ≤ capacity
-    ruling-room k f r t = let c = m .count in omega arith
+  -- one more rule, around one end
+  more : (e : Border) (i : ℕ) → i < n → n ≤ length rules → (x : A) (s y z : Around) → bothAround s (aroundOf (nanos (e .at)) (left e i)) ≡ aroundOf (nanos (e .at)) (left e 0)
+      → y ≡ aroundOf (nanos (e .at)) (rule e (getD rules i x)) → z ≡ bothAround s y → bothAround z (aroundOf (nanos (e .at)) (left e (i + 1))) ≡ aroundOf (nanos (e .at)) (left e 0)
+  more e i t k x s y z m p q =
+      side-turn (nanos (e .at)) s y z (aroundOf (nanos (e .at)) (left e 0)) (rule e (getD rules i x)) (left e (i + 1))
+      (ap (λ (l : List MarkedBlock). bothAround s (aroundOf (nanos (e .at)) l)) (sym (rest-more (rule e) n rules i x t k)) ∙ m) p q
 
-    pub ruling-turn : i < n → (x : A) (out′ : List Item) (w′ : ℕ) → length out′ ≡ capacity → firstMarked w′ out′ ≡ firstMarked w out ++ rule (getD rules i x) → w′ ≤ w + mostWindowDates → Ruling out′ w′ (i + 1)
-    ruling-turn t x out′ w′ l e c =
-        let a = m .count in let k = m .fits in
+  -- all rules, around one end
+  all : (e : Border) (i : ℕ) → i ≡ n → n ≤ length rules → (s : Around) → bothAround s (aroundOf (nanos (e .at)) (left e i)) ≡ aroundOf (nanos (e .at)) (left e 0)
+      → s ≡ aroundOf (nanos (e .at)) (wholeAt e (map h (take n rules)))
+  unfolding wholeOfAll
+  all e i t k s m =
+      let q : left e i ≡ [] = ap (left e) t ∙ rest-end (rule e) n rules k in
+      let w : left e 0 ≡ joined (map (wholeOf (nanos (e .lo)) (nanos (e .hi))) (map h (take n rules))) = ap joined (maps (wholeOf (nanos (e .lo)) (nanos (e .hi))) h (take n rules)) in
+      sym (none-behind (nanos (e .at)) s) ∙ ap (λ (l : List MarkedBlock). bothAround s (aroundOf (nanos (e .at)) l)) (sym q) ∙ m ∙ ap (aroundOf (nanos (e .at))) w
+
+  module _ (s : Sides) (i : ℕ) (m : Folding s i) where
+    pub folding-turn : i < n → (x : A) (y z : Sides) → RuleSides (h (getD rules i x)) a b y → BothSides s y z → Folding z (i + 1)
+    folding-turn t x y z e f =
+        let k = m .fits in
         record {
-          same = ap (λ (y : List MarkedBlock). y ++ restOf rule n rules (i + 1)) e
-              ∙ append-assoc (firstMarked w out) (rule (getD rules i x)) (restOf rule n rules (i + 1))
-              ∙ ap (λ (y : List MarkedBlock). firstMarked w out ++ y) (sym (rest-more rule n rules i x t k)) ∙ m .same;
-          count = omega arith;
+          start = more a i t k x (aroundIs (s .start)) (aroundIs (y .start)) (aroundIs (z .start)) (m .start) (e .0) (f .0);
+          end = more b i t k x (aroundIs (s .end)) (aroundIs (y .end)) (aroundIs (z .end)) (m .end) (e .1) (f .1);
           upto = omega arith;
           fits = k;
-          long = l;
         }
 
     -- the rules are done
-    pub ruling-done : n ≤ 16 → n ≤ i → (firstMarked w out ≡ wholeOfAll lo hi (map h (take n rules))) × (w ≤ capacity)
-    unfolding wholeOfAll
-    ruling-done s t =
-        let a = m .upto in let c = m .count in let e : i ≡ n = omega arith in (
-          sym (append-nil (firstMarked w out)) ∙ ap (λ (y : List MarkedBlock). firstMarked w out ++ y) (sym (ap (restOf rule n rules) e ∙ rest-end rule n rules (m .fits))) ∙ m .same
-              ∙ ap joined (maps (wholeOf lo hi) h (take n rules)),
-          omega arith,
-        )
+    pub folding-done : n ≤ i → RulesSides (map h (take n rules)) a b s
+    folding-done t =
+        let k = m .upto in let e : i ≡ n = omega arith in
+        (all a i e (m .fits) (aroundIs (s .start)) (m .start), all b i e (m .fits) (aroundIs (s .end)) (m .end))

@@ -78,7 +78,7 @@ module _ {offset : ℕ → ℕ} {x from u o e : ℕ} {b : Bool} (h : from ≤ u)
       go (no k) (inl a) = omega (arith, p, r .same v (omega arith) j)
       go (no k) (inr a) = omega (arith, p, r .same v (omega arith) j)
 
-pub reads-done : {offset : ℕ → ℕ} {x from u : ℕ} → ((v : ℕ) → 1 ≤ offset v) → NoneFrom offset x from u → x ≤ u → ReadsFrom offset x from false
+pub reads-done : {offset : ℕ → ℕ} {x from u low : ℕ} → ((v : ℕ) → low ≤ offset v) → NoneFrom offset x from u → x < u + low → ReadsFrom offset x from false
 reads-done low n h = record {
   some = λ i. clash false i refl;
   none = λ i v j p. n v j (omega (arith, p, low v)) p;
@@ -126,6 +126,10 @@ module _ (z : Zone) (k : ZoneFits z) {x s o e : ℕ} (h : firstLocal ≤ x) (q :
       sym (mark-skipped z (k .footer-fits) (λ u. offset-fits z k u .0) (λ u. offset-fits z k u .1) x h
       (λ v p. n (let w = reads-if (offsetAt z) resolves p .0 in omega arith)))
 
+  -- the run goes on up to x, and no second from x on reads it
+  none-behind : x ≤ e → ReadsFrom (offsetAt z) x e false
+  none-behind j = reads-done {u = e} {low = 1} (λ v. offset-fits z k v .0) (λ v a b p. omega arith) (omega arith)
+
   module _ (p : s + o ≡ x) {b : Bool} (m : ReadsFrom (offsetAt z) x e b) where
     pub read-again : b ≡ true → repeated ≡ markOf (readings z x)
     read-again y =
@@ -141,6 +145,9 @@ module _ (z : Zone) (k : ZoneFits z) {x s o e : ℕ} (h : firstLocal ≤ x) (q :
         go : (v : ℕ) → Reads (offsetAt z) x v → s ≤ v → Dec (v < e) → v ≡ s
         go v i j (yes a) = omega (arith, i, r .same v j a)
         go v i j (no a) = absurd (m .none y v (omega arith) i)
+
+  pub read-in-run : s + o ≡ x → x ≤ e → plain ≡ markOf (readings z x)
+  read-in-run p j = read-only-once p (none-behind j) refl
 
 -- ---- the run at a second
 

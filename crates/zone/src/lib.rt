@@ -111,7 +111,7 @@ pub fn run_at(f: &[u8], z: Zone, u: u64) -> OffsetUntil
 // ---- the second of a local time
 
 // Bounds of the zone's offsets, those of the footer included.
-fn bounds_of(f: &[u8], z: Zone) -> OffsetBounds
+pub fn bounds_of(f: &[u8], z: Zone) -> OffsetBounds
     requires { ⌜ ZoneOk (now f) z ⌝ }
     ensures { λ r. ⌜ ZoneBounds (zoneOffset (now (f .entry)) z) r ⌝ }
 {
@@ -201,33 +201,41 @@ pub fn second_of(f: &[u8], z: Zone, x: u64) -> u64
 
 // ---- the mark of a local time
 
-// A second from `from` on reads x. Offsets are positive, so that none from x on does.
-fn reads_from(f: &[u8], z: Zone, x: u64, from: u64) -> bool
-    requires { ⌜ Asked (now f) z x ⌝ }
+// A second from `from` on reads x. Of the transitions n are at or before `from`; by the zone's least offset none reads x behind x less that.
+fn reads_from(f: &[u8], z: Zone, x: u64, bounds: OffsetBounds, from: u64, n: usize) -> bool
+    requires { ⌜ Searched (now f) z x bounds × (n ≡ countAt (now f) (z .table) from) ⌝ }
     ensures { λ r. ⌜ ReadsFrom (zoneOffset (now (f .entry)) z) x from r ⌝ }
 {
+    let table = z.table;
+    let last = x - bounds.least;
     let mut u = from;
-    while u < x {
-        let run = run_at(f, z, u);
+    let mut k = n;
+    while u <= last {
+        let run = run_after(f, z, k, u);
         if in_run(u, run.offset as u64, run.until, x) {
             return true;
         }
         u = run.until;
+        k = count_on(table, k);
     }
     false
 }
 
-// The mark of the local second x: whether no second, one or more than one reads it. `second_of` gives the first that does, if one does.
-pub fn local_mark(f: &[u8], z: Zone, x: u64) -> u32
-    requires { ⌜ ZoneOk (now f) z × (firstLocal ≤ x) × (x < yearsEnd) ⌝ }
+// The mark of the local second x, whose second is s: whether no second, one or more than one reads it. Offsets are positive, so that none from x on does.
+pub fn mark_of(f: &[u8], z: Zone, x: u64, s: u64) -> u32
+    requires { ⌜ ZoneOk (now f) z × (firstLocal ≤ x) × (x < yearsEnd) × (s ≡ model.secondOf (zoneIs (now f) z) x) ⌝ }
     ensures { λ r. ⌜ r ≡ markOf (readings (zoneIs (now (f .entry)) z) x) ⌝ }
 {
-    let s = second_of(f, z, x);
-    let r = run_at(f, z, s);
+    let table = z.table;
+    let k = zone_tzif::count_at(f, table, s);
+    let r = run_after(f, z, k, s);
     if s + r.offset as u64 != x {
         return mark::SKIPPED;
     }
-    if reads_from(f, z, x, r.until) {
+    if x <= r.until {
+        return mark::PLAIN;
+    }
+    if reads_from(f, z, x, bounds_of(f, z), r.until, count_on(table, k)) {
         return mark::REPEATED;
     }
     mark::PLAIN

@@ -153,7 +153,7 @@ pub fn resolve_in(
         return ResolveAnswer::Refused(refusal::INSTANT_OUT_OF_RANGE, 0);
     };
     let time = Time { seconds, nanos };
-    let t = zone_local::resolve(file, z, d, time);
-    let marked = zone_local::resolve_mark(file, z, d, time);
-    ResolveAnswer::At(instant_signed::seconds_of(t.sec), t.ns as i64, marked)
+    let marked = zone_local::resolve_marked(file, z, d, time);
+    let t = marked.at;
+    ResolveAnswer::At(instant_signed::seconds_of(t.sec), t.ns as i64, marked.mark)
 }

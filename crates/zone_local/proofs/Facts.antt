@@ -16,7 +16,7 @@ use Rattle.model.specs.Offset.{offsetBias, greatestOffset}
 use Rattle.model.specs.Zone.{offsetAt, secondOf, resolve}
 use Rattle.model.specs.Working.{localDay, firstDate, lastDate, startOf, endOf}
 use Rattle.model.specs.Marks.{beyond, markOf, readings, resolveMark, endMark}
-use Rattle.laws_base.specs.Test.{same-test}
+use Rattle.laws_base.specs.Test.{by-test, same-test}
 use Rattle.laws_calendar.specs.Numbers.{IsDayNumber, number-within}
 use Rattle.laws_zone.specs.Sound.{Sound}
 use Rattle.laws_zone.specs.Zones.{fits-sound}
@@ -151,6 +151,19 @@ module _ (z : Zone) (from to d m : ℕ) where
   pub end-mark-last : ltb from to ≡ false → lastDay ≤ d → m ≡ beyond → m ≡ endMark (during z from to) d
   unfolding endMark
   end-mark-last h k e = rw (h, le-ltb d lastDay k) e
+
+-- its second, counted from the start's date
+pub till-same : (from ts tn : ℕ) → tn < second → ltb from (ts * second + tn) ≡ true → ts ≡ tillTime from (ts * second + tn) / second
+unfolding tillTime
+till-same from ts tn h t = rw t (omega arith)
+
+pub till-next : (from ts tn : ℕ) → tn < second → ltb from (ts * second + tn) ≡ false → ts + daySeconds ≡ tillTime from (ts * second + tn) / second
+unfolding tillTime
+till-next from ts tn h t = rw t (omega arith)
+
+pub till-small : (from ts tn : ℕ) → ts < daySeconds → tn < second → tillTime from (ts * second + tn) / second < 2 * daySeconds
+unfolding tillTime
+till-small from ts tn a b = by-test (ltb from (ts * second + tn)) (λ e. rw e (omega arith)) (λ e. rw e (omega arith))
 
 pub start-is : (z : Zone) (from to d t : ℕ) → t ≡ resolve z d from → t ≡ startOf (during z from to) d
 unfolding startOf

@@ -1,11 +1,15 @@
 -- What the functions on one date are asked and answer.
 use mathlib.Core.Bool.{true}
 use mathlib.Core.Path.{_≡_}
-use Prim.Native.Nat.{ℕ, _+_, _*_, _-_, _≤_, _<_}
+use mathlib.Core.Logic.{_⊎_}
+use Prim.Native.Nat.{ℕ, _+_, _*_, _-_, _/_, _≤_, _<_}
 use lib.Dec.{ltb}
 use Rattle.model.specs.Basic.{if_then_else_}
 use Rattle.model.specs.Calendar.{firstDay, lastDay, dayOfYearZero}
-use Rattle.model.specs.Instant.{second, day, firstInstant, lastInstant}
+use Rattle.model.specs.Instant.{second, day, daySeconds, firstInstant, lastInstant}
+use Rattle.model.specs.Offset.{offsetBias, greatestOffset}
+use Rattle.model.specs.Zone.{resolve}
+use Rattle.model.specs.Marks.{resolveMark, endMark}
 use Rattle.model.specs.Tzif.{Zone}
 use mathlib.Core.List.{List, []}
 use Rattle.model.specs.Blocks.{Block, put, clipped}
@@ -17,8 +21,10 @@ use Rattle.civil.specs.Dates.{timeIn, TimeFits}
 use Rattle.civil.specs.declared.Time.{Time}
 use Rattle.zone.specs.Zones.{zoneIs, ZoneOk}
 use Rattle.zone.specs.declared.Zone.{Zone as CodeZone}
-use Rattle.instant.specs.Instant.{nanos}
+use Rattle.instant.specs.Instant.{nanos, InRange}
 use Rattle.instant.specs.declared.Instant.{Instant}
+use Rattle.zone_tzif.specs.declared.OffsetBounds.{OffsetBounds}
+use Rattle.zone_local.specs.declared.MarkedInstant.{MarkedInstant}
 
 -- a date of the years -9999 to 9999
 pub record IsDay (d : ℕ) : Type 0 where
@@ -45,6 +51,39 @@ AskedDate f z d from to = ZoneOk f z × IsDay d × TimeFits from × TimeFits to
 abbrev pub IsTaken : Rule → ℕ → Item → Type 0
 IsTaken r d b = (nanos (b .start) ≡ startOf r d) × (nanos (b .end) ≡ endOf r d)
 
+-- m is the instant of a local time, in the range, with its mark
+abbrev pub IsResolved : Zone → ℕ → ℕ → MarkedInstant → Type 0
+IsResolved z d time m = (nanos (m .at) ≡ resolve z d time) × InRange (m .at) × (m .mark ≡ resolveMark z d time)
+
+-- m is the end of what the rule takes of the date d, with its mark
+abbrev pub IsEnd : Rule → ℕ → MarkedInstant → Type 0
+IsEnd r d m = (nanos (m .at) ≡ endOf r d) × (m .mark ≡ endMark r d)
+
+-- ---- a date that is looked at from instants
+
+-- a date, the times of day between which a rule takes it, bounds of offsets, and two instants
+pub record TouchAsked (bounds : OffsetBounds) (from to : Time) (d : ℕ) (a b : Instant) : Type 0 where
+  pub is-day : IsDay d
+  pub from-fits : TimeFits from
+  pub to-fits : TimeFits to
+  pub least : bounds .least ≤ greatestOffset
+  pub greatest : bounds .greatest ≤ greatestOffset
+  pub from-in : InRange a
+  pub upto-in : InRange b
+
+-- the local second of a time of day on a date, with offsetBias added
+abbrev pub localSecond : ℕ → ℕ → ℕ
+localSecond d time = d * daySeconds + time / second + offsetBias
+
+-- the end's time of day, counted from the start's date
+unfoldable pub tillTime : ℕ → ℕ → ℕ
+tillTime from to = if ltb from to then to else to + day
+
+-- what is taken of the date d starts behind b even by the greatest offset, or ends before a even by the least
+abbrev pub Apart : OffsetBounds → Time → Time → ℕ → Instant → Instant → Type 0
+Apart bounds from to d a b =
+    (b .sec + bounds .greatest < localSecond d (timeIn from)) ⊎ (localSecond d (tillTime (timeIn from) (timeIn to)) < a .sec + bounds .least)
+
 -- what a rule shows of a date in the window [lo, hi)
 unfoldable pub pieceOf : Rule → ℕ → ℕ → ℕ → List Block
 pieceOf r lo hi d = clipped lo hi (startOf r d) (endOf r d)
@@ -60,10 +99,6 @@ pub record KeepsOffset (z : Zone) (lo hi o : ℕ) : Type 0 where
   pub low : 0 < o → firstInstant + 4 * day ≤ lo
   pub high : 0 < o → hi + 4 * day ≤ lastInstant
   pub same : 0 < o → (u : ℕ) → lo - 4 * day ≤ u → u ≤ hi + 4 * day → offsetNanos z u ≡ o * second
-
--- the end's time of day, counted from the start's date
-unfoldable pub tillTime : ℕ → ℕ → ℕ
-tillTime from to = if ltb from to then to else to + day
 
 -- b is what a rule takes of the date d by the offset o: the local times less the offset
 abbrev pub IsTakenBy : ℕ → Time → Time → ℕ → Item → Type 0

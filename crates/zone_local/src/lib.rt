@@ -1,22 +1,24 @@
 // One date in a zone: the local date at an instant, the first and last date of a window, the instant of a time of day on a date, and the block
 // that a rule takes of a date. f is the zone's file.
 ghost use mathlib.Core.Path.{_≡_};
-ghost use Prim.Native.Nat.{_≤_};
+ghost use mathlib.Core.Bool.{false};
+ghost use Prim.Native.Nat.{_/_, _≤_};
 ghost use lib.Dec.{ltb};
 ghost use Rattle.instant.specs.Instant.{nanos, InRange};
+ghost use Rattle.model.specs.Instant.{second};
 ghost use Rattle.model.specs.Offset.{greatestOffset};
 ghost use Rattle.model.specs.DayNumber.{signedDay, dayOf};
 ghost use Rattle.model.specs.Zone as model;
 ghost use Rattle.model.specs.Working.{localDay, firstDate, lastDate, endOf};
-ghost use Rattle.model.specs.Marks.{resolveMark, endMark};
 ghost use Rattle.laws_calendar.specs.Numbers.{IsDayNumber};
 ghost use Rattle.civil.specs.Dates.{timeIn, TimeFits};
 ghost use Rattle.zone.specs.Zones.{zoneIs, ZoneOk};
-ghost use Rattle.zone_local.specs.Dates.{IsDay, rangeEnd, ruleOf, AskedDate, IsTaken, pieceOf, held, KeepsOffset, IsTakenBy, AskedPiece};
+ghost use Rattle.zone_local.specs.Dates.{IsDay, rangeEnd, ruleOf, AskedDate, IsTaken, IsResolved, IsEnd, TouchAsked, Apart, tillTime, pieceOf, held, KeepsOffset, IsTakenBy, AskedPiece};
 use block::Block;
 use civil::Time;
 use instant::Instant;
 use zone::Zone;
+use zone_tzif::OffsetBounds;
 
 // The numbers of the third and the last of the dates, and of the first of the year 0.
 const THIRD_DAY: i32 = -4371585;
@@ -132,34 +134,92 @@ pub fn end_of(f: &[u8], z: Zone, from: Time, to: Time, day: i32) -> Instant
     }
 }
 
-// The mark of a time of day on a date: whether no second, one or more than one reads it, or it lies beyond the range.
-pub fn resolve_mark(f: &[u8], z: Zone, day: i32, time: Time) -> u32
+// An instant with the mark of the local time that became it.
+pub struct MarkedInstant {
+    pub at: Instant,
+    pub mark: u32,
+}
+
+// The instant of a time of day on a date and its mark: whether no second, one or more than one reads it, or it lies beyond the range.
+pub fn resolve_marked(f: &[u8], z: Zone, day: i32, time: Time) -> MarkedInstant
     requires { ⌜ ZoneOk (now f) z × IsDay (dayOf day) × TimeFits time ⌝ }
-    ensures { λ r. ⌜ r ≡ resolveMark (zoneIs (now (f .entry)) z) (dayOf day) (timeIn time) ⌝ }
+    ensures { λ r. ⌜ IsResolved (zoneIs (now (f .entry)) z) (dayOf day) (timeIn time) r ⌝ }
 {
     let x = civil::midnight(day) + time.seconds as u64 + zone_offset::BIAS_64;
     let second = zone::second_of(f, z, x);
     if second < instant::FIRST {
-        return mark::BEYOND;
+        return MarkedInstant {
+            at: range_end(day),
+            mark: mark::BEYOND,
+        };
     }
     if instant::LAST < second {
-        return mark::BEYOND;
+        return MarkedInstant {
+            at: range_end(day),
+            mark: mark::BEYOND,
+        };
     }
-    zone::local_mark(f, z, x)
+    let m = zone::mark_of(f, z, x, second);
+    let at = Instant {
+        sec: second,
+        ns: time.nanos,
+    };
+    MarkedInstant { at, mark: m }
 }
 
-// The mark of `end_of`. An end that lacks a next date is beyond the range.
-pub fn end_mark(f: &[u8], z: Zone, from: Time, to: Time, day: i32) -> u32
+// `end_of` with its mark. An end that lacks a next date is beyond the range.
+pub fn end_marked(f: &[u8], z: Zone, from: Time, to: Time, day: i32) -> MarkedInstant
     requires { ⌜ AskedDate (now f) z (dayOf day) from to ⌝ }
-    ensures { λ r. ⌜ r ≡ endMark (ruleOf (now (f .entry)) z from to) (dayOf day) ⌝ }
+    ensures { λ r. ⌜ IsEnd (ruleOf (now (f .entry)) z from to) (dayOf day) r ⌝ }
 {
     if is_before(from, to) {
-        return resolve_mark(f, z, day, to);
+        return resolve_marked(f, z, day, to);
     }
     if civil::precedes(day, LAST_DAY) {
-        return resolve_mark(f, z, civil::later(day, 1), to);
+        return resolve_marked(f, z, civil::later(day, 1), to);
     }
-    mark::BEYOND
+    let at = Instant {
+        sec: instant::LAST,
+        ns: instant::LAST_NS,
+    };
+    MarkedInstant {
+        at,
+        mark: mark::BEYOND,
+    }
+}
+
+// The second of the end's time of day, counted from the start's date.
+fn till_second(from: Time, to: Time) -> u64
+    requires { ⌜ TimeFits from × TimeFits to ⌝ }
+    ensures { λ r. ⌜ r ≡ tillTime (timeIn from) (timeIn to) / second ⌝ }
+{
+    if is_before(from, to) {
+        return to.seconds as u64;
+    }
+    to.seconds as u64 + instant::DAY
+}
+
+// May that which a rule takes of a date hold or touch an instant from a to b? Not if it starts behind b even by the zone's greatest offset, or ends before a
+// even by its least.
+pub fn may_touch(
+    bounds: OffsetBounds,
+    from: Time,
+    to: Time,
+    day: i32,
+    a: Instant,
+    b: Instant,
+) -> bool
+    requires { ⌜ TouchAsked bounds from to (dayOf day) a b ⌝ }
+    ensures { λ r. ⌜ (r ≡ false → Apart bounds from to (dayOf day) a b) ⌝ }
+{
+    let base = civil::midnight(day) + zone_offset::BIAS_64;
+    if b.sec + bounds.greatest < base + from.seconds as u64 {
+        return false;
+    }
+    if base + till_second(from, to) < a.sec + bounds.least {
+        return false;
+    }
+    true
 }
 
 // What a rule takes of a date.

@@ -4,7 +4,8 @@ use lib.ListN.{length, length-map}
 use native.Mathlib.Omega.{arith}
 use mathlib.Core.Path.{_≡_, sym, _∙_}
 use Rattle.instant.specs.Instant.{nanos}
-use Rattle.block_marked.proofs.Scan.{Scanning, scan-starts, scan-turn, scan-done, none-shown}
+use borrow.Author.Needs.{needs}
+use Rattle.block_marked.proofs.Scan.{Scanning, scan-starts, scan-turn, scan-done}
 use Rattle.block_marked.proofs.shown_around.Statement.{statement}
 use Rattle.block_marked.proofs.shown_around.Tie as tie
 
@@ -14,14 +15,17 @@ Inv-loop u b n a₀ i₀ a i = Scanning (nanos u) n (b .items) a i
 abbrev μ-loop : tie.MeasureT-loop
 μ-loop u b n a₀ i₀ a i = n - i
 
+nothing-shown-requires : tie.Need-nothing-shown-requires Inv-loop μ-loop
+nothing-shown-requires c κs = search needs
+
 loop-holds : tie.Need-loop-holds Inv-loop μ-loop
-loop-holds c = let l : length ((c .args .t1) .items) ≡ 672 = sym (length-map ((c .args .t1) .items) _) ∙ (c .good .0 .1 .1 .0 .1 .0 .1) in scan-starts _ _ _ _ (omega (arith, (c .pre))) (none-shown (nanos (c .args .u)))
+loop-holds c = let l : length ((c .before .args .t1) .items) ≡ 21 = sym (length-map ((c .before .args .t1) .items) _) ∙ (c .before .good .0 .1 .1 .0 .1 .0 .1) in scan-starts _ _ _ _ (omega (arith, (c .before .pre))) ((c .nothing-shown .ensures) (nanos (c .before .args .u)))
 
 mul-x : tie.Need-mul-x Inv-loop μ-loop
-mul-x c = omega (arith, (c .before .before .pre), (c .loop-test .taken))
+mul-x c = omega (arith, (c .before .before .before .pre), (c .loop-test .taken))
 
 element-copy-out-x : tie.Need-element-copy-out-x Inv-loop μ-loop
-element-copy-out-x c = omega (arith, (c .before .before .pre), (c .loop-test .taken))
+element-copy-out-x c = omega (arith, (c .before .before .before .pre), (c .loop-test .taken))
 
 around-block-requires : tie.Need-around-block-requires Inv-loop μ-loop
 around-block-requires c κs = tt
@@ -30,7 +34,7 @@ together-requires : tie.Need-together-requires Inv-loop μ-loop
 together-requires c κs = tt
 
 add-i : tie.Need-add-i Inv-loop μ-loop
-add-i c = omega (arith, (c .before .before .before .before .before .pre), (c .before .before .before .loop-test .taken))
+add-i c = omega (arith, (c .before .before .before .before .before .before .pre), (c .before .before .before .loop-test .taken))
 
 loop-less : tie.Need-loop-less Inv-loop μ-loop
 loop-less c = omega (arith, (c .before .before .before .loop-test .taken))
@@ -47,6 +51,7 @@ shown-around-spec =
     (tie.spec
     Inv-loop
     μ-loop
+    nothing-shown-requires
     loop-holds
     mul-x
     element-copy-out-x

@@ -1,7 +1,6 @@
 -- `test_replay_marks::are_blocks` meets its contract.
-use Prim.Native.Nat.{_-_, _≤_}
-use native.Mathlib.Omega.{arith}
 use borrow.Author.Needs.{needs}
+use Prim.Native.Nat.{_-_, _≤_}
 use Rattle.test_replay_marks.proofs.are_blocks.Statement.{statement}
 use Rattle.test_replay_marks.proofs.are_blocks.Tie as tie
 
@@ -12,7 +11,7 @@ abbrev μ-loop : tie.MeasureT-loop
 μ-loop book pack s lo hi q blocks n i₀ i = n - i
 
 loop-holds : tie.Need-loop-holds Inv-loop μ-loop
-loop-holds c = omega arith
+loop-holds c = search needs
 
 mul-after : tie.Need-mul-after Inv-loop μ-loop
 mul-after c = search needs
@@ -47,20 +46,11 @@ mul-at c = search needs
 add-at : tie.Need-add-at Inv-loop μ-loop
 add-at c = search needs
 
-is-start-requires : tie.Need-is-start-requires Inv-loop μ-loop
-is-start-requires c κs = search needs
+is-block-requires : tie.Need-is-block-requires Inv-loop μ-loop
+is-block-requires c κs = search needs
 
 returns : tie.Need-returns Inv-loop μ-loop
-returns c = tt
-
-add-is-end : tie.Need-add-is-end Inv-loop μ-loop
-add-is-end c = search needs
-
-is-end-requires : tie.Need-is-end-requires Inv-loop μ-loop
-is-end-requires c κs = search needs
-
-returns-2 : tie.Need-returns-2 Inv-loop μ-loop
-returns-2 c = tt
+returns c = search needs
 
 add-i : tie.Need-add-i Inv-loop μ-loop
 add-i c = search needs
@@ -71,8 +61,8 @@ loop-less c = search needs
 loop-again : tie.Need-loop-again Inv-loop μ-loop
 loop-again c = search needs
 
-returns-3 : tie.Need-returns-3 Inv-loop μ-loop
-returns-3 c = tt
+returns-2 : tie.Need-returns-2 Inv-loop μ-loop
+returns-2 c = search needs
 
 pub are-blocks-spec : {M : Type 1} → statement M
 are-blocks-spec =
@@ -92,12 +82,9 @@ are-blocks-spec =
     after-requires-2
     mul-at
     add-at
-    is-start-requires
+    is-block-requires
     returns
-    add-is-end
-    is-end-requires
-    returns-2
     add-i
     loop-less
     loop-again
-    returns-3)
+    returns-2)

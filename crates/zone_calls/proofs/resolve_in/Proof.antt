@@ -51,11 +51,8 @@ enum-told-4 c = search needs
 returns-3 : tie.Need-returns-3
 returns-3 c = resolve-no-time _ _ _ _ _ _ (file-yes _ (c .before .before .before .before .before .before .before .before .before .before .before .before .«open» .ensures .0) (c .before .before .before .before .before .before .before .before .before .before .z .given .1)) (date-yes _ _ _ (c .before .before .before .before .before .before .before .before .before .before .before .before .before .before .fits .year) (c .before .before .before .before .before .before .before .before .before .before .before .before .before .before .fits .month) (c .before .before .before .before .before .before .before .before .before .before .before .before .before .before .fits .day) (c .before .before .before .before .before .before .before .before .day-given .ensures) (c .before .before .before .before .before .before .d .given .1)) (time-no _ _ (c .before .before .before .before .before .before .before .before .before .before .before .before .before .before .fits .second) (c .before .before .before .before .before .before .before .before .before .before .before .before .before .before .fits .ns) (c .before .before .before .before .capped .ensures) (c .before .before .before .capped2 .ensures) (c .before .before .time-of .ensures) (c .enum-told4 .given .1))
 
-resolve-requires : tie.Need-resolve-requires
-resolve-requires c κs = let t = time-in _ _ (c .before .before .time-of .ensures) (c .enum-told3 .given .1) in (zone-inside (c .before .before .before .before .before .before .before .before .before .before .before .before .«open» .ensures .1) (c .before .before .before .before .before .before .before .before .before .before .z .given .1), given-day-in _ _ _ (date-on _ _ _ (c .before .before .before .before .before .before .before .before .before .before .before .before .before .before .fits .year) (c .before .before .before .before .before .before .before .before .before .before .before .before .before .before .fits .month) (c .before .before .before .before .before .before .before .before .before .before .before .before .before .before .fits .day) (c .before .before .before .before .before .before .before .before .day-given .ensures) (c .before .before .before .before .before .before .d .given .1)), record { seconds = t .0; nanos = t .1 })
-
-resolve-mark-requires : tie.Need-resolve-mark-requires
-resolve-mark-requires c κs = let t = time-in _ _ (c .before .before .before .time-of .ensures) (c .before .enum-told3 .given .1) in (zone-inside (c .before .before .before .before .before .before .before .before .before .before .before .before .before .«open» .ensures .1) (c .before .before .before .before .before .before .before .before .before .before .before .z .given .1), given-day-in _ _ _ (date-on _ _ _ (c .before .before .before .before .before .before .before .before .before .before .before .before .before .before .before .fits .year) (c .before .before .before .before .before .before .before .before .before .before .before .before .before .before .before .fits .month) (c .before .before .before .before .before .before .before .before .before .before .before .before .before .before .before .fits .day) (c .before .before .before .before .before .before .before .before .before .day-given .ensures) (c .before .before .before .before .before .before .before .d .given .1)), record { seconds = t .0; nanos = t .1 })
+resolve-marked-requires : tie.Need-resolve-marked-requires
+resolve-marked-requires c κs = let t = time-in _ _ (c .before .before .time-of .ensures) (c .enum-told3 .given .1) in (zone-inside (c .before .before .before .before .before .before .before .before .before .before .before .before .«open» .ensures .1) (c .before .before .before .before .before .before .before .before .before .before .z .given .1), given-day-in _ _ _ (date-on _ _ _ (c .before .before .before .before .before .before .before .before .before .before .before .before .before .before .fits .year) (c .before .before .before .before .before .before .before .before .before .before .before .before .before .before .fits .month) (c .before .before .before .before .before .before .before .before .before .before .before .before .before .before .fits .day) (c .before .before .before .before .before .before .before .before .day-given .ensures) (c .before .before .before .before .before .before .d .given .1)), record { seconds = t .0; nanos = t .1 })
 
 seconds-of-requires : tie.Need-seconds-of-requires
 seconds-of-requires c κs = search needs
@@ -64,7 +61,7 @@ cast-t18 : tie.Need-cast-t18
 cast-t18 c = search needs
 
 returns-4 : tie.Need-returns-4
-returns-4 c = resolve-at _ _ _ _ _ _ (file-yes _ (c .before .before .before .before .before .before .before .before .before .before .before .before .before .before .before .before .«open» .ensures .0) (c .before .before .before .before .before .before .before .before .before .before .before .before .before .before .z .given .1)) (date-on _ _ _ (c .before .before .before .before .before .before .before .before .before .before .before .before .before .before .before .before .before .before .fits .year) (c .before .before .before .before .before .before .before .before .before .before .before .before .before .before .before .before .before .before .fits .month) (c .before .before .before .before .before .before .before .before .before .before .before .before .before .before .before .before .before .before .fits .day) (c .before .before .before .before .before .before .before .before .before .before .before .before .day-given .ensures) (c .before .before .before .before .before .before .before .before .before .before .d .given .1)) _ (time-yes _ _ (c .before .before .before .before .before .before .before .before .before .before .before .before .before .before .before .before .before .before .fits .second) (c .before .before .before .before .before .before .before .before .before .before .before .before .before .before .before .before .before .before .fits .ns) (c .before .before .before .before .before .before .before .before .capped .ensures) (c .before .before .before .before .before .before .before .capped2 .ensures) (c .before .before .before .before .before .before .time-of .ensures) (c .before .before .before .before .enum-told3 .given .1)) (c .before .before .before .resolve .ensures .1 .ns) (c .before .before .before .resolve .ensures .0) (toZ-ofZ {w = w64} (record { sfits = c .before .seconds-of .ok }) ∙ c .before .seconds-of .ensures) (toZ-pos w64 (let h = (c .before .before .before .resolve .ensures .1 .ns) in omega arith)) (c .before .before .resolve-mark .ensures)
+returns-4 c = resolve-at _ _ _ _ _ _ (file-yes _ (c .before .before .before .before .before .before .before .before .before .before .before .before .before .before .before .before .«open» .ensures .0) (c .before .before .before .before .before .before .before .before .before .before .before .before .before .before .z .given .1)) (date-on _ _ _ (c .before .before .before .before .before .before .before .before .before .before .before .before .before .before .before .before .before .before .fits .year) (c .before .before .before .before .before .before .before .before .before .before .before .before .before .before .before .before .before .before .fits .month) (c .before .before .before .before .before .before .before .before .before .before .before .before .before .before .before .before .before .before .fits .day) (c .before .before .before .before .before .before .before .before .before .before .before .before .day-given .ensures) (c .before .before .before .before .before .before .before .before .before .before .d .given .1)) _ (time-yes _ _ (c .before .before .before .before .before .before .before .before .before .before .before .before .before .before .before .before .before .before .fits .second) (c .before .before .before .before .before .before .before .before .before .before .before .before .before .before .before .before .before .before .fits .ns) (c .before .before .before .before .before .before .before .before .capped .ensures) (c .before .before .before .before .before .before .before .capped2 .ensures) (c .before .before .before .before .before .before .time-of .ensures) (c .before .before .before .before .enum-told3 .given .1)) (c .before .before .before .resolve-marked .ensures .1 .ns) (c .before .before .before .resolve-marked .ensures .0) (toZ-ofZ {w = w64} (record { sfits = c .before .seconds-of .ok }) ∙ c .before .seconds-of .ensures) (toZ-pos w64 (let h = (c .before .before .before .resolve-marked .ensures .1 .ns) in omega arith)) (c .before .before .before .resolve-marked .ensures .2)
 
 pub resolve-in-spec : {M : Type 1} → statement M
 resolve-in-spec =
@@ -84,8 +81,7 @@ resolve-in-spec =
     enum-told-3
     enum-told-4
     returns-3
-    resolve-requires
-    resolve-mark-requires
+    resolve-marked-requires
     seconds-of-requires
     cast-t18
     returns-4)
