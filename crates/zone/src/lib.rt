@@ -207,10 +207,10 @@ fn reads_from(f: &[u8], z: Zone, x: u64, bounds: OffsetBounds, from: u64, n: usi
     ensures { λ r. ⌜ ReadsFrom (zoneOffset (now (f .entry)) z) x from r ⌝ }
 {
     let table = z.table;
-    let last = x - bounds.least;
+    let latest = x - bounds.least;
     let mut u = from;
     let mut k = n;
-    while u <= last {
+    while u <= latest {
         let run = run_after(f, z, k, u);
         if in_run(u, run.offset as u64, run.until, x) {
             return true;

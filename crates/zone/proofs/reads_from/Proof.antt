@@ -12,13 +12,13 @@ use Rattle.zone.proofs.reads_from.Statement.{statement}
 use Rattle.zone.proofs.reads_from.Tie as tie
 
 abbrev Inv-loop : tie.InvT-loop
-Inv-loop f z x from n table last u₀ k₀ u k = (from ≤ u) × NoneFrom (offsetAt (zoneIs f z)) x from u × (k ≡ countAt f (z .table) u)
+Inv-loop f z x from n table latest u₀ k₀ u k = (from ≤ u) × NoneFrom (offsetAt (zoneIs f z)) x from u × (k ≡ countAt f (z .table) u)
 
 abbrev μ-loop : tie.MeasureT-loop
-μ-loop f z x from n table last u₀ k₀ u k = last + 1 - u
+μ-loop f z x from n table latest u₀ k₀ u k = latest + 1 - u
 
-sub-last : tie.Need-sub-last Inv-loop μ-loop
-sub-last c = omega (arith, (c .before .before .before .pre .0 .bounds .least) 0, (c .before .before .before .pre .0 .bounds .greatest) 0, (c .before .before .before .pre .0 .bounds .most), (c .before .before .before .pre .0 .from))
+sub-latest : tie.Need-sub-latest Inv-loop μ-loop
+sub-latest c = omega (arith, (c .before .before .before .pre .0 .bounds .least) 0, (c .before .before .before .pre .0 .bounds .greatest) 0, (c .before .before .before .pre .0 .bounds .most), (c .before .before .before .pre .0 .from))
 
 loop-holds : tie.Need-loop-holds Inv-loop μ-loop
 loop-holds c = (omega arith, (λ v i j p. omega arith), (c .before .before .before .pre .1))
@@ -53,7 +53,7 @@ reads-from-spec =
     (tie.spec
     Inv-loop
     μ-loop
-    sub-last
+    sub-latest
     loop-holds
     run-after-requires
     cast-in-run
