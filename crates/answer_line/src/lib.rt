@@ -1,5 +1,7 @@
 // Answer lines, written into lent memory: each function writes at a place and returns the place behind, and no other byte changes.
 // A line has at most 128 bytes: two letters, at most five numbers with a space and a sign each, a newline.
+#![tactic(auto)]
+
 ghost use Rattle.std.specs.Prelude.{◌≡◌, [], ◌∷◌, ℕ, ◌+◌, ◌<◌, ◌≤◌, length, pos};
 ghost use Rattle.model.specs.Bytes.{text};
 ghost use Rattle.model.specs.Lines.{digits_from, shown};

@@ -1,5 +1,7 @@
 // Answers as numbers in a lent slice, for functions that other languages call: an answer's numbers at its front, or a refusal's place, and what such a
 // function returns.
+#![tactic(auto)]
+
 ghost use Rattle.std.specs.Prelude.{◌≡◌, [], ◌∷◌, ◌+◌, ◌^◌, ◌≤◌, ◌<◌, length};
 ghost use Rattle.model.specs.Answer.{gives, refuses};
 ghost use Rattle.answer_numbers.specs.Outcomes.{written, answering, EndsAs};

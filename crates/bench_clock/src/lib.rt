@@ -1,6 +1,8 @@
 // The calls for a program that times them (bench/clock): many answers, builds and listings of one book in a call, so that the book is built once
 // for all answers. What is asked stands in the lent numbers and the answers come in their place: so no two of them are known to be equal before.
 // And the hardest stretch of one log, whose call builds the book itself.
+#![tactic(auto)]
+
 ghost use Rattle.std.specs.Prelude.{◌≡◌, ◌+◌, ◌≤◌, length};
 ghost use Rattle.rule.specs.Rules.{ScheduleFits};
 ghost use Rattle.laws_base.specs.Mapped.{Mapped};
@@ -16,7 +18,7 @@ use schedule_periods::MarkedPeriodAnswer;
 const GROUP_SIZE: usize = 4;
 
 // An answer: two numbers, four, or a refusal's number and place.
-#[derive(Drop)]
+#[derive(Clone, Copy)]
 pub enum AnyAnswer {
     Two(i64, i64),
     Four(i64, i64, i64, i64),

@@ -1,5 +1,7 @@
 // The working time of weeks for a program in C that times it (bench/week): of many weeks of one book, in place. The book is built once in a call.
 // Seconds are counted from -10400-01-01T00:00:00Z.
+#![tactic(auto)]
+
 ghost use Rattle.std.specs.Prelude.{◌≡◌};
 ghost use Rattle.rule.specs.Rules.{schedule_is, ScheduleFits};
 ghost use Rattle.bench_week.specs.Weeks.{week_in, WeeksBy, WeeksIn};

@@ -1,5 +1,7 @@
 // The zone's code for a program in C that times it (bench/zone): the seconds of many local seconds, and the offsets at many seconds, in place.
 // The file is opened once in a call. Seconds are counted from -10400-01-01T00:00:00Z; offsets and local seconds have zone_offset::BIAS added.
+#![tactic(auto)]
+
 ghost use Rattle.std.specs.Prelude.{◌≡◌};
 ghost use Rattle.model.specs.Tzif.{zone_of};
 ghost use Rattle.zone.specs.Zones.{zone_is, ZoneOk};

@@ -1,6 +1,8 @@
 // Bytes and big-endian numbers at a place of a slice, and parts of a slice.
 // Each function but `four_at` and `eight_at` takes every place: a byte past the end reads as 0, and a part ends where the slice ends. So a caller shows nothing
 // about places; that a number lies inside is for the caller's own tests to say. A caller who has said so can use those two, which test nothing.
+#![tactic(auto)]
+
 ghost use Rattle.std.specs.Prelude.{◌≡◌, ◌+◌, ◌≤◌, ◌<◌, length, get_or, take, drop};
 ghost use Rattle.big_endian.specs.Be.{two_bytes, four_bytes, be16, be32, be64};
 

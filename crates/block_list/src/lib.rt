@@ -1,4 +1,6 @@
 // The block list: an array of blocks with its own count, by value. A block is its start and its end, the end excluded, in nanoseconds from one instant.
+#![tactic(auto)]
+
 ghost use Rattle.std.specs.Prelude.{◌≡◌, []};
 ghost use Rattle.block_list.specs.Listed.{list_of};
 
@@ -6,14 +8,14 @@ ghost use Rattle.block_list.specs.Listed.{list_of};
 pub const CAPACITY: usize = 672;
 
 // A block: [start, end).
-#[derive(Drop)]
+#[derive(Clone, Copy)]
 pub struct Block {
     pub start: u64,
     pub end: u64,
 }
 
 // The first `len` items are the list.
-#[derive(Drop)]
+#[derive(Clone, Copy)]
 pub struct Blocks {
     pub items: [Block; CAPACITY],
     pub len: usize,

@@ -1,5 +1,7 @@
 // The list of the marked blocks of one rule: an array of blocks with its own count, by value. A block is its start and its end, the end excluded, each an instant
 // with its mark. And what blocks show around an instant u: whether they hold it and the one before it, and which marks their starts and ends there have.
+#![tactic(auto)]
+
 ghost use Rattle.std.specs.Prelude.{◌≡◌, ◌||◌, [], ℕ, ◌≤◌, max, eqb};
 ghost use Rattle.model.specs.Basic.{if◌then◌else◌};
 ghost use Rattle.model.specs.Marks.{plain};
@@ -14,7 +16,7 @@ use instant::Instant;
 pub const CAPACITY: usize = 21;
 
 // A block [start, end), with the marks of its ends.
-#[derive(Drop)]
+#[derive(Clone, Copy)]
 pub struct MarkedBlock {
     pub start: Instant,
     pub end: Instant,
@@ -23,14 +25,14 @@ pub struct MarkedBlock {
 }
 
 // The first `len` items are the list.
-#[derive(Drop)]
+#[derive(Clone, Copy)]
 pub struct MarkedBlocks {
     pub items: [MarkedBlock; CAPACITY],
     pub len: usize,
 }
 
 // What blocks show around an instant.
-#[derive(Drop)]
+#[derive(Clone, Copy)]
 pub struct Around {
     // one of them holds the instant before it, and one holds the instant itself
     pub before: bool,
@@ -41,7 +43,7 @@ pub struct Around {
 }
 
 // What blocks show around two instants: the start and the end of a period.
-#[derive(Drop)]
+#[derive(Clone, Copy)]
 pub struct Sides {
     pub start: Around,
     pub end: Around,

@@ -1,5 +1,7 @@
 // Blocks of time as pairs of numbers in lent memory: the start and the end of the first block, then those of the second, and so on. The numbers are
 // distances from one instant. No list is copied: a function reads and writes the memory that its caller lends.
+#![tactic(auto)]
+
 ghost use Rattle.std.specs.Prelude.{◌≡◌, ◌+◌, ◌*◌, ◌-◌, ◌≤◌, ◌<◌, length};
 ghost use Rattle.model.specs.Blocks.{subtract, total};
 ghost use Rattle.laws_blocks.specs.Members.{Normal, NonEmpty};
@@ -130,7 +132,7 @@ fn emit(out: &mut [u64], w: usize, s: u64, e: u64) -> usize
 }
 
 // How many blocks are written, and how many gaps are passed.
-#[derive(Drop)]
+#[derive(Clone, Copy)]
 pub struct Cut {
     pub w: usize,
     pub j: usize,

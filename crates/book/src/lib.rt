@@ -1,4 +1,6 @@
 // The rule book: its layout, its limits, and its records by value. Names and dates stay in the book that the caller lends.
+#![tactic(auto)]
+
 ghost use Rattle.std.specs.Prelude.{◌≡◌, ◌+◌, ◌*◌, ◌≤◌, ◌<◌, true, length};
 ghost use Rattle.model.specs.Book.{within_limits};
 ghost use Rattle.big_endian.specs.Be.{two_bytes, four_bytes};
@@ -53,7 +55,7 @@ const NANOS_AT: usize = 4;
 const COUNT_SIZE: usize = 2;
 
 // A record of the book. A name and dates are given by where they stand in the book.
-#[derive(Drop)]
+#[derive(Clone, Copy)]
 pub struct Entry {
     // DEFAULT_ZONE, WORK, BREAK or HOLIDAYS
     pub kind: u8,
@@ -260,7 +262,7 @@ fn dates_in(book: &[u8], i: usize) -> usize
 // ---- the limits
 
 // How many work, break and holiday records there are, and how many dates as written.
-#[derive(Drop)]
+#[derive(Clone, Copy)]
 pub struct Tallies {
     pub work: usize,
     pub breaks: usize,

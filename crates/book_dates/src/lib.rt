@@ -1,5 +1,7 @@
 // Dates as a book writes them, one behind the other: two bytes of a signed year, month and day. Two dates are the same day where their four bytes,
 // read as one number, are equal: so it is these numbers that are compared where different dates are counted.
+#![tactic(auto)]
+
 ghost use Rattle.std.specs.Prelude.{◌≡◌, true, not, ◌+◌, ◌*◌, ◌≤◌, ◌<◌, length};
 ghost use Rattle.model.specs.Basic.{among, distinct};
 ghost use Rattle.big_endian.specs.Be.{two_bytes};

@@ -1,4 +1,6 @@
 // From the bytes of a rule book and a zone pack to a schedule, or to a refusal: its number and a place in the book.
+#![tactic(auto)]
+
 ghost use Rattle.std.specs.Prelude.{◌≡◌, true, List, ℕ, ◌+◌, ◌≤◌, length};
 ghost use Rattle.zone_pack.specs.Pack.{is_pack};
 ghost use Rattle.book.specs.Meaning.{NameIn};
@@ -14,7 +16,7 @@ use zone::{Zone, ZoneRead};
 const FIRST_LIMIT: u64 = 366 * instant::DAY;
 
 // A zone that is open, and where its file stands in the pack: from where on, and how many bytes. UTC has none.
-#[derive(Drop)]
+#[derive(Clone, Copy)]
 pub struct Opened {
     pub at: usize,
     pub len: usize,
@@ -22,21 +24,21 @@ pub struct Opened {
 }
 
 // A zone that was sought: it, or a refusal's number and place.
-#[derive(Drop)]
+#[derive(Clone, Copy)]
 pub enum ZoneLookup {
     Found(Opened),
     Refused(u32, usize),
 }
 
 // The zone that was found last by a record's name: where the name stands in the book, how many letters it has, and the zone; or none was found yet.
-#[derive(Drop)]
+#[derive(Clone, Copy)]
 pub enum LastLookup {
     Last(usize, usize, Opened),
     Nothing,
 }
 
 // What building answers: number 0, place 0 and the schedule, or a refusal's number and place with a schedule that has no rules.
-#[derive(Drop)]
+#[derive(Clone, Copy)]
 pub struct Built {
     pub number: u32,
     pub place: usize,

@@ -1,5 +1,7 @@
 // The blocks of work or break rules in a window of at most 14 days, in a block list that is filled from the front, rule by rule and date by date. A block's
 // borders are nanoseconds from the window's start. And whether there is any, for which no list is made.
+#![tactic(auto)]
+
 ghost use Rattle.std.specs.Prelude.{◌≡◌, ◌+◌, ◌<◌, ltb};
 ghost use Rattle.model.specs.Basic.{if◌then◌else◌};
 ghost use Rattle.model.specs.Blocks.{clipped};
@@ -60,7 +62,7 @@ fn away(x: block::Block, lo: Instant) -> Block
 }
 
 // A rule in a window: its dates, their frame, and the times of day of start and end, from a date's midnight.
-#[derive(Drop)]
+#[derive(Clone, Copy)]
 pub struct Shifts {
     pub days: LocalDates,
     pub frame: Frame,

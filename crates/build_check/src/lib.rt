@@ -1,6 +1,8 @@
 // Whether a schedule has work at all: in two weeks of 2001, without breaks, holidays ignored. The blocks of work and those of breaks go into a block list
 // each, which is sorted and merged in its own array. Then the two lists are gone through together, until a block of work is found that is not taken whole.
 // Where there are no breaks, any block of work will do, and no list is made.
+#![tactic(auto)]
+
 ghost use Rattle.std.specs.Prelude.{◌≡◌};
 ghost use Rattle.model.specs.Build.{works_in_2001};
 ghost use Rattle.rule.specs.Rules.{schedule_is, ScheduleFits};

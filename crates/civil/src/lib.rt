@@ -1,5 +1,7 @@
 // The calendar. Days are numbered from 1970-01-01, with a sign, and years counted from -10400. Times of day and weekday sets. Day numbers are added,
 // subtracted and compared by the first functions here and nowhere else.
+#![tactic(auto)]
+
 ghost use Rattle.std.specs.Prelude.{◌≡◌, ◌+◌, ◌-◌, ◌*◌, ◌/◌, ◌≤◌, ◌<◌, ◌^◌};
 ghost use Rattle.model.specs.DayNumber.{signed_day, day_of};
 ghost use Rattle.model.specs.Instant.{day_seconds};
@@ -11,7 +13,7 @@ ghost use Rattle.civil.specs.Dates.{dated, day_read, time_read, calendar_years, 
 use instant::{DAY, SECOND};
 
 // A date, its year counted from -10400.
-#[derive(Drop)]
+#[derive(Clone, Copy)]
 pub struct Date {
     pub year: u32,
     pub month: u32,
@@ -40,7 +42,7 @@ const FIRST_WEEKDAY: u32 = 5;
 const SHORTEST_MONTH: u32 = 28;
 
 // A time of day.
-#[derive(Drop)]
+#[derive(Clone, Copy)]
 pub struct Time {
     pub seconds: u32,
     pub nanos: u32,
@@ -269,7 +271,7 @@ pub fn is_date(year: u32, month: u32, day: u32) -> bool
 }
 
 // The number of a day, or none: the numbers are no date.
-#[derive(Drop)]
+#[derive(Clone, Copy)]
 pub enum DayRead {
     Day(i32),
     NoDate,
@@ -286,7 +288,7 @@ pub fn day_of(date: Date) -> DayRead
 }
 
 // A time of day as nanoseconds from midnight, or none: the numbers are no time of day.
-#[derive(Drop)]
+#[derive(Clone, Copy)]
 pub enum TimeRead {
     Nanoseconds(u64),
     NoTime,

@@ -1,4 +1,6 @@
 // The program: see clock_run.
+#![tactic(auto)]
+
 fn main() {
     clock_run::run();
 }

@@ -3,6 +3,8 @@
 //
 // A read or a write that the system asks to try again (EAGAIN, EINTR) is tried again. One that fails otherwise ends the work: nothing is written
 // behind a write that failed, a line that was read in part is not answered, and a line on standard error says what failed.
+#![tactic(auto)]
+
 ghost use Rattle.std.specs.Prelude.{◌≤◌, length};
 ghost use Rattle.answer_line.specs.Placed.{longest};
 ghost use Rattle.build.specs.Read.{Builds};
@@ -129,7 +131,7 @@ fn load(path: &[u8], buf: &mut [u8]) -> usize
 // ---- queries and answers
 
 // Where reading stands after a piece of the input, and whether there may be more to do.
-#[derive(Drop)]
+#[derive(Clone, Copy)]
 struct Passed {
     progress: Progress,
     on: bool,

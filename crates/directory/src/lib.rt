@@ -1,4 +1,6 @@
 // The directory at the front of a book or a zone pack: a count (4 bytes), then for each record its start from the front and its length (4 bytes each).
+#![tactic(auto)]
+
 ghost use Rattle.std.specs.Prelude.{◌≡◌, ◌+◌, ◌*◌, ◌<◌};
 ghost use Rattle.model.specs.Directory.{parts_of};
 ghost use Rattle.big_endian.specs.Be.{four_bytes};

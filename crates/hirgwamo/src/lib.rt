@@ -1,6 +1,8 @@
 // The functions that other languages link (part/hirgwamo.h): one for each public call, on numbers and lent slices. Each answers in the numbers lent as
 // `answer`, and returns 0 or a refusal's number; where these numbers are too few it returns TOO_SHORT and writes nothing. The function for many queries,
 // `hirgwamo_answers`, is that of crate `query_numbers`.
+#![tactic(auto)]
+
 ghost use Rattle.std.specs.Prelude.{◌≡◌};
 ghost use Rattle.model.specs.Build as books;
 ghost use Rattle.model.specs.Calls as model;

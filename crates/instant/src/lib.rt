@@ -1,5 +1,7 @@
 // Instants and lengths of time, both as seconds and nanoseconds; an instant's are counted from -10400-01-01T00:00:00Z. The nanoseconds may reach 10^9 and
 // more: they carry. What a sum or a difference gives has them below 10^9.
+#![tactic(auto)]
+
 ghost use Rattle.std.specs.Prelude.{◌≡◌, ◌+◌, ◌*◌, ◌-◌, ◌<◌, ◌^◌, min, max, ltb};
 ghost use Rattle.instant.specs.Instant.{nanos, most, Exact};
 
@@ -30,7 +32,7 @@ const CARRY: u64 = 5;
 // These in nanoseconds.
 const CARRY_NS: u64 = CARRY * SECOND;
 
-#[derive(Drop)]
+#[derive(Clone, Copy)]
 pub struct Instant {
     pub sec: u64,
     pub ns: u32,

@@ -1,5 +1,7 @@
 // Instants and durations as the calls take and give them, pairs of signed numbers. Inside all numbers are unsigned: a signed number is read
 // as the unsigned one that is 2^63 more, compared and moved as that, and written back.
+#![tactic(auto)]
+
 ghost use Rattle.std.specs.Prelude.{◌≡◌, ◌+◌, ◌-◌, ◌≤◌, ◌<◌, ◌^◌, false};
 ghost use Rattle.model.specs.Instant.{instant_of, duration_of};
 ghost use Rattle.instant.specs.Instant.{nanos};
@@ -41,7 +43,7 @@ pub fn lower(k: u64) -> i64
 }
 
 // An instant, or none: the numbers are outside the range.
-#[derive(Drop)]
+#[derive(Clone, Copy)]
 pub enum InstantRead {
     At(Instant),
     OutOfRange,
@@ -80,14 +82,14 @@ pub fn seconds_of(sec: u64) -> i64
 }
 
 // Seconds and nanoseconds that never have opposite signs, the nanoseconds below 10^9 in size.
-#[derive(Drop)]
+#[derive(Clone, Copy)]
 pub struct Duration {
     pub secs: i64,
     pub nanos: i64,
 }
 
 // A sign, seconds and nanoseconds.
-#[derive(Drop)]
+#[derive(Clone, Copy)]
 pub enum DurationRead {
     Signed(bool, u64, u32),
     Malformed,
@@ -138,7 +140,7 @@ pub fn pair(minus: bool, sec: u64, ns: u32) -> Duration
 }
 
 // A duration, or why there is none: its seconds do not fit, or it is no duration.
-#[derive(Drop)]
+#[derive(Clone, Copy)]
 pub enum DurationMade {
     Is(Duration),
     OutOfRange,

@@ -1,1 +1,2 @@
 // Laws only: they stand in specs/.
+#![tactic(auto)]

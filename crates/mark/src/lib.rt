@@ -1,4 +1,5 @@
 // The marks of a local time and of a block's ends (document 02, request 4) by name. Of two marks the greater is kept.
+#![tactic(auto)]
 
 // One instant reads so.
 pub const PLAIN: u32 = 0;

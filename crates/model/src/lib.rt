@@ -1,1 +1,2 @@
 // Definitions only: what the clock means stands in specs/.
+#![tactic(auto)]

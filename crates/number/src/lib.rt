@@ -1,4 +1,6 @@
 // Numbers: the smaller and the greater of two, a difference that stops at zero, and bytes and words as wider numbers.
+#![tactic(auto)]
+
 ghost use Rattle.std.specs.Prelude.{◌≡◌, ◌-◌, ◌<◌, min, max};
 
 // The smaller of the two.

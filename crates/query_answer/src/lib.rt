@@ -1,4 +1,6 @@
 // From a query to its answer line.
+#![tactic(auto)]
+
 ghost use Rattle.std.specs.Prelude.{◌≡◌, ◌+◌, ◌≤◌, length};
 ghost use Rattle.rule.specs.Rules.{ScheduleFits};
 ghost use Rattle.build.specs.Read.{Builds};

@@ -1,5 +1,7 @@
 // Query lines, read byte by byte. A number may have any number of zeros in front, so a line may have any length; what is kept of it does not grow.
 // `start`, then `fed` for each byte but the newline, then `finish`.
+#![tactic(auto)]
+
 ghost use Rattle.std.specs.Prelude.{◌≡◌, List, [], ◌∷◌, ℕ, ◌<◌};
 ghost use Rattle.model.specs.Lines.{query_of};
 ghost use Rattle.query_line.specs.Reading.{Bytes, word_of, key_of, ask_four, ask_two, yet, query_is, IsDigit, space, minus_sign};
@@ -36,7 +38,7 @@ const BYTE_FITS: u64 = 72057594037927936;
 const DIGIT_FITS: u64 = HALF / 10;
 
 // A query, with its fields in their order.
-#[derive(Drop)]
+#[derive(Clone, Copy)]
 pub enum Query {
     Between(i64, i64, i64, i64),
     Add(i64, i64, i64, i64),
@@ -48,7 +50,7 @@ pub enum Query {
 }
 
 // The first word of a line.
-#[derive(Drop)]
+#[derive(Clone, Copy)]
 pub enum Word {
     Between,
     Add,
@@ -60,7 +62,7 @@ pub enum Word {
 
 // A line past its first space: the word, how many numbers are read, the last three of them with 2^63 added, and of the field at hand the
 // sign, whether it has digits, and the number that they write.
-#[derive(Drop)]
+#[derive(Clone, Copy)]
 pub struct Fields {
     pub word: Word,
     pub count: u64,
@@ -73,7 +75,7 @@ pub struct Fields {
 }
 
 // What is known of a line after some of its bytes.
-#[derive(Drop)]
+#[derive(Clone, Copy)]
 pub enum Line {
     // in the first word: how many bytes it has so far, and the number that they write, big-endian
     Name(u64, u64),
@@ -83,7 +85,7 @@ pub enum Line {
 }
 
 // A field's number with 2^63 added.
-#[derive(Drop)]
+#[derive(Clone, Copy)]
 pub enum Key {
     Is(u64),
     Not,

@@ -1,6 +1,8 @@
 // The function that other languages link for many queries of one book and pack (part/hirgwamo.h): five numbers for a query, six for its answer. The book is
 // built once. It has an archive of its own beside that of crate `hirgwamo`: there each function below it has one caller, so that the compiler puts it in
 // there and a schedule is copied less often.
+#![tactic(auto)]
+
 ghost use Rattle.std.specs.Prelude.{◌≡◌, ◌+◌, ◌*◌, ◌/◌, ◌^◌, ◌≤◌, ◌<◌, length};
 ghost use Rattle.model.specs.Answer.{gives, refuses};
 ghost use Rattle.rule.specs.Rules.{schedule_is};
@@ -31,7 +33,7 @@ pub const NEXT: i64 = 3;
 pub const PREVIOUS: i64 = 4;
 
 // An answer: two numbers and the windows resolved, a period's four, or a refusal's number and place.
-#[derive(Drop)]
+#[derive(Clone, Copy)]
 pub enum AnyAnswer {
     Counted(i64, i64, u64),
     Period(i64, i64, i64, i64),

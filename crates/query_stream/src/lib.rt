@@ -1,6 +1,8 @@
 // The answers to a text of query lines, where the text comes in pieces and the answers go out in pieces. What is kept between two pieces does not
 // grow: `begin`, then `feed` until each piece is used up, then `end`. `out_yet` is the text of answers that is still to come; each call writes
 // the front of it, so that all pieces together are `answered` of the definitions.
+#![tactic(auto)]
+
 ghost use Rattle.std.specs.Prelude.{◌≡◌, ◌-◌, ◌^◌, ◌≤◌, ◌<◌, length};
 ghost use Rattle.answer_line.specs.Placed.{longest};
 ghost use Rattle.build.specs.Read.{Builds};
@@ -12,7 +14,7 @@ use build::Built;
 use query_line::Line;
 
 // Where reading and writing stand: the line at hand, whether it has a byte, the next byte to read and the next place to write.
-#[derive(Drop)]
+#[derive(Clone, Copy)]
 pub struct Progress {
     pub line: Line,
     pub begun: bool,

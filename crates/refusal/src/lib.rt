@@ -1,4 +1,5 @@
 // The numbers of document 01's refusals, and of document 02's.
+#![tactic(auto)]
 
 // The book breaks its layout; a book limit is passed; the pack breaks its layout.
 pub const BOOK_LAYOUT: u32 = 1;

@@ -1,5 +1,7 @@
 // A built schedule by value: the work and break rules and the holiday records of a book, each with its zone. Zone files stay in the lent pack and
 // dates in the lent book: a rule says where they stand.
+#![tactic(auto)]
+
 ghost use Rattle.std.specs.Prelude.{◌≡◌};
 ghost use Rattle.model.specs.Calendar.{contains, weekday};
 ghost use Rattle.model.specs.DayNumber.{day_of};
@@ -9,7 +11,7 @@ use civil::Time;
 use zone::Zone;
 
 // A work or break rule.
-#[derive(Drop)]
+#[derive(Clone, Copy)]
 pub struct Rule {
     // where its zone's file stands in the pack, and the file's length; UTC has none
     pub at: usize,
@@ -22,7 +24,7 @@ pub struct Rule {
 }
 
 // A holiday record.
-#[derive(Drop)]
+#[derive(Clone, Copy)]
 pub struct HolidayDates {
     // where its zone's file stands in the pack, and the file's length; UTC has none
     pub at: usize,
@@ -34,7 +36,7 @@ pub struct HolidayDates {
 }
 
 // The rules of a book, as many as it may have.
-#[derive(Drop)]
+#[derive(Clone, Copy)]
 pub struct Schedule {
     // work, breaks and holidays, each with the number of places that are taken
     pub work: [Rule; book::MOST_WORK],

@@ -1,4 +1,6 @@
 // A pump's log: pairs of signed numbers in lent memory, offset and length of a run in whole seconds from a given instant. And the width of a window.
+#![tactic(auto)]
+
 ghost use Rattle.std.specs.Prelude.{◌≡◌, ◌<◌, nat_abs};
 ghost use Rattle.model.specs.Instant.{is_below_0};
 ghost use Rattle.model.specs.Hardest.{is_run, is_log, is_width};
@@ -18,7 +20,7 @@ const MOST_NUMBERS: usize = RUN_SIZE * MOST_RUNS;
 const MOST_WIDTH: u64 = 400 * instant::DAY;
 
 // The seconds at which a run starts and ends.
-#[derive(Drop)]
+#[derive(Clone, Copy)]
 pub struct Run {
     pub start: u64,
     pub end: u64,

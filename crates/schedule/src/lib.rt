@@ -1,6 +1,8 @@
 // The calls on the bytes of a rule book and a zone pack: the working time between two instants, and the instant that is a duration of working time
 // after another or before it. Instants and durations are pairs of signed numbers, seconds and nanoseconds.
 // Book and pack are lent as `&[u8]`: no function can change what lies behind such a reference, so no clause here speaks of them afterwards.
+#![tactic(auto)]
+
 ghost use Rattle.std.specs.Prelude.{◌≡◌, ◌^◌, ◌≤◌, ◌<◌};
 ghost use Rattle.model.specs.Calls as model;
 ghost use Rattle.model.specs.Walk as way;
@@ -17,14 +19,14 @@ use walk_between::Summed;
 use walk_search::Reached;
 
 // What `between` answers: a duration's seconds and nanoseconds and the number of windows resolved, or a refusal's number and place.
-#[derive(Drop)]
+#[derive(Clone, Copy)]
 pub enum TimeAnswer {
     Is(i64, i64, u64),
     Refused(u32, usize),
 }
 
 // What `add` and `sub` answer: an instant's seconds and nanoseconds and the number of windows resolved, or a refusal's number and place.
-#[derive(Drop)]
+#[derive(Clone, Copy)]
 pub enum MoveAnswer {
     At(i64, i64, u64),
     Refused(u32, usize),

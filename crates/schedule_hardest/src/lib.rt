@@ -1,6 +1,8 @@
 // The hardest stretch of a pump's log: of the windows of a given width, each of which starts with a run of the log, the earliest of those with the most
 // running time that was also working time. The log is lent as `&[i64]`, offset and length of each run in turn, in whole seconds from a given instant; no
 // function can change what lies behind such a reference.
+#![tactic(auto)]
+
 ghost use Rattle.std.specs.Prelude.{◌≡◌, ◌+◌, ◌*◌, ◌≤◌};
 ghost use Rattle.model.specs.Hardest as model;
 ghost use Rattle.model.specs.Instant.{second, last_instant};
@@ -14,7 +16,7 @@ use rule::Schedule;
 use walk_hardest::Stretch;
 
 // The seconds and nanoseconds of the time, then those of the window's start; or a refusal's number and place.
-#[derive(Drop)]
+#[derive(Clone, Copy)]
 pub enum HardestAnswer {
     Is(i64, i64, i64, i64),
     Refused(u32, usize),

@@ -1,5 +1,7 @@
 // The listing: all stretches of working time from one instant to another, as four signed numbers each in a lent slice. Where the numbers may be too few the
 // stretches are counted first, and where they are too few none is written.
+#![tactic(auto)]
+
 ghost use Rattle.std.specs.Prelude.{◌*◌, ◌-◌, ◌≤◌};
 ghost use Rattle.model.specs.Calls as model;
 ghost use Rattle.model.specs.Walk.{begun};
@@ -20,7 +22,7 @@ use window_memory::Size;
 const DATES: usize = 14;
 
 // How many stretches were written, or a refusal's number and place.
-#[derive(Drop)]
+#[derive(Clone, Copy)]
 pub enum Listing {
     Count(usize),
     Refused(u32, usize),

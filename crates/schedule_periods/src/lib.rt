@@ -1,5 +1,7 @@
 // The calls `next_period` and `previous_period`, on the bytes of a rule book and a zone pack and on an instant as signed numbers: the period's
 // start and end with the marks of both, or a refusal. On a schedule built before, the same with the marks or without them.
+#![tactic(auto)]
+
 ghost use Rattle.std.specs.Prelude.{◌≡◌, ◌++◌, ◌^◌, ◌<◌};
 ghost use Rattle.model.specs.Instant.{instant};
 ghost use Rattle.model.specs.Blocks.{block};
@@ -17,14 +19,14 @@ use walk_period::Found;
 use window_marks::Marks;
 
 // A period: the start's and the end's seconds from 1970 and nanoseconds, or a refusal's number and place.
-#[derive(Drop)]
+#[derive(Clone, Copy)]
 pub enum PeriodAnswer {
     Is(i64, i64, i64, i64),
     Refused(u32, usize),
 }
 
 // What `next_period` and `previous_period` answer: the same, and the marks of the start and of the end.
-#[derive(Drop)]
+#[derive(Clone, Copy)]
 pub enum MarkedPeriodAnswer {
     Is(i64, i64, i64, i64, u32, u32),
     Refused(u32, usize),

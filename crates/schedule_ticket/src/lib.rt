@@ -1,5 +1,7 @@
 // The ticket clock: a command to a service ticket, at an instant. The ticket is a value that its owner keeps: a command answers the ticket from then on with the working
 // time that has elapsed, or a refusal beside the ticket as it was.
+#![tactic(auto)]
+
 ghost use Rattle.std.specs.Prelude.{◌≡◌, true, ◌≤◌};
 ghost use Rattle.std.proofs.Math.Option.{some};
 ghost use Rattle.model.specs.Answer.{refuses};
@@ -19,7 +21,7 @@ use ticket::{Action, Ticket};
 
 // What a command answers. The number is 0 where it was accepted; then the time is what has elapsed, and the ticket the one from then on. Else they are a refusal's
 // number and place, no time, and the ticket as it was.
-#[derive(Drop)]
+#[derive(Clone, Copy)]
 pub struct TicketAnswer {
     pub number: u32,
     pub place: usize,

@@ -1,5 +1,7 @@
 // What the programs that ask stored questions share: the file of cases, the numbers of a question, the comparison with its answer, and what was seen. A file
 // has its cases one behind the other; a case is the lengths of its parts, four bytes each, and then the parts.
+#![tactic(auto)]
+
 ghost use Rattle.std.specs.Prelude.{◌≡◌, ◌+◌, ◌*◌, ◌≤◌, ◌<◌, length};
 ghost use Rattle.big_endian.specs.Be.{four_bytes};
 ghost use Rattle.test_cases.specs.Cases.{longest_file, most_parts, is_number_at, is_refusal_at};
@@ -87,7 +89,7 @@ pub fn is_refusal(q: &[u8], at: usize, number: u32, place: usize) -> bool
 // ---- what was seen
 
 // How many cases, answers and refusals that are as expected, and answers that are not.
-#[derive(Drop)]
+#[derive(Clone, Copy)]
 pub struct Seen {
     pub cases: u64,
     pub given: u64,

@@ -1,4 +1,6 @@
 // The program `clock` on this crate's input (docs/CASES.md).
+#![tactic(auto)]
+
 fn main() {
     clock_run::run();
 }

@@ -1,4 +1,6 @@
 // The calendar for a program that goes through its days one by one (tools/days.py).
+#![tactic(auto)]
+
 ghost use Rattle.std.specs.Prelude.{◌≡◌};
 ghost use Rattle.test_dates.specs.Days.{is_date_of};
 

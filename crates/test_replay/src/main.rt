@@ -1,6 +1,8 @@
 // Replays stored cases. A case is a book, a pack, query lines and the answers that are expected (tools/vector_cases.py writes them); the files
 // cases-00.bin, cases-01.bin and so on hold them one behind the other. Each case's lines are answered as the clock answers them, and the answers
 // are compared. Writes a line for each case that differs, and at the end how many cases and lines are equal and how many cases differ.
+#![tactic(auto)]
+
 ghost use Rattle.std.specs.Prelude.{◌≤◌, length};
 ghost use Rattle.test_cases.specs.Cases.{longest_file};
 
@@ -11,7 +13,7 @@ use test_cases::{number, one_more, text};
 const PARTS: usize = 4;
 
 // What was seen so far.
-#[derive(Drop)]
+#[derive(Clone, Copy)]
 pub struct Seen {
     pub cases: u64,
     pub lines: u64,

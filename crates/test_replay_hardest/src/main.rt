@@ -1,6 +1,8 @@
 // Asks for the hardest stretches of stored logs and compares the answers with those that are expected. The file hardest.bin (tools/hardest_cases.py writes
 // it) has cases one behind the other: a book, a pack and questions. A question is an instant, a width, the answer (a refusal's number and place, a duration
 // and the window's start) and a log. Writes a line for each question whose answer differs, and at the end how many questions there were.
+#![tactic(auto)]
+
 ghost use Rattle.std.specs.Prelude.{◌≡◌, ◌≤◌, ◌<◌, length};
 ghost use Rattle.big_endian.specs.Be.{be32, four_bytes};
 ghost use Rattle.test_cases.specs.Cases.{longest_file};

@@ -2,6 +2,8 @@
 // behind the other: a book, a pack and questions. A question is two instants, how many numbers are lent, and the answer: a refusal's number and place,
 // or the stretches. Before each question every lent number gets a mark of its own, so that a number that changes and should not is seen. Writes a line
 // for each question whose answer differs, and at the end how many questions there were.
+#![tactic(auto)]
+
 ghost use Rattle.std.specs.Prelude.{◌≡◌, ◌+◌, ◌*◌, ◌-◌, ◌≤◌, ◌<◌, length};
 ghost use Rattle.big_endian.specs.Walk.{all_from};
 ghost use Rattle.test_cases.specs.Cases.{longest_file};

@@ -2,6 +2,8 @@
 // one behind the other: a book, a pack and questions. A question is its kind, its length in bytes, the refusal that is expected, what is asked and the answer.
 // Asked are the instant and the mark of a local time, by the pack, which is a zone file then; the next and the previous period with its marks; and the blocks
 // of a window with their marks. Writes a line for each question whose answer differs, and at the end how many questions there were.
+#![tactic(auto)]
+
 ghost use Rattle.std.specs.Prelude.{◌≡◌, true, ◌+◌, ◌*◌, ◌≤◌, ◌<◌, ◌^◌, length};
 ghost use Rattle.big_endian.specs.Be.{be32, four_bytes};
 ghost use Rattle.instant.specs.Instant.{InRange, Exact};

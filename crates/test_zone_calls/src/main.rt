@@ -2,6 +2,8 @@
 // one behind the other, and questions.bin questions of 52 bytes (tools/zone_questions.py writes both, and what is expected): which call, the file's place
 // and its length, 4 bytes each; then five signed numbers of 8 bytes, each with 2^63 added. `offset_in` is call 1 and `next_change_in` call 2, which take
 // the first two of the numbers; `resolve_in` is call 3.
+#![tactic(auto)]
+
 ghost use Rattle.io.specs.Counts.{IsPrefixLen};
 
 use libc::STDOUT_FILENO;

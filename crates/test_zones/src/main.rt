@@ -2,6 +2,8 @@
 // gives too and the number that it does not. The answers for record K stand in answers-K.bin, K with three digits (tools/zone_answers.py makes
 // both): pairs of signed 64-bit numbers, a local second as if it were UTC and the second that it is; or, where the first number lies beyond the local
 // times, a second with 656,384,508,000 added and the second of the next change of the offset after it. A zone without that file has none.
+#![tactic(auto)]
+
 ghost use Rattle.std.specs.Prelude.{◌≡◌, ◌<◌, ◌≤◌};
 ghost use Rattle.big_endian.specs.Walk.{count_below};
 ghost use Rattle.zone.specs.Zones.{zone_is, ZoneOk};

@@ -1,4 +1,6 @@
 // A ticket by value: where the clock of a service ticket stands between two commands, without its history. What a command makes of it, and which values are tickets.
+#![tactic(auto)]
+
 ghost use Rattle.std.specs.Prelude.{◌≡◌, true, ◌≤◌, ◌<◌};
 ghost use Rattle.model.specs.Basic.{if◌then◌else◌, any};
 ghost use Rattle.model_ticket.specs.History as commands;
@@ -18,7 +20,7 @@ pub const RUNNING: u32 = 1;
 pub const HELD: u32 = 2;
 
 // A new ticket has nothing but its state.
-#[derive(Drop)]
+#[derive(Clone, Copy)]
 pub struct Ticket {
     pub state: u32,
     // the instant of the last command
@@ -30,7 +32,7 @@ pub struct Ticket {
 }
 
 // What a command asks for; a mark has a name.
-#[derive(Drop)]
+#[derive(Clone, Copy)]
 pub enum Action {
     Start,
     Hold,

@@ -1,5 +1,7 @@
 // The marks of a ticket: an array of at most eight with its own count, by value, in the order in which they were set. A mark has a name, and says whether the ticket
 // was running there and which time had elapsed.
+#![tactic(auto)]
+
 ghost use Rattle.std.specs.Prelude.{◌≡◌, [], ◌∷◌, ◌+◌, ◌≤◌, ◌<◌, length};
 ghost use Rattle.instant.specs.Instant.{nanos, InRange};
 ghost use Rattle.model_ticket.specs.History.{up_to};
@@ -13,7 +15,7 @@ pub const CAPACITY: usize = 8;
 pub const NAMES: u64 = 8;
 
 // A mark. The time is what had elapsed there.
-#[derive(Drop)]
+#[derive(Clone, Copy)]
 pub struct Mark {
     pub name: u64,
     pub running: bool,
@@ -21,7 +23,7 @@ pub struct Mark {
 }
 
 // The first `len` items are set, the latest last.
-#[derive(Drop)]
+#[derive(Clone, Copy)]
 pub struct Marks {
     pub items: [Mark; CAPACITY],
     pub len: usize,

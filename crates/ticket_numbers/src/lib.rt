@@ -1,5 +1,7 @@
 // A ticket as 40 lent signed numbers, and the function that other languages link for a command to it (part/hirgwamo.h). The numbers are the whole ticket: their owner
 // keeps them between two commands.
+#![tactic(auto)]
+
 ghost use Rattle.std.specs.Prelude.{◌≡◌, [], ◌∷◌, ◌++◌, map, ◌+◌, ◌*◌, ◌-◌, ◌^◌, ◌≤◌, ◌<◌, length, take, drop};
 ghost use Rattle.std.proofs.Math.Option.{none};
 ghost use Rattle.model.specs.Basic.{if◌then◌else◌};

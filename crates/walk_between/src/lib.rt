@@ -1,5 +1,7 @@
 // The walk over windows of seven days for the working time between two instants. Windows that repeat the one before them are skipped, many in one step.
 // The answer has the number of windows that were resolved.
+#![tactic(auto)]
+
 ghost use Rattle.rule.specs.Rules.{schedule_is, ScheduleFits};
 ghost use Rattle.window_week.specs.Room.{HasRoom};
 ghost use Rattle.walk_between.specs.Sums.{Interval, ReusedFrom, Sums};
@@ -9,7 +11,7 @@ use rule::Schedule;
 use window_memory::Size;
 
 // The working time of several windows, with the number of windows resolved.
-#[derive(Drop)]
+#[derive(Clone, Copy)]
 pub struct Summed {
     pub time: Length,
     pub windows: u64,

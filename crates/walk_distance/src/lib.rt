@@ -1,5 +1,7 @@
 // The windows of a walk, by their distances from the instant where it starts: going on from it, or back. A window is seven days, or less at the
 // range's end.
+#![tactic(auto)]
+
 ghost use Rattle.std.specs.Prelude.{◌≡◌, ◌+◌, ◌*◌, ◌-◌, ◌/◌, ◌≤◌, ◌<◌, min, eqb};
 ghost use Rattle.instant.specs.Instant.{nanos, most, Exact, InRange};
 ghost use Rattle.model.specs.Instant.{week};
@@ -114,7 +116,7 @@ pub fn reach(t: Instant, back: bool) -> Length
 }
 
 // The instants between which a window lies.
-#[derive(Drop)]
+#[derive(Clone, Copy)]
 pub struct Ends {
     pub lo: Instant,
     pub hi: Instant,

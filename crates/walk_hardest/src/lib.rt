@@ -1,6 +1,8 @@
 // The windows of a log, each of which starts with a run, and the one with the most working time. A window holds some runs whole and a part of at most one
 // more. The times of whole runs are found first, once for each run; then both ends of the window go over the runs, and each window asks for the time of one
 // part: at most two walks for each run, all in the same memory. Seconds are counted from the given instant.
+#![tactic(auto)]
+
 ghost use Rattle.std.specs.Prelude.{◌≡◌, ◌+◌, ◌≤◌, ◌<◌, length};
 ghost use Rattle.instant.specs.Instant.{nanos};
 ghost use Rattle.rule.specs.Rules.{schedule_is, ScheduleFits};
@@ -15,14 +17,14 @@ use instant::{Instant, Length};
 use rule::Schedule;
 
 // The runs that a window holds whole end before run `next`; their time in nanoseconds.
-#[derive(Drop)]
+#[derive(Clone, Copy)]
 pub struct Held {
     pub next: usize,
     pub time: u64,
 }
 
 // A window's working time in nanoseconds, and the second at which it starts.
-#[derive(Drop)]
+#[derive(Clone, Copy)]
 pub struct Stretch {
     pub time: u64,
     pub start: u64,

@@ -1,6 +1,8 @@
 // The stretches of a listing, block by block: a block that touches the open stretch makes it longer, any other ends it and begins the next. Where they
 // are to be written, each stretch that ends is written as four numbers behind those before it. The blocks of a window come as pairs of numbers in lent
 // memory, distances from the window's start.
+#![tactic(auto)]
+
 ghost use Rattle.std.specs.Prelude.{◌≡◌, true, [], ◌∷◌, ◌+◌, ◌*◌, ◌/◌, ◌%◌, ◌≤◌, ◌<◌, ltb, length, pos};
 ghost use Rattle.model.specs.Instant.{second, instant};
 ghost use Rattle.instant.specs.Instant.{nanos, most, InRange};
@@ -17,7 +19,7 @@ pub const STRETCH_SIZE: usize = 4;
 const END_AT: usize = 2;
 
 // How many stretches have ended, and the one that is still open, where `known` says that there is one.
-#[derive(Drop)]
+#[derive(Clone, Copy)]
 pub struct Open {
     pub known: bool,
     pub block: Block,

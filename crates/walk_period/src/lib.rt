@@ -1,4 +1,6 @@
 // The walk over windows of seven days for the nearest period of working time, on from an instant or back from it.
+#![tactic(auto)]
+
 ghost use Rattle.std.specs.Prelude.{◌≡◌, ◌||◌, ◌+◌, ◌-◌, ◌≤◌, ◌<◌, min, ltb, leb};
 ghost use Rattle.model.specs.Instant.{week};
 ghost use Rattle.instant.specs.Instant.{nanos, most, Exact, InRange};
@@ -12,7 +14,7 @@ use walk_period_week::SoFar;
 use window_memory::Size;
 
 // What the walk finds: the distances of a period's nearer and further border, no work within the limit, or the range's end.
-#[derive(Drop)]
+#[derive(Clone, Copy)]
 pub enum Found {
     Period(Length, Length),
     NoWork,

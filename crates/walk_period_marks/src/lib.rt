@@ -1,4 +1,6 @@
 // The marks of a period's two ends: each is that of the block which has this end in the window of the walk where the period begins or ends.
+#![tactic(auto)]
+
 ghost use Rattle.std.specs.Prelude.{◌≡◌};
 ghost use Rattle.model.specs.Basic.{if◌then◌else◌};
 ghost use Rattle.model.specs.Marks.{plain, window_of_start, window_of_end};

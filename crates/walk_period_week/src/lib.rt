@@ -1,5 +1,7 @@
 // A period's search through the blocks of one window, which are pairs of numbers in lent memory: going on from an instant or back from it. Inside the
 // window the numbers are nanoseconds from its nearer border; what is known of a period is lengths of time from the instant.
+#![tactic(auto)]
+
 ghost use Rattle.std.specs.Prelude.{◌≡◌, not, ◌+◌, ◌*◌, ◌≤◌, ◌<◌, ltb, eqb, length};
 ghost use Rattle.model.specs.Basic.{if◌then◌else◌};
 ghost use Rattle.model.specs.Walk as model;
@@ -11,7 +13,7 @@ use instant::Length;
 
 // What is known after a window: nothing so far, a period that may go on, one that has ended, or a first block that is too far off. A period is the
 // distances of its nearer and its further border.
-#[derive(Drop)]
+#[derive(Clone, Copy)]
 pub enum SoFar {
     Nothing,
     Growing(Length, Length),
@@ -20,14 +22,14 @@ pub enum SoFar {
 }
 
 // A block's nearer and further border, as distances from the window's nearer border.
-#[derive(Drop)]
+#[derive(Clone, Copy)]
 struct Borders {
     from: u64,
     to: u64,
 }
 
 // How far a period goes on in a window: up to a distance, where it may go on in the next one, or where it has ended.
-#[derive(Drop)]
+#[derive(Clone, Copy)]
 enum Tail {
     Open(u64),
     Closed(u64),

@@ -1,5 +1,7 @@
 // The walk over windows of seven days that searches for a length of working time, on from an instant or back from it. Windows that repeat the one before
 // them are skipped, many in one step. An answer has the number of windows that were resolved.
+#![tactic(auto)]
+
 ghost use Rattle.std.specs.Prelude.{◌≡◌, ◌+◌, ◌*◌, ◌-◌, ◌≤◌, ◌<◌, min};
 ghost use Rattle.instant.specs.Instant.{nanos, most, Exact, InRange};
 ghost use Rattle.model.specs.Instant.{week};
@@ -16,7 +18,7 @@ use walk_search_week::WeekStep;
 use window_memory::Size;
 
 // What a window leaves: the distance that answers, a gap that is too long, or time left to find with the distance where work last ended.
-#[derive(Drop)]
+#[derive(Clone, Copy)]
 pub enum Step {
     Found(Length),
     Gap,
@@ -24,7 +26,7 @@ pub enum Step {
 }
 
 // What is kept of a whole window with working time: that time, and the distance from where its work last ended to its end.
-#[derive(Drop)]
+#[derive(Clone, Copy)]
 pub struct Previous {
     pub known: bool,
     pub time: Length,
@@ -32,7 +34,7 @@ pub struct Previous {
 }
 
 // What a search reaches: a distance and the number of windows resolved on the way, no work within the limit, or the range's end.
-#[derive(Drop)]
+#[derive(Clone, Copy)]
 pub enum Reached {
     At(Length, u64),
     NoWork,

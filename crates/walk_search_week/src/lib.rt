@@ -1,5 +1,7 @@
 // A search's look at the blocks of one window, which are pairs of numbers in lent memory: how far working time reaches along them, on from the window's
 // start or back from its end. Nothing is copied.
+#![tactic(auto)]
+
 ghost use Rattle.std.specs.Prelude.{◌≡◌, ◌+◌, ◌*◌, ◌-◌, ◌≤◌, ◌<◌, ◌^◌, ltb, length};
 ghost use Rattle.model.specs.Walk.{search_blocks, backward};
 ghost use Rattle.laws_blocks.specs.Move.{moves};
@@ -7,7 +9,7 @@ ghost use Rattle.block_pairs.specs.Pairs.{pairs};
 ghost use Rattle.walk_search_week.specs.Steps.{WindowBlocks, week_step_is};
 
 // What a window leaves: the distance that answers, a gap that is too long, or time left to find with the distance where work last ended.
-#[derive(Drop)]
+#[derive(Clone, Copy)]
 pub enum WeekStep {
     Found(u64),
     Gap,

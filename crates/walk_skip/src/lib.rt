@@ -1,5 +1,7 @@
 // How many borders of windows in a row pass the skip test, on from an instant or back from it. One test of all: the span from eleven days before
 // the first border to eleven days behind the last one lies in the range, no work or break zone changes its offset in it, and no holiday lies among its dates.
+#![tactic(auto)]
+
 ghost use Rattle.std.specs.Prelude.{◌≡◌, ◌+◌, ◌*◌, ◌≤◌, ◌<◌, length, take};
 ghost use Rattle.instant.specs.Instant.{nanos, InRange};
 ghost use Rattle.model.specs.DayNumber.{day_of};

@@ -1,4 +1,6 @@
 // The dates that a window [lo, hi) has in a zone, and what a rule shows of one of them. Zone files are in the lent pack.
+#![tactic(auto)]
+
 ghost use Rattle.std.specs.Prelude.{◌≡◌, ◌+◌, ◌-◌, ◌<◌};
 ghost use Rattle.model.specs.DayNumber.{signed_day, day_of};
 ghost use Rattle.zone.specs.Zones.{zone_is, ZoneOk};
@@ -12,7 +14,7 @@ use rule::Rule;
 use zone::Zone;
 
 // The dates that a window has in a zone, and the offset that the zone keeps around it, 0 where none is known.
-#[derive(Drop)]
+#[derive(Clone, Copy)]
 pub struct LocalDates {
     pub first: i32,
     pub last: i32,

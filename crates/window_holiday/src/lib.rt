@@ -1,5 +1,7 @@
 // The dates of a holiday record in a window of at most seven days, as pairs of numbers in lent memory: the blocks' borders in nanoseconds from the
 // window's start.
+#![tactic(auto)]
+
 ghost use Rattle.std.specs.Prelude.{◌≡◌, ◌+◌, ◌<◌, ◌≤◌, length};
 ghost use Rattle.book.specs.Meaning.{day_at};
 ghost use Rattle.rule.specs.Rules.{HolidaysFit};

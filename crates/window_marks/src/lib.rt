@@ -1,5 +1,7 @@
 // The marks of a window's blocks: of the one that starts at an instant and of the one that ends at an instant. Of each record the whole marked blocks of the
 // window's dates that may touch one of the two are filled into a list, date by date; what these show around the two gives the marks. Nothing is sorted, merged or cut.
+#![tactic(auto)]
+
 ghost use Rattle.std.specs.Prelude.{◌≡◌, true, ◌+◌, ◌*◌, ◌≤◌, ◌<◌, ltb, eqb, length};
 ghost use Rattle.model.specs.Basic.{if◌then◌else◌, among};
 ghost use Rattle.model.specs.DayNumber.{day_of};
@@ -19,14 +21,14 @@ use zone::Zone;
 use zone_tzif::OffsetBounds;
 
 // Which dates a rule takes: those of a set of weekdays, or those that are written in the book, by the place of the first and their number.
-#[derive(Drop)]
+#[derive(Clone, Copy)]
 pub enum Dates {
     Weekdays(u8),
     Written(usize, usize),
 }
 
 // The rule of a work, break or holiday record: where its zone's file stands in the pack, and the file's length; its zone, its times of day and its dates.
-#[derive(Drop)]
+#[derive(Clone, Copy)]
 pub struct AnyRule {
     pub at: usize,
     pub len: usize,
@@ -37,7 +39,7 @@ pub struct AnyRule {
 }
 
 // A period's start or end: an instant, and the window [lo, hi) in which a block has it.
-#[derive(Drop)]
+#[derive(Clone, Copy)]
 pub struct Border {
     pub at: Instant,
     pub lo: Instant,
@@ -45,7 +47,7 @@ pub struct Border {
 }
 
 // The marks of a start and of an end.
-#[derive(Drop)]
+#[derive(Clone, Copy)]
 pub struct Marks {
     pub start: u32,
     pub end: u32,

@@ -1,5 +1,7 @@
 // The memory that a walk needs for the blocks of one window: three slices of numbers, for the work, for what is taken from it, and for what is left. A
 // walk lends them once, in arrays of the size that is chosen here by how many records the book has: a small book then has little to set to zero.
+#![tactic(auto)]
+
 ghost use Rattle.std.specs.Prelude.{◌≤◌};
 ghost use Rattle.window_memory.specs.Sizes.{most_rules, SizeFor};
 
@@ -20,7 +22,7 @@ pub const FOUR: usize = FEW_RECORDS * OF_RECORD + MORE;
 
 pub const ALL: usize = MOST_RECORDS * OF_RECORD + MORE;
 
-#[derive(Drop)]
+#[derive(Clone, Copy)]
 pub enum Size {
     One,
     Four,

@@ -1,5 +1,7 @@
 // One piece of a window as a pair of numbers in lent memory: a block's borders in nanoseconds from the window's start. A piece is added in place to a
 // list that stays sorted and apart, so that no list is copied.
+#![tactic(auto)]
+
 ghost use Rattle.std.specs.Prelude.{◌≡◌, ◌+◌, ◌*◌, ◌-◌, ◌≤◌, ◌<◌};
 ghost use Rattle.model.specs.Blocks.{clipped};
 ghost use Rattle.model.specs.Instant.{day, last_second};
@@ -76,7 +78,7 @@ pub fn span_into(s: u64, e: u64, lo: u64, hi: u64, out: &mut [u64], w: usize) ->
 
 // A zone's dates where one offset holds around the window. Nanoseconds are counted from 14 days before the second of the window's start: the first
 // date's midnight, the window's start and its end.
-#[derive(Drop)]
+#[derive(Clone, Copy)]
 pub struct Frame {
     pub first: u64,
     pub lo: u64,

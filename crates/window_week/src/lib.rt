@@ -1,5 +1,7 @@
 // The working time of a window of at most seven days as pairs of numbers in lent memory: the blocks' borders in nanoseconds from the window's start.
 // No list is copied.
+#![tactic(auto)]
+
 ghost use Rattle.rule.specs.Rules.{ScheduleFits};
 ghost use Rattle.window_dates.specs.Windows.{Window};
 ghost use Rattle.window_week.specs.Room.{HasRoom};

@@ -1,5 +1,7 @@
 // What a work or break rule has in a window of at most seven days, as pairs of numbers in lent memory: the blocks' borders in nanoseconds from the
 // window's start.
+#![tactic(auto)]
+
 ghost use Rattle.model.specs.DayNumber.{day_of};
 ghost use Rattle.rule.specs.Rules.{RuleFits};
 ghost use Rattle.window_dates.specs.Windows.{Window, RuleDate};

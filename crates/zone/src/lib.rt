@@ -1,4 +1,6 @@
 // A zone: its file, the layout of the file's table, and its footer. The offset at a second, and the second of a local time. Seconds are counted from -10400-01-01T00:00:00Z; offsets and local seconds have zone_offset::BIAS added.
+#![tactic(auto)]
+
 ghost use Rattle.std.specs.Prelude.{◌≡◌, List, ℕ, ◌+◌, ◌-◌, ◌≤◌, ◌<◌};
 ghost use Rattle.model.specs.Zone as model;
 ghost use Rattle.model.specs.Tzif.{zone_of};
@@ -21,14 +23,14 @@ pub const YEARS_END: u64 = 656384601600;
 pub const FIRST_LOCAL: u64 = 187200;
 
 // An open zone: the layout of its file's table, and its footer.
-#[derive(Drop)]
+#[derive(Clone, Copy)]
 pub struct Zone {
     pub table: Layout,
     pub footer: Footer,
 }
 
 // What `open` answers.
-#[derive(Drop)]
+#[derive(Clone, Copy)]
 pub enum ZoneRead {
     Opened(Zone),
     Unusable,

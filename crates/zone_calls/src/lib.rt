@@ -1,6 +1,8 @@
 // A zone file's calls for one who has its bytes and nothing else: the offset at an instant, the next change of the offset after an instant, and the
 // instant of a local time. Instants are pairs of signed numbers, seconds from 1970 and nanoseconds. Each call opens the file, checks what it is given and
 // answers for all of it: 5 is a file that is not usable, 8 an instant, a date or a time of day that there is not. There is no book: the place is 0.
+#![tactic(auto)]
+
 ghost use Rattle.std.specs.Prelude.{◌≡◌, min};
 ghost use Rattle.model.specs.ZoneCalls as definition;
 ghost use Rattle.model.specs.Marks as marks;
@@ -29,7 +31,7 @@ const NANOSECOND_AFTER: u32 = instant::SECOND as u32;
 // ---- the offset at an instant
 
 // What `offset_in` answers: seconds east of Greenwich, or a refusal's number and place.
-#[derive(Drop)]
+#[derive(Clone, Copy)]
 pub enum OffsetAnswer {
     Is(i64),
     Refused(u32, usize),
@@ -59,7 +61,7 @@ pub fn offset_in(file: &[u8], sec: i64, ns: i64) -> OffsetAnswer
 // ---- the next change of the offset
 
 // What `next_change_in` answers: the change's seconds and nanoseconds, that there is none up to the range's end, or a refusal's number and place.
-#[derive(Drop)]
+#[derive(Clone, Copy)]
 pub enum ChangeAnswer {
     At(i64, i64),
     Never,
@@ -85,7 +87,7 @@ pub fn next_change_in(file: &[u8], sec: i64, ns: i64) -> ChangeAnswer
 // ---- the instant of a local time
 
 // What `resolve_in` answers: an instant's seconds and nanoseconds and the local time's mark, or a refusal's number and place.
-#[derive(Drop)]
+#[derive(Clone, Copy)]
 pub enum ResolveAnswer {
     At(i64, i64, u32),
     Refused(u32, usize),

@@ -1,5 +1,7 @@
 // The changes that a footer makes: the day and the second of a change in a year, the latest change at or before a second and the next
 // one, and the footer's offset with the second up to which it stays. Years and seconds are counted from -10400-01-01.
+#![tactic(auto)]
+
 ghost use Rattle.std.specs.Prelude.{◌≡◌, ℕ, ◌-◌, ◌≤◌, ◌<◌};
 ghost use Rattle.model.specs.DayNumber.{signed_day};
 ghost use Rattle.model.specs.Footer as model;
@@ -28,14 +30,14 @@ const FAR: u64 = 1099511627776;
 const LEAP_DAY: u32 = 60;
 
 // The latest change at or before a second, 0 if there is none, and the first one behind it.
-#[derive(Drop)]
+#[derive(Clone, Copy)]
 pub struct Changes {
     pub last: u64,
     pub next: u64,
 }
 
 // An offset, and a second up to which it stays: not always the next change.
-#[derive(Drop)]
+#[derive(Clone, Copy)]
 pub struct OffsetUntil {
     pub offset: u32,
     pub until: u64,

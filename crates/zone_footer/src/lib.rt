@@ -1,5 +1,7 @@
 // A footer: nothing, or a POSIX TZ string as zone files of a version may have it. Each function reads at a place of the text, and equals the parser of the model's Footer
 // on what stands from that place on.
+#![tactic(auto)]
+
 ghost use Rattle.std.specs.Prelude.{◌≡◌, ◌≤◌, drop};
 ghost use Rattle.std.proofs.Math.Option.{some};
 ghost use Rattle.model.specs.Footer as grammar;
@@ -19,7 +21,7 @@ const DEFAULT_TIME: u32 = zone_footer_numbers::TIME_BIAS + 2 * zone_footer_numbe
 const SHORTEST_NAME: usize = 3;
 
 // A day of the year: Mm.w.d, Jn and n.
-#[derive(Drop)]
+#[derive(Clone, Copy)]
 pub enum Day {
     Month(u32, u32, u32),
     Julian(u32),
@@ -27,7 +29,7 @@ pub enum Day {
 }
 
 // A change: its day, and its second of that day by the clock that it ends, with TIME_BIAS_64 added.
-#[derive(Drop)]
+#[derive(Clone, Copy)]
 pub struct ChangeRule {
     pub day: Day,
     pub time: u32,
@@ -35,7 +37,7 @@ pub struct ChangeRule {
 
 // A footer. Offsets are kept with zone_offset::BIAS added. Rules has the standard offset, the daylight offset, and the start and
 // the end of daylight time.
-#[derive(Drop)]
+#[derive(Clone, Copy)]
 pub enum Footer {
     Empty,
     Fixed(u32),
@@ -44,14 +46,14 @@ pub enum Footer {
 }
 
 // A day and the place behind it.
-#[derive(Drop)]
+#[derive(Clone, Copy)]
 pub enum DayAt {
     On(Day, usize),
     Never,
 }
 
 // A change and the place behind it.
-#[derive(Drop)]
+#[derive(Clone, Copy)]
 pub enum ChangeRuleAt {
     When(ChangeRule, usize),
     Wrong,

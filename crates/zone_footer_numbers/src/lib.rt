@@ -1,5 +1,7 @@
 // The signs and numbers of a footer: marks, numbers, times of a clock, offsets and rule times. Each function reads at a place of the text, and equals the parser
 // of the model's Footer on what stands from that place on.
+#![tactic(auto)]
+
 ghost use Rattle.std.specs.Prelude.{◌≡◌, ◌≤◌, ◌<◌, drop};
 ghost use Rattle.std.proofs.Math.Option.{some};
 ghost use Rattle.model.specs.Footer as grammar;
@@ -24,21 +26,21 @@ const MOST_RULE_HOURS: u32 = 167;
 const WIDE_VERSION: usize = b'3' as usize;
 
 // A number and the place behind it.
-#[derive(Drop)]
+#[derive(Clone, Copy)]
 pub enum Num {
     Val(u32, usize),
     Bad,
 }
 
 // The place behind a text, where it is there.
-#[derive(Drop)]
+#[derive(Clone, Copy)]
 pub enum Skip {
     To(usize),
     Not,
 }
 
 // Whether a sign is a -, and the place behind it.
-#[derive(Drop)]
+#[derive(Clone, Copy)]
 pub struct SignAt {
     pub minus: bool,
     pub end: usize,

@@ -1,5 +1,7 @@
 // One date in a zone: the local date at an instant, the first and last date of a window, the instant of a time of day on a date, and the block
 // that a rule takes of a date. f is the zone's file.
+#![tactic(auto)]
+
 ghost use Rattle.std.specs.Prelude.{◌≡◌, false, ◌/◌, ◌≤◌, ltb};
 ghost use Rattle.instant.specs.Instant.{nanos, InRange};
 ghost use Rattle.model.specs.Instant.{second};
@@ -133,7 +135,7 @@ pub fn end_of(f: &[u8], z: Zone, from: Time, to: Time, day: i32) -> Instant
 }
 
 // An instant with the mark of the local time that became it.
-#[derive(Drop)]
+#[derive(Clone, Copy)]
 pub struct MarkedInstant {
     pub at: Instant,
     pub mark: u32,

@@ -1,4 +1,6 @@
 // The next change of a zone's offset after a second. Seconds are counted from -10400-01-01T00:00:00Z.
+#![tactic(auto)]
+
 ghost use Rattle.std.specs.Prelude.{◌≡◌};
 ghost use Rattle.zone.specs.Zones.{zone_is, ZoneOk};
 ghost use Rattle.model.specs.NextChange.{next_change};
@@ -7,7 +9,7 @@ ghost use Rattle.zone_next_change.specs.NextIs.{the_next};
 use zone::Zone;
 
 // The second of the next change; none up to the range's end.
-#[derive(Drop)]
+#[derive(Clone, Copy)]
 pub enum Next {
     At(u64),
     Never,

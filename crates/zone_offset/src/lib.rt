@@ -1,4 +1,5 @@
 // The offsets of zones: seconds east of Greenwich, kept with 26 hours added so that none is negative. They go from 1 to GREATEST.
+#![tactic(auto)]
 
 // What is added to every offset.
 pub const BIAS: u32 = 93600;

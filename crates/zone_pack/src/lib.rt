@@ -1,5 +1,7 @@
 // The zone pack, and the finder of a zone's file by its name.
 // A pack is a directory (crate `directory`) and its records: the length of a name (1 byte), the name, and the zone file.
+#![tactic(auto)]
+
 ghost use Rattle.std.specs.Prelude.{◌≡◌, true, ◌+◌, ◌*◌, ◌-◌, ◌<◌};
 ghost use Rattle.std.proofs.Math.Option.{some};
 ghost use Rattle.model.specs.Pack.{lower, same_name};
@@ -113,7 +115,7 @@ fn is_named(p: &[u8], i: usize, name: &[u8]) -> bool
 // ---- the finder
 
 // Where a zone file lies in a pack: where it begins, and how many bytes it has.
-#[derive(Drop)]
+#[derive(Clone, Copy)]
 enum Place {
     At(usize, usize),
     Absent,

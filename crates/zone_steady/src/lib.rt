@@ -1,5 +1,7 @@
 // How long a zone keeps its offset beyond a span, on from its end or back from its start. f is the zone's file. Seconds are counted from
 // -10400-01-01T00:00:00Z.
+#![tactic(auto)]
+
 ghost use Rattle.std.specs.Prelude.{◌≡◌, ◌+◌, ◌-◌, ◌≤◌, ◌<◌};
 ghost use Rattle.model.specs.Zone as model;
 ghost use Rattle.laws_zone.specs.Grammar.{FooterFits};
@@ -14,7 +16,7 @@ use zone_footer::Footer;
 use zone_tzif::Layout;
 
 // An offset, and a second from which it stays.
-#[derive(Drop)]
+#[derive(Clone, Copy)]
 pub struct OffsetSince {
     pub offset: u32,
     pub since: u64,

@@ -1,6 +1,8 @@
 // A zone file (TZif, RFC 8536): what makes it usable, where its parts stand, and its table of transitions.
 // `read` decides once whether a file is usable and answers where its table and its footer stand; the lookups then read the file by place.
 // The footer's text is not read here: a caller parses it. What `read` and the lookups mean is in specs/, that it is the definitions' meaning in proofs/Bridge.antt.
+#![tactic(auto)]
+
 ghost use Rattle.std.specs.Prelude.{◌≡◌, ◌+◌, ◌*◌, ◌≤◌, ◌<◌, min, max, length};
 ghost use Rattle.model.specs.Offset.{greatest_offset};
 ghost use Rattle.zone_tzif_head.specs.Heads.{SmallHead};
@@ -21,7 +23,7 @@ const FIRST_KEY: u64 = 9223371646495255808;
 
 // Where a usable file's table stands: the number of transitions, the place of their times, the offset before the first, and
 // the place and the length of the footer.
-#[derive(Drop)]
+#[derive(Clone, Copy)]
 pub struct Layout {
     pub count: usize,
     pub times: usize,
@@ -31,14 +33,14 @@ pub struct Layout {
 }
 
 // The least and the greatest of some offsets.
-#[derive(Drop)]
+#[derive(Clone, Copy)]
 pub struct OffsetBounds {
     pub least: u64,
     pub greatest: u64,
 }
 
 // What `read` answers.
-#[derive(Drop)]
+#[derive(Clone, Copy)]
 pub enum TzifRead {
     Table(Layout),
     Unusable,

@@ -1,4 +1,6 @@
 // The second data block of a zone file, which starts at `b`: its transition times, type numbers, types and indicators, and the lines about its footer.
+#![tactic(auto)]
+
 ghost use Rattle.std.specs.Prelude.{◌≡◌, ◌+◌, ◌*◌, ◌^◌, ◌<◌};
 ghost use Rattle.big_endian.specs.Walk.{all_from};
 ghost use Rattle.model.specs.Bytes.{lifted};

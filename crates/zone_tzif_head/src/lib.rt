@@ -1,4 +1,6 @@
 // The header of a zone file (TZif, RFC 8536): does one stand at a place, its version and counts, and whether the counts are allowed.
+#![tactic(auto)]
+
 ghost use Rattle.std.specs.Prelude.{◌≡◌, ◌<◌};
 ghost use Rattle.model.specs.Tzif.{counts_ok, zero_or};
 ghost use Rattle.zone_tzif_head.specs.Heads.{headers_end, header_is, SmallHead, head_ok, head_at, second_at};
@@ -37,7 +39,7 @@ const MOST_TYPES: usize = 256;
 const MOST_TRANSITIONS: usize = 2048;
 
 // A header's version and counts.
-#[derive(Drop)]
+#[derive(Clone, Copy)]
 pub struct Head {
     pub version: usize,
     pub uts: usize,

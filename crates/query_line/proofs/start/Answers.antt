@@ -1,0 +1,6 @@
+-- `query_line::start` meets its contract.
+use Rattle.query_line.proofs.Starting.{started}
+use Rattle.query_line.proofs.start.Goals as goal
+
+pub returns : goal.returns
+returns c = started
