@@ -258,11 +258,11 @@ digit-no-letter c e =
 offset-no-letter : {o : ℕ} (w r : List ℕ) → Offset w o → Stops is_letter (w ++ r)
 offset-no-letter w r g = offset-first is_letter digit-no-letter refl refl w r g
 
-ahead-gives : {version dst : ℕ} {start end : ChangeRule} (std : ℕ) (b t x y : List ℕ) → Name b → DaylightText std t dst → RuleText version x start → RuleText version y end →
+ahead-gives : {version : ℕ} {start end : ChangeRule} (std : ℕ) {dst : ℕ} (b t x y : List ℕ) → Name b → DaylightText std t dst → RuleText version x start → RuleText version y end →
     daylight_text version std (b ++ (t ++ 44 ∷ (x ++ 44 ∷ y))) ≡ some (rules std dst start end, [])
 unfolding daylight_text
 ahead-gives std b t x y n hour g h = rw (name-gives b (44 ∷ (x ++ 44 ∷ y)) n refl) (rules-give x y std (std + 3600) g h)
-ahead-gives {version} {dst} std b t x y n (written o) g h =
+ahead-gives {version} std {dst} b t x y n (written o) g h =
     let z : List ℕ = 44 ∷ (x ++ 44 ∷ y) in
     rw (name-gives b (t ++ z) n (offset-no-letter t z o), has_no 44 (t ++ z) (offset-first (λ c. eqb c 44) (not_digit 44 refl) refl refl t z o), offset-gives t z o refl)
     (rules-give x y std dst g h)
