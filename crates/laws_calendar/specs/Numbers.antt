@@ -167,7 +167,7 @@ bits_is e h = is_number (bits-number e h) h
 
 -- a function that gives on what it was given
 pub gives-on : {z : ℤ} {m n : ℕ} → mag z < numbered → z ≡ signed_day m → m ≡ n → to_z w32 (of_z w32 z) ≡ signed_day n
-gives-on f e h = to_z-of_z (record { sfits = f }) ∙ e ∙ ap signed_day h
+gives-on f e h = to_z-of_z {w = w32} (record { sfits = f }) ∙ e ∙ ap signed_day h
 
 -- so does every number of 32 bits
 pub day-bits : {z : ℤ} → SFits w32 z → day_of (to_z w32 (of_z w32 z)) ≡ day_of z

@@ -1,7 +1,6 @@
 -- Years and days: where a year begins, and which year a day lies in, within a few days.
-use Rattle.std.specs.Prelude.{◌≡◌, refl, Bool, true, false, ℕ, suc, ◌+◌, ◌*◌, ◌-◌, ◌/◌, ◌≤◌, ◌<◌, ltb}
+use Rattle.std.specs.Prelude.{ℕ, ◌+◌, ◌*◌, ◌-◌, ◌/◌, ◌≤◌, ◌<◌, ltb}
 use Rattle.std.proofs.Common.{arith, ltb-true, ltb-false}
-use Rattle.model.specs.Basic.{if◌then◌else◌}
 use Rattle.laws_base.specs.Test.{by-test}
 use Rattle.model.specs.Calendar.{days_before_year, year_of}
 
