@@ -59,7 +59,7 @@ honolulu =
     ++ hex 24 0xFFFFFFFF74E070BE_FFFFFFFFBB054348_FFFFFFFFBB217158
     ++ hex 32 0xFFFFFFFFCB893DC8_FFFFFFFFD223F470_FFFFFFFFD2614938_FFFFFFFFD58D7348
     ++ honolulu_types
-    ++ text "\n_hST10\n"
+    ++ text "\nHST10\n"
 
 abbrev change : ℕ → ℕ → Change
 change t o = record { time = t; offset = o }
@@ -96,7 +96,7 @@ jerusalem version =
     ++ hex 15 0x000000007FE81780_00_00001C20_00_00
     ++ text "IST\0"
     ++ hex 2 0x01_01
-    ++ text "\n_iST-2IDT,M3.4.4/26,M10.5.0\n"
+    ++ text "\nIST-2IDT,M3.4.4/26,M10.5.0\n"
 
 pub record Jerusalem : Type 0 where
   -- daylight time starts at 02:00 on the day after the fourth Thursday of March, which is the 22nd in 2040

@@ -2,7 +2,7 @@
 -- here no change of any year at or before a second is later than the one it takes.
 use Rattle.std.specs.Prelude.{◌≡◌, Bool, true, false, ◌&&◌, List, [], ◌∷◌, map, ◌⊎◌, ℕ, ◌+◌, ◌*◌, ◌-◌, ◌/◌, ◌%◌, max, ◌≤◌, ◌<◌, ltb}
 use Rattle.std.proofs.Math.Path.{refl}
-use Rattle.std.proofs.Common.{sym, arith, le-leb}
+use Rattle.std.proofs.Common.{sym, subst, arith, le-leb}
 use Rattle.std.proofs.Math.Logic.{inl, inr}
 use Rattle.std.proofs.Math.Decide.{dec_le}
 use Rattle.std.proofs.Math.Dec.{leb, leb→le}
@@ -115,7 +115,7 @@ max-in (n ∷ l) = go (dec_le (maximum l) n) (max-in l)
     go : Dec (maximum l ≤ n) → (maximum l ≡ 0) ⊎ Member (maximum l) l → (max n (maximum l) ≡ 0) ⊎ Member (max n (maximum l)) (n ∷ l)
     go (yes h) r = inr (inl (omega arith))
     go (no h) (inl p) = absurd (omega arith)
-    go (no h) (inr q) = let e : max n (maximum l) ≡ maximum l = omega arith in rw e (inr (inr q))
+    go (no h) (inr q) = let e : max n (maximum l) ≡ maximum l = omega arith in inr (inr (subst (λ (x : ℕ). Member x l) (sym e) q))
 
 -- a member of a filtered list is one of the list
 filter-in : (t : ℕ → Bool) (l : List ℕ) (u : ℕ) → Member u (filter t l) → Member u l

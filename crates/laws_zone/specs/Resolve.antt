@@ -92,7 +92,7 @@ module _ (z : Zone) (f : FooterFits z.footer) (low : (u : ℕ) → 1 ≤ offset_
   read-tried u p =
       let r = has-tried z f begin l u (omega (arith, p, high u)) (omega (arith, p)) in
       let e : l - offset_at z r.0 ≡ u = omega (arith, p, r.2) in
-      filter-keeps (reads z l) tries u (rw e at (in_map (λ e. l - offset_at z e) (begin ∷ changes_in z begin l) r.0 r.1)) (eq-eqb _ _ p)
+      filter-keeps (reads z l) tries u (subst (λ (v : ℕ). Member v tries) e (in_map (λ e. l - offset_at z e) (begin ∷ changes_in z begin l) r.0 r.1)) (eq-eqb _ _ p)
 
   abbrev overs : List ℕ
   overs = filter (jumps z l) (changes_in z begin l)

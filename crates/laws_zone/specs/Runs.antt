@@ -4,7 +4,6 @@ use Rattle.std.specs.Prelude.{◌≡◌, true, false, ◌⊎◌, ℕ, ◌+◌, �
 use Rattle.std.proofs.Common.{sym, ◌∙◌, ap, inr, ⊎_elim, arith}
 use Rattle.std.proofs.Math.Decide.{dec_lt}
 use Rattle.model.specs.Tzif.{Zone}
-use Rattle.model.specs.Offset.{greatest_offset}
 use Rattle.model.specs.Zone.{offset_at, steady}
 use Rattle.laws_base.specs.Test.{by-test}
 use Rattle.laws_zone.specs.Sound.{Sound, dawn}
