@@ -1,9 +1,9 @@
 -- What a book that builds has: its rules' zones are sound and its times of day lie below 24 hours, its zones are those that its records use,
 -- and its search limit is at least 366 days.
-use Rattle.std.specs.Prelude.{◌≡◌, refl, Bool, true, false, ◌&&◌, ℕ, ◌+◌, ◌*◌, ◌-◌, ◌≤◌, ◌<◌, leb, ltb, eqb, length, get_or, drop}
+use Rattle.std.specs.Prelude.{◌≡◌, refl, Bool, true, false, ◌&&◌, ℕ, ◌+◌, ◌*◌, ◌≤◌, ◌<◌, leb, ltb, eqb, length, get_or, drop}
 use Rattle.std.proofs.Common.{subst, ltb-true}
 use Rattle.std.proofs.Math.Option.{Option, none, some}
-use mathlib.Core.List.{List, [], ◌∷◌, ◌++◌, map, append-nil}
+use mathlib.Core.List.{List, [], ◌∷◌, map, append-nil}
 use native.Mathlib.Omega.{arith}
 use Rattle.model.specs.Basic.{given, each, joined}
 use Rattle.model.specs.Bytes.{be}

@@ -13,7 +13,7 @@ use Rattle.model.specs.Answer.{Answer, gives, refuses, ◌>>=◌}
 use Rattle.model.specs.Working.{Schedule}
 use Rattle.model.specs.Build.{build}
 use Rattle.model.specs.Walk.{Way, on, back, at, begun, time_from, time_between, search}
-use Rattle.model.specs.Calls.{Reply, between_call, moved, move_call, between, add, sub, said}
+use Rattle.model.specs.Calls.{between_call, moved, move_call, between, add, sub, said}
 use Rattle.laws_demand3.specs.Pairs.{Pair, nanos_of, IsInstant, IsDuration, listed_pair}
 use Rattle.laws_demand3.specs.Zones.{zones_of, WithinDay}
 use Rattle.laws_base.specs.Every.{Every}

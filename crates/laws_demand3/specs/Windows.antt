@@ -1,6 +1,6 @@
 -- Working time does not depend on the window: every window from a week before -9998 on lists the same instants, if no zone has two offsets
 -- more than 24 hours apart.
-use Rattle.std.specs.Prelude.{◌≡◌, Bool, true, not, ◌&&◌, ◌||◌, ◌⊎◌, leb, eqb}
+use Rattle.std.specs.Prelude.{◌≡◌, Bool, true, not, ◌&&◌, ◌||◌, leb, eqb}
 use Rattle.std.proofs.Math.Path.{refl, sym}
 use Rattle.std.proofs.Common.{◌∙◌, ap₂, inl, inr}
 use Rattle.std.proofs.Math.Bool.{false}
