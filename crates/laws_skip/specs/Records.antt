@@ -1,7 +1,6 @@
 -- What went before an answer: each step of a chain that answers has answered.
 use Rattle.std.specs.Prelude.{◌≡◌, refl, Bool, true, false, ℕ}
 use Rattle.std.proofs.Math.Option.{Option, none, some}
-use Rattle.std.proofs.Common.{arith}
 use Rattle.model.specs.Basic.{given}
 use Rattle.model.specs.Answer.{Answer, gives, refuses, ◌>>=◌, or_refuse}
 use Rattle.laws_base.specs.Test.{never}
