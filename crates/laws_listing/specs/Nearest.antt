@@ -15,7 +15,7 @@ use Rattle.model.specs.Blocks.{Block, block, merged, merged_from}
 use Rattle.model.specs.Working.{Schedule, working}
 use Rattle.model.specs.Walk.{Way, on, reach, onward, ahead, begun, listed, stretches, PeriodSoFar, nothing, growing, ended, too_far, period_in, period_from, capped, period}
 use Rattle.laws_base.specs.Test.{by-test, clash}
-use Rattle.laws_blocks.specs.Lists.{Lists, none, next, first_start, first_end}
+use Rattle.laws_blocks.specs.Lists.{Lists, next, first_start, first_end}
 use Rattle.laws_blocks.specs.Stretches.{begun-enough}
 use Rattle.laws_skip.specs.WindowEnds.{Inside, inside-more, lists-inside}
 use Rattle.laws_skip.specs.Schedules.{ahead-inside}
