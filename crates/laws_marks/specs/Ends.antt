@@ -6,7 +6,7 @@ use Rattle.std.proofs.Math.Path.{ap}
 use Rattle.std.proofs.Math.Logic.{inl, inr, ⊎_elim}
 use mathlib.Core.List.{List, [], ◌∷◌, map}
 use borrow.Author.Tests.{ltb-true, leb-false, eqb-true, eqb-false}
-use Rattle.model.specs.Basic.{if◌then◌else◌, any}
+use Rattle.model.specs.Basic.{if◌then◌else◌}
 use Rattle.model.specs.Working.{Schedule}
 use Rattle.model.specs.Marks.{Edge, MarkedBlock, marked, plain, put_marked, cut_marked, subtract_marked, union_marked, not_before, not_behind, windowed, whole_of_all, marked_working, start_mark_at, end_mark_at}
 use Rattle.laws_base.specs.Test.{by-test}

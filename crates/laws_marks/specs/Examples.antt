@@ -1,8 +1,8 @@
 -- Examples of marks, by computing. Dates of 2026 unless they are told.
-use Rattle.std.specs.Prelude.{◌≡◌, refl, true, List, [], ◌∷◌, ℕ, ◌+◌, ◌*◌, ◌-◌, ℤ, pos, neg_ℤ}
+use Rattle.std.specs.Prelude.{◌≡◌, refl, List, [], ◌∷◌, ℕ, ◌+◌, ◌*◌, ℤ, pos, neg_ℤ}
 use Rattle.std.proofs.Math.Option.{Option, none, some}
 use Rattle.model.specs.Bytes.{text}
-use Rattle.model.specs.Instant.{epoch, second, first_instant}
+use Rattle.model.specs.Instant.{epoch, second}
 use Rattle.model.specs.Offset.{offset_bias}
 use Rattle.model.specs.Footer.{empty}
 use Rattle.model.specs.Tzif.{Zone, zone_of}
@@ -11,7 +11,7 @@ use Rattle.model.specs.Answer.{Answer, gives, refuses}
 use Rattle.model.specs.Working.{Rule, Schedule, shift_rule}
 use Rattle.model.specs.Walk.{on, back}
 use Rattle.model.specs.Label.{ruled_by}
-use Rattle.model.specs.Marks.{plain, repeated, skipped, beyond, resolve_mark, marked_period_call, resolve_marked_call, marked_working, edge, marked}
+use Rattle.model.specs.Marks.{plain, repeated, skipped, beyond, resolve_mark, marked_period_call, resolve_marked_call}
 use Rattle.model.specs.All.{everything}
 
 -- ---- a local time in Central Europe
