@@ -8,7 +8,7 @@ use Rattle.build_blocks.proofs.Any.{rules-start, rule-shows-any, rule-passed, ru
 use Rattle.build_blocks.proofs.any_shows.Goals as goal
 
 pub loop-i-init : goal.loop-i-init
-loop-i-init c = let k : length c.args.t1 ≡ 16 = c.well_formed.0.1.0.1 in rules-start _ _ _ _ _ (omega (arith, c.requires.0))
+loop-i-init c = let k : length c.args.rules ≡ 16 = c.well_formed.0.1.0.1 in rules-start _ _ _ _ _ (omega (arith, c.requires.0))
 
 pub offset_bounds-rules-i : goal.offset_bounds-rules-i
 offset_bounds-rules-i c = omega (arith, c.requires.0, c.loop-i-test.true)

@@ -14,7 +14,7 @@ pub empty-out-requires : goal.empty-out-requires
 empty-out-requires c = tt
 
 pub loop-i-init : goal.loop-i-init
-loop-i-init c = let l : length c.empty-out.result.items ≡ 672 = sym (length-map c.empty-out.result.items _) ∙ c.empty-out.type_inv.1.1.0.1.0.1 in let k : length c.args.t1 ≡ 16 = c.well_formed.0.1.0.1 in ruling-starts _ _ _ _ _ _ (omega (arith, c.requires.0)) l
+loop-i-init c = let l : length c.empty-out.result.items ≡ 672 = omega (arith, c.empty-out.type_inv) in let k : length c.args.rules ≡ 16 = omega (arith, c.well_formed) in ruling-starts _ _ _ _ _ _ (omega (arith, c.requires.0)) l
 
 pub offset_bounds-rules-i : goal.offset_bounds-rules-i
 offset_bounds-rules-i c = omega (arith, c.requires.0, c.loop-i-test.true)

@@ -1,7 +1,5 @@
 -- `build_blocks::shift_blocks` meets its contract. Assumes nothing.
 use Prim.Native.Nat.{◌+◌, ◌-◌}
-use mir.Syntax.{w32}
-use mir.Val.{to_z}
 use Rattle.model.specs.Basic.{run}
 use Rattle.model.specs.DayNumber.{day_of}
 use Rattle.instant.specs.Instant.{nanos}
@@ -10,7 +8,7 @@ use Rattle.build_blocks.proofs.Filling.{Dating, Ruling, with_dates}
 use Rattle.build_blocks.proofs.shift_blocks.Given as goal
 
 abbrev pub invariant-loop-k : goal.invariant-loop-k
-invariant-loop-k l = Dating (rule_is l.pack l.r) (nanos l.lo) (nanos l.hi) (day_of (to_z w32 l.first)) l.count (with_dates (rule_is l.pack l.r) (nanos l.lo) (nanos l.hi) l.initial.out.items l.initial.w (run (day_of (to_z w32 l.first)) l.count)) (l.initial.w + l.count) l.out.items l.w l.k
+invariant-loop-k l = Dating (rule_is l.pack l.r) (nanos l.lo) (nanos l.hi) (day_of l.first) l.count (with_dates (rule_is l.pack l.r) (nanos l.lo) (nanos l.hi) l.initial.out.items l.initial.w (run (day_of l.first) l.count)) (l.initial.w + l.count) l.out.items l.w l.k
 
 abbrev pub decreases-loop-k : goal.decreases-loop-k
 decreases-loop-k l = l.count - l.k

@@ -1,7 +1,5 @@
 -- `build_blocks::shows` meets its contract. Assumes nothing.
 use Prim.Native.Nat.{◌-◌}
-use mir.Syntax.{w32}
-use mir.Val.{to_z}
 use Rattle.model.specs.DayNumber.{day_of}
 use Rattle.instant.specs.Instant.{nanos}
 use Rattle.rule.specs.Rules.{rule_is}
@@ -9,7 +7,7 @@ use Rattle.build_blocks.proofs.Any.{Passed}
 use Rattle.build_blocks.proofs.shows.Given as goal
 
 abbrev pub invariant-loop-k : goal.invariant-loop-k
-invariant-loop-k l = Passed (rule_is l.pack l.r) (nanos l.lo) (nanos l.hi) (day_of (to_z w32 l.first)) l.count l.k
+invariant-loop-k l = Passed (rule_is l.pack l.r) (nanos l.lo) (nanos l.hi) (day_of l.first) l.count l.k
 
 abbrev pub decreases-loop-k : goal.decreases-loop-k
 decreases-loop-k l = l.count - l.k

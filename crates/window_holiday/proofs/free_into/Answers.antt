@@ -15,9 +15,6 @@ piece_by-x-requires c = rw (to_z-of_z c.ranges.day) (zone-moved _ _ _ c.part-fil
 pub piece_into-requires : goal.piece_into-requires
 piece_into-requires c = (shown-inside c.args.lo c.args.hi _ _ (day_of c.args.day) c.requires.0.1 (closed-piece _ _ c.args.c.zone (nanos c.args.lo) (nanos c.args.hi) (day_of c.args.day) _ c.part-file.ensures (rw (to_z-of_z c.ranges.day) at c.piece_by-x.ensures)), c.requires.1)
 
-pub shape_of-out-then-f-eq0 : goal.shape_of-out-then-f-eq0
-shape_of-out-then-f-eq0 c = c.piece_into.ensures.long
-
 pub returns-then-f-eq0 : goal.returns-then-f-eq0
 returns-then-f-eq0 c = filled-same _ _ _ _ _ _ _ _ (closed-piece _ _ c.args.c.zone (nanos c.args.lo) (nanos c.args.hi) (day_of c.args.day) _ c.part-file.ensures (rw (to_z-of_z c.ranges.day) at c.piece_by-x.ensures)) c.piece_into.ensures
 
@@ -35,9 +32,6 @@ overflow_add-k-2 c = let q = c.requires.0.2 in let d = day-bits c.ranges.day in 
 
 pub span_into-requires : goal.span_into-requires
 span_into-requires c = c.requires.1
-
-pub shape_of-out : goal.shape_of-out
-shape_of-out c = c.span_into.ensures.long
 
 pub returns : goal.returns
 returns c = let q = c.requires.0.2 in let d = day-bits c.ranges.day in let e = day-bits (is-fits q.first-number) in

@@ -69,9 +69,6 @@ pub loop-left-preserved : goal.loop-left-preserved
 loop-left-preserved c = let q = c.local_dates-days.ensures in
     closing-off _ _ _ _ _ (piece-apart (holiday_rule (holidays_is c.args.book.now c.args.pack.now c.args.c)) (nanos c.args.lo) (nanos c.args.hi)) _ _ _ _ c.requires.2.normal _ _ _ _ c.loop-left.invariant (omega (arith, c.loop-left-test.true)) _ refl (rank-not _ _ _ _ _ _ _ _ (omega (arith, q.low)) (rw (day-bits (is-fits q.first-number)) at c.rank_of-from.ensures.0) (rw (rw (day-bits (is-fits q.last-number)) at c.rank_of.ensures.0) at c.difference-count.ensures) c.rank_at-k.ensures.0 c.in_ranks.ensures c.if-in_ranks.false)
 
-pub shape_of-out : goal.shape_of-out
-shape_of-out c = c.loop-left.invariant.long
-
 pub returns : goal.returns
 returns c = let q = c.local_dates-days.ensures in
     filled-same _ _ _ _ _ _ _ _ (closed-shows c.args.book.now c.args.pack.now c.args.c _ _ _ _ q.first-is q.last-is) (closing-done _ _ _ _ _ (piece-apart (holiday_rule (holidays_is c.args.book.now c.args.pack.now c.args.c)) (nanos c.args.lo) (nanos c.args.hi)) _ _ _ _ c.requires.2.normal _ _ _ _ c.loop-left.invariant c.loop-left-test.false (piece-short (holiday_rule (holidays_is c.args.book.now c.args.pack.now c.args.c)) (nanos c.args.lo) (nanos c.args.hi)) (few-dates _ _ _ _ _ c.requires.0.opened c.requires.1 c.local_dates-days.ensures))

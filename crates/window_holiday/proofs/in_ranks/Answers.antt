@@ -3,4 +3,4 @@ use Rattle.window_holiday.proofs.Order.{in_count}
 use Rattle.window_holiday.proofs.in_ranks.Goals as goal
 
 pub returns : goal.returns
-returns c = in_count _ _ _ _ c.requires c.ranges.k.fits c.wrapping_sub_u64.type_inv c.wrapping_sub_u64.ensures
+returns c = in_count _ _ _ _ c.requires c.ranges.k.fits c.wrapping_sub_u64.type_inv c.wrapping_sub_u64.ensures.value

@@ -32,9 +32,6 @@ pub free_into-requires : goal.free_into-requires
 free_into-requires c = let z = is-fits (rank-number _ c.day_of_rank.ensures c.in-Day.is) in let n = day-bits z in let a = day-bits (is-fits c.requires.0.2.first-number) in let b = day-bits (is-fits c.requires.0.2.last-number) in
     rw (to_z-of_z z) ((c.requires.0.0, c.requires.0.1, c.requires.0.2, c.requires.0.3, omega (arith, told-not _ _ c.precedes.ensures c.if-precedes.false), omega (arith, told-not _ _ c.precedes-2.ensures c.if-precedes-2.false)), c.requires.1)
 
-pub shape_of-out : goal.shape_of-out
-shape_of-out c = c.free_into.ensures.long
-
 pub returns : goal.returns
 returns c = let n = day-bits (is-fits (rank-number _ c.day_of_rank.ensures c.in-Day.is)) in let e = rank-day _ c.day_of_rank.ensures c.in-Day.is in
     let a = day-bits (is-fits c.requires.0.2.first-number) in let b = day-bits (is-fits c.requires.0.2.last-number) in

@@ -23,7 +23,7 @@ pub empty_marked-out-requires : goal.empty_marked-out-requires
 empty_marked-out-requires c = tt
 
 pub loop-k-init : goal.loop-k-init
-loop-k-init c = let l : length c.empty_marked-out.result.items ≡ 21 = sym (length-map c.empty_marked-out.result.items _) ∙ c.empty_marked-out.type_inv.1.1.0.1.0.1 in (nearing-starts _ _ _ _ _ _ l, omega arith)
+loop-k-init c = let l : length c.empty_marked-out.result.items ≡ 21 = omega (arith, c.empty_marked-out.type_inv) in (nearing-starts _ _ _ _ _ _ l, omega arith)
 
 pub later-d-requires : goal.later-d-requires
 later-d-requires c = let q = c.local_dates-days.ensures in let a = day-bits (is-fits q.first-number) in let b = day-bits (is-fits q.last-number) in rw (to_z-of_z (is-fits q.first-number)) (q.first-number, omega (arith, q.high, c.day_count-count.ensures, c.loop-k-test.true))

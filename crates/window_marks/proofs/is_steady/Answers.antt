@@ -11,7 +11,7 @@ use mathlib.Core.Path.{◌≡◌, refl}
 use Rattle.window_marks.proofs.is_steady.Goals as goal
 
 pub loop-i-init : goal.loop-i-init
-loop-i-init c = let l : length c.args.t3.work ≡ 16 = omega (arith, c.well_formed) in keeping-starts _ _ _ _ (omega (arith, c.requires.0.works))
+loop-i-init c = let l : length c.args.s.work ≡ 16 = omega (arith, c.well_formed) in keeping-starts _ _ _ _ (omega (arith, c.requires.0.works))
 
 pub offset_bounds-s-i : goal.offset_bounds-s-i
 offset_bounds-s-i c = omega (arith, c.requires.0.works, c.loop-i-test.true)
@@ -38,7 +38,7 @@ pub loop-i-preserved : goal.loop-i-preserved
 loop-i-preserved c = keeping-turn _ _ _ _ _ c.loop-i.invariant c.loop-i-test.true _ (steady-rule _ _ _ _ _ _ c.part.ensures (every_front (RuleFits _) _ _ _ _ c.loop-i-test.true c.loop-i.invariant.fits c.requires.0.work-fits) c.one_offset-o.ensures (omega (arith, c.if-o-eq0.false)))
 
 pub loop-i-2-init : goal.loop-i-2-init
-loop-i-2-init c = let l : length c.args.t3.breaks ≡ 16 = omega (arith, c.well_formed) in keeping-starts _ _ _ _ (omega (arith, c.requires.0.pauses))
+loop-i-2-init c = let l : length c.args.s.breaks ≡ 16 = omega (arith, c.well_formed) in keeping-starts _ _ _ _ (omega (arith, c.requires.0.pauses))
 
 pub offset_bounds-s-i-in-loop-i-2 : goal.offset_bounds-s-i-in-loop-i-2
 offset_bounds-s-i-in-loop-i-2 c = omega (arith, c.requires.0.pauses, c.loop-i-2-test.true)
@@ -65,7 +65,7 @@ pub loop-i-2-preserved : goal.loop-i-2-preserved
 loop-i-2-preserved c = keeping-turn _ _ _ _ _ c.loop-i-2.invariant c.loop-i-2-test.true _ (steady-rule _ _ _ _ _ _ c.part-in-loop-i-2.ensures (every_front (RuleFits _) _ _ _ _ c.loop-i-2-test.true c.loop-i-2.invariant.fits c.requires.0.breaks-fit) c.one_offset-o-in-loop-i-2.ensures (omega (arith, c.if-o-eq0-2.false)))
 
 pub loop-i-3-init : goal.loop-i-3-init
-loop-i-3-init c = let l : length c.args.t3.closed ≡ 8 = omega (arith, c.well_formed) in keeping-starts _ _ _ _ (omega (arith, c.requires.0.closings))
+loop-i-3-init c = let l : length c.args.s.closed ≡ 8 = omega (arith, c.well_formed) in keeping-starts _ _ _ _ (omega (arith, c.requires.0.closings))
 
 pub offset_bounds-s-i-in-loop-i-3 : goal.offset_bounds-s-i-in-loop-i-3
 offset_bounds-s-i-in-loop-i-3 c = omega (arith, c.requires.0.closings, c.loop-i-3-test.true)
@@ -92,4 +92,4 @@ pub loop-i-3-preserved : goal.loop-i-3-preserved
 loop-i-3-preserved c = keeping-turn _ _ _ _ _ c.loop-i-3.invariant c.loop-i-3-test.true _ (steady-holiday _ _ _ _ _ _ _ c.part-in-loop-i-3.ensures (every_front (HolidaysFit _ _) _ _ _ _ c.loop-i-3-test.true c.loop-i-3.invariant.fits c.requires.0.closed-fits) c.one_offset-o-in-loop-i-3.ensures (omega (arith, c.if-o-eq0-3.false)))
 
 pub returns : goal.returns
-returns c = λ e. all-steady _ (schedule_is c.args.book.now c.args.pack.now c.args.t3) (keeping-done _ _ _ _ _ c.loop-i.invariant c.loop-i-test.false) (keeping-done _ _ _ _ _ c.loop-i-2.invariant c.loop-i-2-test.false) (closed-every _ _ _ (take c.args.t3.closings c.args.t3.closed) (keeping-done _ _ _ _ _ c.loop-i-3.invariant c.loop-i-3-test.false))
+returns c = λ e. all-steady _ (schedule_is c.args.book.now c.args.pack.now c.args.s) (keeping-done _ _ _ _ _ c.loop-i.invariant c.loop-i-test.false) (keeping-done _ _ _ _ _ c.loop-i-2.invariant c.loop-i-2-test.false) (closed-every _ _ _ (take c.args.s.closings c.args.s.closed) (keeping-done _ _ _ _ _ c.loop-i-3.invariant c.loop-i-3-test.false))

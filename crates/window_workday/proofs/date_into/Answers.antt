@@ -15,8 +15,5 @@ piece_into-requires c = (
   c.requires.1,
 )
 
-pub shape_of-out : goal.shape_of-out
-shape_of-out c = c.piece_into.ensures.long
-
 pub returns : goal.returns
 returns c = filled-same _ _ _ _ _ _ _ _ (rw (to_z-of_z c.ranges.day) at c.piece_of-x.ensures) c.piece_into.ensures

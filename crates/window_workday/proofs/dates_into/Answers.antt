@@ -53,9 +53,6 @@ loop-i-preserved c = let q = c.requires.0.2 in let a = day-bits (is-fits q.first
     let t = bits-day c.later-d.ensures (omega (arith, q.high)) in
     dating-off _ _ _ (piece-apart (rule_is c.args.pack.now c.args.r) (nanos c.args.lo) (nanos c.args.hi)) _ _ _ _ _ _ _ c.loop-i.invariant l (told-on _ t c.applies.ensures c.if-applies.false)
 
-pub shape_of-out : goal.shape_of-out
-shape_of-out c = c.loop-i.invariant.long
-
 pub returns : goal.returns
 returns c = let q = c.requires.0.2 in let a = day-bits (is-fits q.first-number) in let b = day-bits (is-fits q.last-number) in
     let m = dating-done _ _ _ (piece-apart (rule_is c.args.pack.now c.args.r) (nanos c.args.lo) (nanos c.args.hi)) _ _ _ _ _ _ _ c.loop-i.invariant c.loop-i-test.false in

@@ -53,9 +53,6 @@ pub loop-i-preserved : goal.loop-i-preserved
 loop-i-preserved c = let t = bits-day c.later.ensures (omega (arith, day-bits c.ranges.first, c.loop-i-test.true, c.requires.0.5)) in
     (dating-off _ _ _ (λ d. apart-clipped _ _ _ _) _ _ _ _ _ _ _ c.loop-i.invariant.0 c.loop-i-test.true (told-on _ t c.applies.ensures c.if-applies.false), omega (arith, c.loop-i.invariant.1))
 
-pub shape_of-out : goal.shape_of-out
-shape_of-out c = c.loop-i.invariant.0.long
-
 pub returns : goal.returns
 unfolding plain
 returns c = rw (day-bits c.ranges.first) at (dating-done _ _ _ (λ d. apart-clipped _ _ _ _) _ _ _ _ _ _ _ c.loop-i.invariant.0 c.loop-i-test.false)

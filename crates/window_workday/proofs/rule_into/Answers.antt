@@ -19,9 +19,6 @@ frame_of-f-requires c = (window-longer _ _ c.requires.1, offset-small _ _ _ _ _ 
 pub dates_into-requires : goal.dates_into-requires
 dates_into-requires c = ((c.requires.0, window-longer _ _ c.requires.1, c.local_dates-days.ensures), ready-less _ _ _ _ (few-count _ _ _ (few-dates _ _ _ _ _ c.requires.0.opened c.requires.1 c.local_dates-days.ensures)) c.requires.2)
 
-pub shape_of-out-then-f-eq0 : goal.shape_of-out-then-f-eq0
-shape_of-out-then-f-eq0 c = c.dates_into.ensures.long
-
 pub returns-then-f-eq0 : goal.returns-then-f-eq0
 returns-then-f-eq0 c = filled_more _ _ _ _ _ _ _ _ (few-count _ _ _ (few-dates _ _ _ _ _ c.requires.0.opened c.requires.1 c.local_dates-days.ensures)) c.dates_into.ensures
 
@@ -41,9 +38,6 @@ pub plain_into-requires : goal.plain_into-requires
 plain_into-requires c = let q = c.local_dates-days.ensures in let a = day-bits (is-fits q.first-number) in let b = day-bits (is-fits q.last-number) in
     let k = c.day_count-count.ensures in let f = few-dates _ _ _ _ _ c.requires.0.opened c.requires.1 q in
     rw (to_z-of_z (is-fits q.first-number)) ((c.frame_of-f.ensures.close, omega (arith, c.time_in-a.ensures.1), c.till-b.ensures.1, omega arith, q.first-number, omega (arith, q.high, q.first-number.small)), ready-less _ _ _ _ (omega arith) c.requires.2)
-
-pub shape_of-out : goal.shape_of-out
-shape_of-out c = c.plain_into.ensures.long
 
 pub returns : goal.returns
 returns c = let q = c.local_dates-days.ensures in let a = day-bits (is-fits q.first-number) in let b = day-bits (is-fits q.last-number) in
