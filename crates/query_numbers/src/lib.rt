@@ -1,6 +1,5 @@
-// The function that other languages link for many queries of one book and pack (part/hirgwamo.h): five numbers for a query, six for its answer. The book is
-// built once. It has an archive of its own beside that of crate `hirgwamo`: there each function below it has one caller, so that the compiler puts it in
-// there and a schedule is copied less often.
+// The function for many queries of one book and pack, which other languages link by crate `query_numbers_c` (part/hirgwamo.h): five numbers for a query, six
+// for its answer. The book is built once.
 #![tactic(auto)]
 
 ghost use Rattle.std.specs.Prelude.{◌≡◌, ◌+◌, ◌*◌, ◌/◌, ◌^◌, ◌≤◌, ◌<◌, length};
@@ -244,13 +243,7 @@ fn refuse_all(number: u32, place: usize, queries: &[i64], out: &mut [i64])
 }
 
 // Answers all queries, in their order. Returns 0, or what is wrong with the slices; then nothing is written.
-#[unsafe(no_mangle)]
-pub extern "C" fn hirgwamo_answers(
-    book: &[u8],
-    pack: &[u8],
-    queries: &[i64],
-    answers: &mut [i64],
-) -> u32
+pub fn hirgwamo_answers(book: &[u8], pack: &[u8], queries: &[i64], answers: &mut [i64]) -> u32
     ensures { BatchEnds book.now pack.now queries.now result answers.old answers.new }
 {
     if queries.len() % QUERY_SIZE != 0 {
