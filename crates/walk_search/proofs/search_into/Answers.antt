@@ -78,7 +78,7 @@ pub loop-s-smaller : goal.loop-s-smaller
 loop-s-smaller c = let h = (ltb-true (nanos c.loop-s.x) (nanos c.reach-end.result) (sym c.precedes.ensures ∙ c.loop-s-test.true)) in let e = c.weeks_on-x.ensures.0 in let j = (some_of _ c.if-n-eq0.false) in omega arith
 
 pub loop-s-preserved : goal.loop-s-preserved
-loop-s-preserved c = let r = c.skips-n.ensures.inside in let u = c.reach-end.ensures.1.sec in let v = c.reach-end.ensures.1.ns in let g = c.loop-s.invariant.1.ns in let i = c.loop-s.invariant.2 in let e = c.weeks_on-x.ensures.0 in let f = c.weeks_on-x.ensures.1 in let q = c.weeks_on-last.ensures.1 in (searching-runs _ _ _ _ _ _ _ _ _ _ _ c.loop-s.invariant.0 c.loop-s.auto.known (nanos c.loop-s.auto.time) _ refl (c.skips-n.ensures.some (some_of _ c.if-n-eq0.false)) (some_of _ c.if-n-eq0.false) r c.skips-n.ensures.each (c.skips-n.ensures.less (some_of _ c.if-n-eq0.false)) _ _ _ e c.weeks_on-last.ensures.0 (c.difference-left.ensures.0 ∙ ap (λ w. nanos c.loop-s.left - w) c.times.ensures.0), record { sec = omega arith; ns = omega arith }, omega arith, c.difference-left.ensures.1, c.loop-s.invariant.4, c.loop-s.invariant.5, c.loop-s.invariant.6, c.loop-s.invariant.7)
+loop-s-preserved c = let r = c.skips-n.ensures.inside in let u = c.reach-end.ensures.1.sec in let v = c.reach-end.ensures.1.ns in let g = c.loop-s.invariant.1.ns in let i = c.loop-s.invariant.2 in let e = c.weeks_on-x.ensures.0 in let f = c.weeks_on-x.ensures.1 in let q = c.weeks_on-last.ensures.1 in (searching-runs _ _ _ _ _ _ _ _ _ _ _ c.loop-s.invariant.0 c.loop-s.kept.known (nanos c.loop-s.kept.time) _ refl (c.skips-n.ensures.some (some_of _ c.if-n-eq0.false)) (some_of _ c.if-n-eq0.false) r c.skips-n.ensures.each (c.skips-n.ensures.less (some_of _ c.if-n-eq0.false)) _ _ _ e c.weeks_on-last.ensures.0 (c.difference-left.ensures.0 ∙ ap (λ w. nanos c.loop-s.left - w) c.times.ensures.0), record { sec = omega arith; ns = omega arith }, omega arith, c.difference-left.ensures.1, c.loop-s.invariant.4, c.loop-s.invariant.5, c.loop-s.invariant.6, c.loop-s.invariant.7)
 
 pub shape_of-on : goal.shape_of-on
 shape_of-on c = c.loop-s.invariant.5
