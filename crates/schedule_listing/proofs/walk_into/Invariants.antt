@@ -1,0 +1,15 @@
+-- `schedule_listing::walk_into` meets its contract: the loop keeps `Walking`, of proofs/Windows.antt. Assumes nothing.
+use Rattle.schedule_listing.proofs.Windows.{Walking}
+use Rattle.rule.specs.Rules.{schedule_is}
+use Rattle.instant.specs.Instant.{InRange, nanos}
+use Rattle.block.specs.Counted.{block_of}
+use lib.ListN.{length}
+use Prim.Native.Nat.{◌-◌}
+use mathlib.Core.Path.{◌≡◌}
+use Rattle.schedule_listing.proofs.walk_into.Given as goal
+
+abbrev pub invariant-loop-s : goal.invariant-loop-s
+invariant-loop-s l = Walking (schedule_is l.book l.pack l.s) (nanos l.initial.lo) (nanos l.b) l.write l.initial.out (nanos l.lo) l.last.known (block_of l.last.block) l.last.count l.out × InRange l.lo × (length l.on ≡ length l.initial.on) × (length l.off ≡ length l.initial.off) × (length l.net ≡ length l.initial.net)
+
+abbrev pub decreases-loop-s : goal.decreases-loop-s
+decreases-loop-s l = nanos l.b - nanos l.lo
