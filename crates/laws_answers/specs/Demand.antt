@@ -9,7 +9,8 @@ use Rattle.model.specs.Calls.{between, add, sub, said}
 use Rattle.laws_demand3.specs.Pairs.{Pair, IsInstant, IsDuration}
 use Rattle.laws_demand3.specs.Zones.{zones_of, WithinDay}
 use Rattle.laws_base.specs.Every.{Every}
-use Rattle.laws_demand3.specs.Demand3.{Calls, WorkingTime, Added, Demand3, as_defined, demand-3}
+use Rattle.laws_demand3.specs.Demand3.{Calls, WorkingTime, Added, Demand3, as_defined}
+use Rattle.laws_demand3.proofs.Holds.{demand-3}
 use Rattle.schedule.specs.declared.TimeAnswer.{TimeAnswer}
 use Rattle.schedule.specs.declared.MoveAnswer.{MoveAnswer}
 use Rattle.schedule.specs.Answers.{time_is, move_is}

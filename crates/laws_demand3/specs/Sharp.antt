@@ -1,6 +1,6 @@
--- Demand 3's premise is exact. A book whose zone has two offsets 86,400 s apart builds and has all of demand 3; the same book with two offsets
--- 86,401 s apart builds too, and there working time does not add up: half a second is lost.
-use Rattle.std.specs.Prelude.{◌≡◌, refl, Bool, true, false, List, [], ◌∷◌, ◌++◌, ℕ, ◌+◌, ◌≤◌, leb, length, ℤ, pos, ◌+ℤ◌}
+-- Demand 3's premise is exact. A book whose zone has two offsets 86,400 s apart builds and has all of demand 3 (proofs/AtTheLimit.antt); the same
+-- book with two offsets 86,401 s apart builds too, and there working time does not add up: half a second is lost.
+use Rattle.std.specs.Prelude.{◌≡◌, refl, Bool, true, false, List, [], ◌∷◌, ◌++◌, ℕ, ◌+◌, ◌≤◌, length, ℤ, pos, ◌+ℤ◌}
 use Rattle.std.proofs.Common.{sym, ◌∙◌, arith}
 use Rattle.std.specs.Int.Signed.{le_z_yes}
 use Rattle.model.specs.Basic.{if◌then◌else◌}
@@ -12,18 +12,18 @@ use Rattle.model.specs.Build.{build}
 use Rattle.model.specs.Calls.{between, said}
 use Rattle.model.specs.All.{everything}
 use Rattle.laws_demand3.specs.Pairs.{Pair, nanos_of, listed_pair}
-use Rattle.laws_demand3.specs.Zones.{WithinDay, used_in, zones_of}
+use Rattle.laws_demand3.specs.Zones.{used_in, zones_of}
 use Rattle.laws_base.specs.Every.{Every}
-use Rattle.laws_demand3.specs.Demand3.{Given, WorkingTime, Demand3, as_defined, demand-3}
+use Rattle.laws_demand3.specs.Demand3.{Given, WorkingTime, Demand3, as_defined}
 use Rattle.model.specs.Instant.{day_seconds, epoch}
 use Rattle.model.specs.Offset.{offset_bias}
 
 -- a default zone "z", and work on Mondays from 23:59:59.5 for 24 hours
-abbrev book : List ℕ
+abbrev pub book : List ℕ
 book = hex 42 0x00000002_00000014_00000003_00000017_00000013_00_01_7A_01_00_01_0001517F_1DCD6500_0001517F_1DCD6500
 
 -- the zone "z": its offset is 0 before Tuesday 2026-01-13T00:00Z and n seconds from then on
-abbrev pack : ℕ → List ℕ
+abbrev pub pack : ℕ → List ℕ
 pack n =
     hex 12 0x00000001_0000000C_0000007F ++ hex 1 1 ++ text "z"
     ++ text "TZif2" ++ hex 15 0 ++ hex 24 0x00000000_00000000_00000000_00000000_00000001_00000004 ++ hex 6 0 ++ text "UTC\0"
@@ -31,7 +31,7 @@ pack n =
     ++ hex 8 1768262400 ++ hex 1 1 ++ hex 6 0 ++ hex 4 n ++ hex 2 0 ++ text "UTC\0" ++ text "\n\n"
 
 -- the change, in seconds from -10400
-abbrev change : ℕ
+abbrev pub change : ℕ
 change = epoch + 1768262400
 
 -- the offset of the zone at the change is that at the start and n more; the book has no other zone
@@ -44,22 +44,15 @@ near_apart : Apart day_seconds
 unfolding everything used_in zones_of
 near_apart = (refl, (refl, tt))
 
-near-builds : (s : Schedule) × (build book (pack day_seconds) ≡ gives s)
+pub near-builds : (s : Schedule) × (build book (pack day_seconds) ≡ gives s)
 unfolding everything
 near-builds = (_, refl)
 
-step : (a b : Bool) → (if a then 180000 else offset_bias) ≤ (if b then 180000 else offset_bias) + day_seconds
+pub step : (a b : Bool) → (if a then 180000 else offset_bias) ≤ (if b then 180000 else offset_bias) + day_seconds
 step true true = omega arith
 step true false = omega arith
 step false true = omega arith
 step false false = omega arith
-
-near-premise : Every WithinDay (zones_of book (pack day_seconds))
-unfolding everything used_in zones_of
-near-premise = ((λ u v _ _. step (leb change u) (leb change v)), tt)
-
-pub holds-at-24-hours : Demand3 (as_defined book (pack day_seconds))
-holds-at-24-hours = demand-3 book (pack day_seconds) near-builds.0 near-builds.1 near-premise
 
 -- ---- 86,401 s apart
 

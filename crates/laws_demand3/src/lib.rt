@@ -1,2 +1,2 @@
-// Laws only: they stand in specs/.
+// Laws only: they stand in specs/ and proofs/.
 #![tactic(auto)]

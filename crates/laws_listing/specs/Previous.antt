@@ -31,7 +31,8 @@ use Rattle.laws_blocks.specs.Turn.{behind, backward-lists}
 use Rattle.laws_blocks.specs.Stretches.{Maximal, lists-covers, merged-stretches, stretches-unique, listed-none, listed_more, listed-lists}
 use Rattle.laws_demand3.specs.Zones.{WithinDay, zones_of}
 use Rattle.laws_base.specs.Every.{Every}
-use Rattle.laws_demand3.specs.Windows.{RuleOk, NearRule, OfRules, works_at, window-lists}
+use Rattle.laws_demand3.specs.Windows.{RuleOk, NearRule, OfRules, works_at}
+use Rattle.laws_demand3.proofs.Covers.{window-lists}
 use Rattle.laws_demand3.specs.Built.{built, near-rules}
 use Rattle.laws_demand3.specs.Demand.{since}
 use Rattle.laws_skip.specs.WindowEnds.{backward-none, backward-cons}

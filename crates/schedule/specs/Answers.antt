@@ -1,6 +1,6 @@
 -- What the answers of the calls say: document 01's numbers for each case, as the definitions' answers list them. The contracts are equations with
 -- `between`, `add` and `sub` of the definitions (Calls.antt of crate `model`). Those are the very calls of which theorem `demand-3` speaks
--- (Demand3.antt of crate `laws_demand3`): so demand 3 holds of what the code answers.
+-- (proofs/Holds.antt of crate `laws_demand3`): so demand 3 holds of what the code answers.
 use Rattle.std.specs.Prelude.{◌≡◌, Bool, List, [], ◌∷◌, ℕ, ℤ}
 use Rattle.model.specs.Answer.{Answer, gives, refuses, ◌>>=◌}
 use Rattle.model.specs.Instant.{instant, duration}

@@ -1,0 +1,4 @@
+pub mod Covers
+pub mod Moves
+pub mod Holds
+pub mod AtTheLimit
