@@ -3,22 +3,24 @@
 #![tactic(auto)]
 
 ghost use Rattle.std.specs.Prelude.{◌≡◌, ◌+◌, ◌*◌, ◌≤◌, ◌<◌, length};
+ghost use Rattle.std.specs.Io.{ReadsAtMost};
 ghost use Rattle.big_endian.specs.Be.{four_bytes};
 ghost use Rattle.test_cases.specs.Cases.{longest_file, most_parts, is_number_at, is_refusal_at};
 
-use libc::STDOUT_FILENO;
+use std::rt::Files;
+use std::{fs, io};
 
 // The most bytes that a file of cases has.
 pub const LONGEST: usize = 300000;
 
 // Writes a text to standard output.
-pub fn text(s: &[u8]) {
-    io::write_all(STDOUT_FILENO, s);
+pub fn text<P: Print>(rt: &P, s: &[u8]) -> io::Result<()> {
+    rt.write_all(s)
 }
 
 // Writes a number in decimal digits.
-pub fn number(n: u64) {
-    io::print_decimal(STDOUT_FILENO, n);
+pub fn number<P: Print>(rt: &P, n: u64) -> io::Result<()> {
+    rt.print(n)
 }
 
 // n + 1, or the greatest number.
@@ -30,6 +32,14 @@ pub fn one_more(n: u64) -> u64 {
 }
 
 // ---- the file of cases
+
+// Reads the file to the start of the buffer and answers how many of its bytes these are.
+pub fn load<R: Files>(rt: &R, path: &str, buffer: &mut [u8]) -> io::Result<usize>
+    ensures { ReadsAtMost result buffer.new }
+{
+    let mut file = fs::open(rt, path)?;
+    pieces::read_full(&mut file, buffer)
+}
 
 // The length of part k of the case at the place at.
 fn size_of(file: &[u8], at: usize, k: usize) -> usize
@@ -126,27 +136,21 @@ pub fn equal(seen: Seen, refusal: usize) -> Seen {
 }
 
 // One answer more that differs. Writes a line about it.
-pub fn different(seen: Seen, what: &[u8]) -> Seen {
-    text(b"case ");
-    number(seen.cases);
-    text(b": a ");
-    text(what);
-    text(b" differs\n");
+pub fn different<P: Print>(rt: &P, seen: Seen, what: &[u8]) -> io::Result<Seen> {
+    print!(rt; "case {}: a ", seen.cases)?;
+    text(rt, what)?;
+    println!(rt; " differs")?;
     let mut r = seen;
     r.different = one_more(seen.different);
-    r
+    Ok(r)
 }
 
 // Writes what was seen.
-pub fn tell(seen: Seen, what: &[u8]) {
-    number(seen.cases);
-    text(b" cases, ");
-    number(seen.given);
-    text(b" ");
-    text(what);
-    text(b" and ");
-    number(seen.refused);
-    text(b" refusals equal, ");
-    number(seen.different);
-    text(b" different\n");
+pub fn tell<P: Print>(rt: &P, seen: Seen, what: &[u8]) -> io::Result<()> {
+    print!(rt; "{} cases, {} ", seen.cases, seen.given)?;
+    text(rt, what)?;
+    println!(rt;
+        " and {} refusals equal, {} different",
+        seen.refused, seen.different
+    )
 }

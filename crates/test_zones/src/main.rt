@@ -11,7 +11,10 @@ ghost use Rattle.model.specs.NextChange.{next_change};
 ghost use Rattle.test_zones.specs.Answers.{file_size, local_at, answer_at, is_next, agrees_at};
 ghost use Rattle.zone_pack.specs.Pack.{most_zones};
 
-use libc::STDOUT_FILENO;
+use anyhow::{Context, Result};
+use std::io::Read;
+use std::rt::Files;
+use std::{fs, io};
 use zone::{Zone, ZoneRead};
 use zone_next_change::Next;
 
@@ -87,44 +90,28 @@ fn agreeing(f: &[u8], z: Zone, a: &[u8], n: usize) -> usize
 
 // ---- reading and writing
 
-// Writes a text.
-fn text(s: &[u8]) {
-    io::write_all(STDOUT_FILENO, s);
-}
-
-// Writes a number.
-fn number(n: usize) {
-    io::print_decimal(STDOUT_FILENO, n as u64);
-}
-
 // The digit of k, 0 to 9.
-fn digit(k: usize) -> u8 {
+fn digit(k: usize) -> u8
+    ensures { result < 128 }
+{
     b'0' + (k % 10) as u8
 }
 
-// Compares with the answers that the open file holds.
-fn compare(f: &[u8], z: Zone, file: i32)
+// Compares with the answers that the file holds.
+fn compare<P: Print, F: Read>(rt: &P, f: &[u8], z: Zone, file: &mut F) -> io::Result<()>
     requires { ZoneOk f.now z }
 {
     let mut buffer = [0u8; FILE_SIZE];
-    let got = io::read_full(file, &mut buffer);
-    libc::close(file);
+    let got = pieces::read_full(file, &mut buffer)?;
     let n = got / PAIR_SIZE;
     let k = agreeing(f, z, &buffer, n);
-    text(b", ");
-    number(k);
-    text(b" equal, ");
-    number(n - k);
-    text(b" different");
+    print!(rt; ", {k} equal, {} different", n - k)
 }
 
-// Writes what comes of zone i, whose file is f.
-fn write_zone(f: &[u8], i: usize) {
-    let ZoneRead::Opened(z) = zone::open(f) else {
-        text(b"refused\n");
-        return;
-    };
-    text(b"usable");
+// Compares with the answers of zone i, whose file is f, where there are any.
+fn compare_stored<R: Files + Print>(rt: &R, f: &[u8], z: Zone, i: usize) -> io::Result<()>
+    requires { ZoneOk f.now z }
+{
     // answers-KKK.bin
     let path = [
         b'a',
@@ -143,66 +130,70 @@ fn write_zone(f: &[u8], i: usize) {
         b'i',
         b'n',
     ];
-    let file = os::open_read(&path);
-    if file >= 0 {
-        compare(f, z, file);
-    }
-    text(b"\n");
+    let name = str::from_utf8(&path).unwrap();
+    let Ok(mut file) = fs::open(rt, name) else {
+        return Ok(());
+    };
+    compare(rt, f, z, &mut file)
+}
+
+// Writes what comes of zone i, whose file is f.
+fn write_zone<R: Files + Print>(rt: &R, f: &[u8], i: usize) -> io::Result<()> {
+    let ZoneRead::Opened(z) = zone::open(f) else {
+        return println!(rt; "refused");
+    };
+    print!(rt; "usable")?;
+    compare_stored(rt, f, z, i)?;
+    println!(rt; "")
 }
 
 // Finds zone i by its name, and writes its line.
-fn line(p: &[u8], i: usize)
+fn line<R: Files + Print>(rt: &R, p: &[u8], i: usize) -> io::Result<()>
     requires { i < most_zones }
 {
     if !zone_pack::pack_ok(p) {
-        return;
+        return Ok(());
     }
     let start = directory::start_at(p, i);
     let name = big_endian::part(p, start + 1, big_endian::small_at(p, start));
-    text(name);
+    rt.write_all(name)?;
     let mut found = false;
     let mut at: usize = 0;
     let f = zone_pack::look_in(p, name, &mut found, &mut at);
     if !found {
-        text(b": not found\n");
-        return;
+        return println!(rt; ": not found");
     }
-    text(b": ");
-    write_zone(f, i);
+    print!(rt; ": ")?;
+    write_zone(rt, f, i)
 }
 
 // Writes the lines of the first n zones.
-fn lines(p: &[u8], n: usize)
+fn lines<R: Files + Print>(rt: &R, p: &[u8], n: usize) -> io::Result<()>
     requires { n ≤ most_zones }
 {
-    let mut i: usize = 0;
-    while i < n {
-        line(p, i);
-        i += 1;
+    for i in 0..n {
+        line(rt, p, i)?;
     }
+    Ok(())
 }
 
 // Writes the lines of a pack.
-fn all_lines(p: &[u8]) {
+fn all_lines<R: Files + Print>(rt: &R, p: &[u8]) -> io::Result<()> {
     if !zone_pack::pack_ok(p) {
-        text(b"no pack\n");
-        return;
+        return println!(rt; "no pack");
     }
     let n = directory::count_of(p);
     if n <= zone_pack::MOST_ZONES {
-        lines(p, n);
+        lines(rt, p, n)?;
     }
+    Ok(())
 }
 
 // Writes the lines of the pack in zones.bin.
-fn main() {
-    let file = os::open_read(b"zones.bin");
-    if file < 0 {
-        os::fail(b"zones.bin");
-        return;
-    }
+fn main(rt: HostRuntime) -> Result<()> {
+    let mut file = fs::open(&rt, "zones.bin").context("zones.bin")?;
     let mut buffer = [0u8; FILE_SIZE];
-    let n = io::read_full(file, &mut buffer);
-    libc::close(file);
-    all_lines(&buffer[..n]);
+    let n = pieces::read_full(&mut file, &mut buffer).context("zones.bin")?;
+    all_lines(&rt, &buffer[..n])?;
+    Ok(())
 }
