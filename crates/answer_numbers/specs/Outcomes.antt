@@ -1,7 +1,6 @@
 -- What a function for other languages returns, and the lent numbers afterwards. The sentences are those of the header hirgwamo.h, "WHAT IS RETURNED".
-use Rattle.std.specs.Prelude.{◌≡◌, List, [], ◌∷◌, ℕ, ◌+◌, ltb, ℤ, pos, length, set}
+use Rattle.std.specs.Prelude.{◌≡◌, List, [], ◌∷◌, ℕ, ◌+◌, ltb, ℤ, pos, length, set, if◌then◌else◌}
 use Rattle.model.specs.Answer.{Answer, gives, refuses}
-use Rattle.model.specs.Basic.{if◌then◌else◌}
 
 -- l over the numbers of e, from i on
 unfoldable pub written : ℕ → List ℤ → List ℤ → List ℤ

@@ -1,7 +1,6 @@
 -- What the functions that are timed leave in the lent numbers, by the definitions of the calls.
-use Rattle.std.specs.Prelude.{◌≡◌, Bool, List, [], ◌∷◌, ℕ, zero, suc, ◌+◌, ◌/◌, eqb, ltb, ℤ, pos, length, get_or, set, take}
+use Rattle.std.specs.Prelude.{◌≡◌, Bool, List, [], ◌∷◌, ℕ, zero, suc, ◌+◌, ◌/◌, eqb, ltb, ℤ, pos, length, get_or, set, take, if◌then◌else◌}
 use Rattle.model.specs.Answer.{Answer, gives, refuses}
-use Rattle.model.specs.Basic.{if◌then◌else◌}
 use Rattle.model.specs.Build.{build}
 use Rattle.model.specs.Calls.{between_call, move_call, period_call, list_call, said, numbers_after}
 use Rattle.model.specs.Hardest.{hardest}

@@ -1,4 +1,5 @@
 -- The numbers of specs/Be.antt, which are read at an index, are those of the crate `model`, which are read from the front of what is left of a list.
+use Rattle.std.specs.Prelude.{if◌then◌else◌}
 use mathlib.Core.Path.{◌≡◌, refl, sym, ap, ◌∙◌}
 use mathlib.Core.Bool.{Bool, true, false}
 use mathlib.Core.List.{List, [], ◌∷◌, ◌++◌}
@@ -9,7 +10,7 @@ use native.Mathlib.Omega.{arith}
 use lib.ListN.{length, get_or, take, drop}
 use lib.Seq.{drop-cons, drop-drop, take-add}
 use Rattle.model.specs.Bytes.{number_from, be, words, pieces}
-use Rattle.model.specs.Basic.{if◌then◌else◌, all}
+use Rattle.model.specs.Basic.{all}
 use Rattle.laws_base.specs.Test.{by-test}
 use Rattle.big_endian.specs.Be.{be16, be32, be64}
 use Rattle.big_endian.specs.Walk.{both, all_from}

@@ -1,4 +1,5 @@
 -- One block and the blocks of a list around an instant, as the code looks at them. Assumes nothing.
+use Rattle.std.specs.Prelude.{if◌then◌else◌}
 use mathlib.Core.Path.{◌≡◌, refl, sym, ◌∙◌, ap}
 use mathlib.Core.Bool.{true, false, not, ◌&&◌}
 use mathlib.Core.List.{List, []}
@@ -7,7 +8,7 @@ use native.Mathlib.Omega.{arith}
 use lib.Dec.{ltb, leb, eqb}
 use lib.ListN.{length, drop, get_or}
 use borrow.Author.Tests.{ltb-true, ltb-false, lt-leb, le-leb, eq-eqb, ne_eqb}
-use Rattle.model.specs.Basic.{if◌then◌else◌, any}
+use Rattle.model.specs.Basic.{any}
 use Rattle.model.specs.Marks.{plain}
 use Rattle.laws_base.specs.Front.{rest-cons, rest-none}
 use Rattle.laws_base.specs.Test.{by-test}

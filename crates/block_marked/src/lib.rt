@@ -2,8 +2,7 @@
 // with its mark. And what blocks show around an instant u: whether they hold it and the one before it, and which marks their starts and ends there have.
 #![tactic(auto)]
 
-ghost use Rattle.std.specs.Prelude.{◌≡◌, ◌||◌, [], ℕ, ◌≤◌, max, eqb};
-ghost use Rattle.model.specs.Basic.{if◌then◌else◌};
+ghost use Rattle.std.specs.Prelude.{◌≡◌, ◌||◌, [], ℕ, ◌≤◌, max, eqb, if◌then◌else◌};
 ghost use Rattle.model.specs.Marks.{plain};
 ghost use Rattle.laws_marks.specs.Around as marks;
 ghost use Rattle.laws_marks.specs.AroundLaws.{both_around, around_block};

@@ -1,5 +1,6 @@
 -- The layout of a record's bytes, l, as tests and values at places of l, and that they are those of the crate `model`.
 -- Each parser of `model` gives its value where its test passes.
+use Rattle.std.specs.Prelude.{if◌then◌else◌}
 use mathlib.Core.Path.{◌≡◌, refl, sym, ◌∙◌}
 use mathlib.Core.Bool.{Bool, true, false, ◌&&◌}
 use mathlib.Core.Option.{none, some}
@@ -16,7 +17,7 @@ use Rattle.big_endian.specs.Be.{be16, be32}
 use Rattle.big_endian.proofs.Lists.{at-2, at-4}
 use Rattle.book_dates.proofs.Reading.{is-given, days-is}
 use Rattle.laws_base.specs.Test.{by-test}
-use Rattle.model.specs.Basic.{if◌then◌else◌, ◌>>=◌, given, need}
+use Rattle.model.specs.Basic.{◌>>=◌, given, need}
 use Rattle.model.specs.Bytes.{be}
 use Rattle.model.specs.Directory.{Part}
 use Rattle.model.specs.Book as model

@@ -1,4 +1,5 @@
 -- Sums over the book's records and the default zone that wins: one step of each loop, and its end.
+use Rattle.std.specs.Prelude.{if◌then◌else◌}
 use mathlib.Core.Path.{◌≡◌, refl, sym, ◌∙◌}
 use mathlib.Core.Bool.{Bool, false, ◌&&◌}
 use mathlib.Core.Option.{Option, none, some}
@@ -12,7 +13,7 @@ use lib.ListN.{length, get_or, drop, get_elem?, drop_of_length-le}
 use lib.Seq.{drop-cons}
 use borrow.Author.Tests.{le-leb, lt-leb, eq-eqb, ne_eqb}
 use Rattle.big_endian.specs.Be.{two_bytes}
-use Rattle.model.specs.Basic.{if◌then◌else◌, sum}
+use Rattle.model.specs.Basic.{sum}
 use Rattle.model.specs.Book as model
 use Rattle.model.specs.Book.{Body, default, work, pause, holidays, works, pauses, holiday_records, dates, tally, within_limits, is_default, last_default}
 use Rattle.book.specs.declared.Tallies.{Tallies}

@@ -1,6 +1,5 @@
 -- What the code's records stand for: from an `Entry` of the code and the bytes of the book to an `Entry` of the crate `model`.
-use Rattle.model.specs.Basic.{if◌then◌else◌}
-use Rattle.std.specs.Prelude.{◌≡◌, List, [], ℕ, ◌+◌, ◌≤◌, ◌<◌, eqb, length, get_or, take, drop}
+use Rattle.std.specs.Prelude.{◌≡◌, List, [], ℕ, ◌+◌, ◌≤◌, ◌<◌, eqb, length, get_or, take, drop, if◌then◌else◌}
 use Rattle.std.proofs.Math.Option.{none}
 use Rattle.std.proofs.Math.ListN.{get_elem?}
 use Rattle.big_endian.specs.Be.{two_bytes, four_bytes, be16, be32}

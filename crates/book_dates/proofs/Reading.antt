@@ -1,4 +1,5 @@
 -- The tests of a date and of n dates are those of the crate `model`, which gives their days where they pass.
+use Rattle.std.specs.Prelude.{if◌then◌else◌}
 use mathlib.Core.Path.{◌≡◌, refl, sym, ap, ◌∙◌}
 use mathlib.Core.Bool.{Bool, true, false, ◌&&◌}
 use mathlib.Core.Option.{Option, some}
@@ -10,7 +11,7 @@ use lib.Seq.{drop-drop, take-take, get_or-take, get_or-drop}
 use Rattle.big_endian.specs.Be.{be16}
 use Rattle.big_endian.specs.Maybe.{is_some}
 use Rattle.big_endian.proofs.Lists.{at-2}
-use Rattle.model.specs.Basic.{if◌then◌else◌, ◌>>=◌, given, each}
+use Rattle.model.specs.Basic.{◌>>=◌, given, each}
 use Rattle.model.specs.Bytes.{be, pieces}
 use Rattle.model.specs.Book.{date_in}
 use Rattle.model.specs.Calendar.{is_date, day_number}

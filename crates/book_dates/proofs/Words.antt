@@ -1,4 +1,5 @@
 -- The loops over the numbers that the dates are written as: one step of each, and its end.
+use Rattle.std.specs.Prelude.{if◌then◌else◌}
 use mathlib.Core.Path.{◌≡◌, refl, sym, ap, ◌∙◌}
 use mathlib.Core.Bool.{Bool, true, false, not}
 use mathlib.Core.List.{List, [], ◌∷◌}
@@ -10,7 +11,7 @@ use lib.Seq.{get_or-set_same, get_or-set_other}
 use borrow.Author.Tests.{lt-ltb, le-ltb, ltb-true, eq-eqb, ne_eqb, eqb-true, eqb-false, not-true, not-false}
 use Rattle.big_endian.specs.Be.{be32}
 use Rattle.laws_base.specs.Test.{by-test, clash}
-use Rattle.model.specs.Basic.{if◌then◌else◌, any, among, distinct}
+use Rattle.model.specs.Basic.{any, among, distinct}
 use Rattle.book_dates.specs.Words.{words_at, rises, mark_count, slot_of}
 
 words_more : (b : List ℕ) (p n : ℕ) → 0 < n → words_at b p n ≡ be32 b p ∷ words_at b (p + 4) (n - 1)

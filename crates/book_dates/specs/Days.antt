@@ -1,9 +1,9 @@
 -- Dates as they are written in a list of bytes, one behind the other.
-use Rattle.std.specs.Prelude.{Bool, true, ◌≡◌, List, [], ◌∷◌, ℕ, zero, suc, ◌+◌, ◌*◌, ◌-◌, ◌%◌, ◌≤◌, length, get_or, take, drop}
+use Rattle.std.specs.Prelude.{Bool, true, ◌≡◌, List, [], ◌∷◌, ℕ, zero, suc, ◌+◌, ◌*◌, ◌-◌, ◌%◌, ◌≤◌, length, get_or, take, drop, if◌then◌else◌}
 use Rattle.big_endian.specs.Be.{two_bytes, be16}
 use Rattle.big_endian.specs.Maybe.{is_some}
 use Rattle.civil.specs.declared.Date.{Date}
-use Rattle.model.specs.Basic.{if◌then◌else◌, each}
+use Rattle.model.specs.Basic.{each}
 use Rattle.model.specs.Book.{date_in}
 use Rattle.model.specs.Bytes.{pieces}
 use Rattle.model.specs.Calendar.{is_date, day_number}

@@ -1,7 +1,6 @@
 -- Four-byte numbers that stand one behind the other in a list of bytes.
-use Rattle.std.specs.Prelude.{Bool, true, false, List, [], ◌∷◌, ℕ, zero, suc, ◌+◌, ◌*◌, ◌/◌, ◌%◌, ltb}
+use Rattle.std.specs.Prelude.{Bool, true, false, List, [], ◌∷◌, ℕ, zero, suc, ◌+◌, ◌*◌, ◌/◌, ◌%◌, ltb, if◌then◌else◌}
 use Rattle.big_endian.specs.Be.{two_bytes, be32}
-use Rattle.model.specs.Basic.{if◌then◌else◌}
 
 -- the n numbers from p on
 unfoldable pub words_at : List ℕ → ℕ → ℕ → List ℕ

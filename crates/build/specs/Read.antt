@@ -1,9 +1,9 @@
 -- What the code answers, in terms of the definitions: the zone of a record, a schedule with one record more, and the answer of `build`.
-use Rattle.std.specs.Prelude.{◌≡◌, refl, List, [], ◌∷◌, ◌++◌, ℕ, ◌+◌, ◌*◌, ◌≤◌, ◌<◌, eqb, length, take, drop, set, get_or, Bool, true}
+use Rattle.std.specs.Prelude.{◌≡◌, refl, List, [], ◌∷◌, ◌++◌, ℕ, ◌+◌, ◌*◌, ◌≤◌, ◌<◌, eqb, length, take, drop, set, get_or, Bool, true, if◌then◌else◌}
 use Rattle.std.proofs.Common.{sym}
 use Rattle.std.proofs.Math.Option.{Option, none, some}
 use Rattle.laws_base.specs.Test.{by-test}
-use Rattle.model.specs.Basic.{if◌then◌else◌, given, distinct}
+use Rattle.model.specs.Basic.{given, distinct}
 use Rattle.model.specs.Instant.{day, week_seconds}
 use Rattle.model.specs.Answer.{Answer, gives, refuses, ◌>>=◌, or_refuse}
 use Rattle.model.specs.Pack.{Named, pack_of}

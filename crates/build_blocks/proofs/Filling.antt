@@ -1,4 +1,5 @@
 -- Filling a block list from the front: what a turn of either loop keeps. Assumes nothing.
+use Rattle.std.specs.Prelude.{if◌then◌else◌}
 use mathlib.Core.Path.{◌≡◌, refl, sym, ◌∙◌, ap}
 use mathlib.Core.Bool.{Bool, true, false}
 use mathlib.Core.List.{List, [], ◌∷◌, ◌++◌, map, append_assoc, append-nil}
@@ -6,7 +7,7 @@ use Prim.Native.Nat.{ℕ, ◌+◌, ◌*◌, ◌-◌, ◌≤◌, ◌<◌}
 use native.Mathlib.Omega.{arith}
 use lib.Dec.{ltb}
 use lib.ListN.{length, take, get_or, set, length-set}
-use Rattle.model.specs.Basic.{if◌then◌else◌, filter, run, joined}
+use Rattle.model.specs.Basic.{filter, run, joined}
 use Rattle.model.specs.Blocks.{Block as Block'}
 use Rattle.model.specs.Walk.{onward}
 use Rattle.model.specs.Working.{Rule, blocks_of, blocks_of_all}

@@ -2,8 +2,7 @@
 // borders are nanoseconds from the window's start. And whether there is any, for which no list is made.
 #![tactic(auto)]
 
-ghost use Rattle.std.specs.Prelude.{◌≡◌, ◌+◌, ◌<◌, ltb};
-ghost use Rattle.model.specs.Basic.{if◌then◌else◌};
+ghost use Rattle.std.specs.Prelude.{◌≡◌, ◌+◌, ◌<◌, ltb, if◌then◌else◌};
 ghost use Rattle.model.specs.Blocks.{clipped};
 ghost use Rattle.model.specs.DayNumber.{day_of};
 ghost use Rattle.model.specs.Walk.{onward};

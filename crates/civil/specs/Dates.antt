@@ -1,6 +1,5 @@
 -- What the code's dates mean: the definitions' dates, with an answer where there is none.
-use Rattle.model.specs.Basic.{if◌then◌else◌}
-use Rattle.std.specs.Prelude.{◌&&◌, ℕ, ◌+◌, ◌*◌, ◌<◌, ltb, ℤ}
+use Rattle.std.specs.Prelude.{◌&&◌, ℕ, ◌+◌, ◌*◌, ◌<◌, ltb, ℤ, if◌then◌else◌}
 use Rattle.model.specs.DayNumber.{signed_day, day_of}
 use Rattle.laws_calendar.specs.Numbers.{IsDayNumber}
 use Rattle.model.specs.Calendar as M

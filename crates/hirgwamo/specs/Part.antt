@@ -1,8 +1,7 @@
 -- The numbers of each answer, as the header hirgwamo.h tells them, and what a function promises of its return and of the lent numbers.
-use Rattle.std.specs.Prelude.{◌≡◌, List, [], ◌∷◌, ◌++◌, ℕ, ltb, ℤ, pos, length}
+use Rattle.std.specs.Prelude.{◌≡◌, List, [], ◌∷◌, ◌++◌, ℕ, ltb, ℤ, pos, length, if◌then◌else◌}
 use Rattle.std.proofs.Math.Option.{Option, none, some}
 use Rattle.model.specs.Answer.{Answer, gives, ◌>>=◌}
-use Rattle.model.specs.Basic.{if◌then◌else◌}
 use Rattle.model.specs.Calls.{Reply, Listing, said, least_of, stretch_count, numbers_after}
 use Rattle.model.specs.Working.{Schedule}
 use Rattle.answer_numbers.specs.Outcomes.{outcome, EndsAs}

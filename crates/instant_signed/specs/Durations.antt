@@ -1,6 +1,5 @@
 -- What the code's durations mean: a sign and a number of nanoseconds, as the definitions have them. Refusal 7 is out of range.
-use Rattle.model.specs.Basic.{if◌then◌else◌}
-use Rattle.std.specs.Prelude.{Bool, ℕ, ◌/◌, ◌%◌, ◌^◌, leb, ltb, eqb, ℤ}
+use Rattle.std.specs.Prelude.{Bool, ℕ, ◌/◌, ◌%◌, ◌^◌, leb, ltb, eqb, ℤ, if◌then◌else◌}
 use Rattle.model.specs.Answer.{Answer, gives, refuses, ◌>>=◌}
 use Rattle.model.specs.Instant as M
 use Rattle.model.specs.Instant.{second, signed, duration_of, negated}

@@ -1,6 +1,5 @@
 -- What the code's instants mean: numbers of nanoseconds as the definitions count them, as whole seconds and the rest.
-use Rattle.model.specs.Basic.{if◌then◌else◌}
-use Rattle.std.specs.Prelude.{ℕ, ◌-◌, ◌/◌, ◌%◌, leb, ℤ, pos, neg_ℤ}
+use Rattle.std.specs.Prelude.{ℕ, ◌-◌, ◌/◌, ◌%◌, leb, ℤ, pos, neg_ℤ, if◌then◌else◌}
 use Rattle.model.specs.Answer.{Answer, gives, refuses}
 use Rattle.model.specs.Instant.{epoch, second}
 use Rattle.instant.specs.declared.Instant.{Instant}

@@ -1,8 +1,7 @@
 -- Three functions, made from the definitions, that answer as the contracts of `between`, `add` and `sub` promise, for every book and every pack.
 -- So demand 3 over the answers (`demand-3-answers` of Demand.antt), which speaks of any three such functions, speaks of something.
-use Rattle.std.specs.Prelude.{◌≡◌, refl, Bool, true, false, List, [], ◌∷◌, ℕ, ◌≤◌, min, max, ◌-◌, get_or, ℤ, pos}
+use Rattle.std.specs.Prelude.{◌≡◌, refl, Bool, true, false, List, [], ◌∷◌, ℕ, ◌≤◌, min, max, ◌-◌, get_or, ℤ, pos, if◌then◌else◌}
 use Rattle.std.proofs.Common.{arith}
-use Rattle.model.specs.Basic.{if◌then◌else◌}
 use Rattle.model.specs.Instant.{instant_of, instant, duration_of, duration, negated}
 use Rattle.model.specs.Answer.{Answer, gives, refuses, ◌>>=◌}
 use Rattle.model.specs.Working.{Schedule}

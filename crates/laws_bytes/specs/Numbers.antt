@@ -1,6 +1,6 @@
 -- A program that reads the clock's answers by the rules of its queries has the numbers that were printed: `number_of` reads back what `shown`
 -- prints, for every signed 64-bit number. Document 01: "Fields are decimal, minus allowed, one space apart."
-use Rattle.std.specs.Prelude.{◌≡◌, Bool, true, not, ℕ, zero, suc, ◌+◌, ◌-◌, ◌/◌, ◌%◌, ◌^◌, ◌≤◌, ◌<◌, ltb, eqb, length, drop, ℤ, pos, negsuc}
+use Rattle.std.specs.Prelude.{◌≡◌, Bool, true, not, ℕ, zero, suc, ◌+◌, ◌-◌, ◌/◌, ◌%◌, ◌^◌, ◌≤◌, ◌<◌, ltb, eqb, length, drop, ℤ, pos, negsuc, if◌then◌else◌}
 use Rattle.std.proofs.Math.Path.{refl}
 use Rattle.std.proofs.Common.{ap, ◌∙◌, not-suc-le-zero, arith, SFits}
 use Rattle.std.proofs.Math.Bool.{false}
@@ -8,7 +8,7 @@ use Rattle.std.proofs.Math.Option.{some}
 use mathlib.Core.List.{List, [], ◌∷◌, ◌++◌, map, append-nil}
 use Rattle.std.specs.Int.{w64}
 use borrow.Author.Tests.{ltb-true, lt-ltb, le-leb, ne_eqb}
-use Rattle.model.specs.Basic.{if◌then◌else◌, is_in, all, each, joined}
+use Rattle.model.specs.Basic.{is_in, all, each, joined}
 use Rattle.model.specs.Lines.{fields_of, decimal_from, magnitude, number_of, digits_from, shown}
 use Rattle.model.specs.Instant.{signed}
 use Rattle.laws_base.specs.Test.{by-test, clash, in_bounds, within, all_head}

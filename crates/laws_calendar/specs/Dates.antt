@@ -1,10 +1,9 @@
 -- Dates and days: each day lies in one year and one month, each date's number gives the date back, and each day's date its number.
 -- What holds of the months alone is computed, for the 365 or 366 days of a year. Document 01: "Date: proleptic Gregorian".
-use Rattle.std.specs.Prelude.{◌≡◌, refl, Bool, true, false, not, ◌&&◌, ◌||◌, ℕ, zero, suc, ◌+◌, ◌-◌, ◌*◌, ◌/◌, ◌%◌, ◌≤◌, ◌<◌, T, eqb, ltb}
+use Rattle.std.specs.Prelude.{◌≡◌, refl, Bool, true, false, not, ◌&&◌, ◌||◌, ℕ, zero, suc, ◌+◌, ◌-◌, ◌*◌, ◌/◌, ◌%◌, ◌≤◌, ◌<◌, T, eqb, ltb, if◌then◌else◌}
 use Rattle.std.proofs.Common.{ap, ⊎_elim, suc-le-suc, arith, sub-add_cancel, le_antisymm, le_of_lt, eq-or-lt_of_le, eqb-true, ltb-true, ltb-false}
 use Rattle.std.proofs.Math.Decide.{dec_le}
 use Rattle.std.proofs.lemmas.Bool.{eqb-false}
-use Rattle.model.specs.Basic.{if◌then◌else◌}
 use Rattle.model.specs.Calendar.{is_leap, days_before_year, days_in_month, days_before_month, date, is_date, day_number, year_of, months_begun, month_of, date_in, date_of, first_day, last_day}
 use Rattle.laws_base.specs.Claim.{Claim, le, lt, eq, both, if, Says, all_below, at_each, all₂, at-each₂, says, passes, fails}
 use Rattle.laws_calendar.specs.Years.{dby-hi, dby-lo, year_estimate}

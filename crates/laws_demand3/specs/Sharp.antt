@@ -1,9 +1,8 @@
 -- Demand 3's premise is exact. A book whose zone has two offsets 86,400 s apart builds and has all of demand 3 (proofs/AtTheLimit.antt); the same
 -- book with two offsets 86,401 s apart builds too, and there working time does not add up: half a second is lost.
-use Rattle.std.specs.Prelude.{◌≡◌, refl, Bool, true, false, List, [], ◌∷◌, ◌++◌, ℕ, ◌+◌, ◌≤◌, length, ℤ, pos, ◌+ℤ◌}
+use Rattle.std.specs.Prelude.{◌≡◌, refl, Bool, true, false, List, [], ◌∷◌, ◌++◌, ℕ, ◌+◌, ◌≤◌, length, ℤ, pos, ◌+ℤ◌, if◌then◌else◌}
 use Rattle.std.proofs.Common.{sym, ◌∙◌, arith}
 use Rattle.std.specs.Int.Signed.{le_z_yes}
-use Rattle.model.specs.Basic.{if◌then◌else◌}
 use Rattle.model.specs.Bytes.{hex, text}
 use Rattle.model.specs.Answer.{Answer, gives}
 use Rattle.model.specs.Zone.{offset_at}

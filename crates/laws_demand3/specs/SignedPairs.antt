@@ -1,8 +1,7 @@
 -- From pairs of signed numbers to natural numbers of nanoseconds and back: which instant or duration a pair is for the calls.
-use Rattle.std.specs.Prelude.{◌≡◌, refl, Bool, true, false, [], ◌∷◌, ℕ, zero, suc, ◌+◌, ◌*◌, ◌-◌, ◌/◌, ◌%◌, ◌≤◌, ◌<◌, leb, eqb, ℤ, pos, negsuc, neg_ℤ, nat_abs, ◌+ℤ◌, ◌*ℤ◌, ◌≤ℤ◌, ◌<ℤ◌}
+use Rattle.std.specs.Prelude.{◌≡◌, refl, Bool, true, false, [], ◌∷◌, ℕ, zero, suc, ◌+◌, ◌*◌, ◌-◌, ◌/◌, ◌%◌, ◌≤◌, ◌<◌, leb, eqb, ℤ, pos, negsuc, neg_ℤ, nat_abs, ◌+ℤ◌, ◌*ℤ◌, ◌≤ℤ◌, ◌<ℤ◌, if◌then◌else◌}
 use Rattle.std.proofs.Common.{sym, ◌∙◌, ap, arith, leb→le, le→leb, lt→ltb, le-leb, lt-ltb, leb-true, leb-false}
 use Rattle.std.specs.Int.Signed.{le_z_yes, lt_z_yes}
-use Rattle.model.specs.Basic.{if◌then◌else◌}
 use Rattle.model.specs.Instant.{epoch, second, first_instant, last_instant, signed, second_from, instant_of, instant, Duration, duration_of, duration}
 use Rattle.model.specs.Answer.{gives}
 use Rattle.laws_base.specs.Test.{by-test}

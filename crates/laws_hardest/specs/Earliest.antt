@@ -1,9 +1,9 @@
 -- The earliest of the greatest: what `hardest_of` gives is one of the windows, no window has more time, and no earlier one has as much. One pass over the
 -- windows, which keeps the best so far and takes a later one only where it has more, finds it.
-use Rattle.std.specs.Prelude.{◌≡◌, refl, true, false, List, [], ◌∷◌, ◌++◌, map, ℕ, ◌≤◌, ◌<◌, eqb, ltb}
+use Rattle.std.specs.Prelude.{◌≡◌, refl, true, false, List, [], ◌∷◌, ◌++◌, map, ℕ, ◌≤◌, ◌<◌, eqb, ltb, if◌then◌else◌}
 use Rattle.std.proofs.Common.{sym, ◌∙◌, ap, arith, ltb-true, ltb-false, eq-eqb, ne_eqb}
 use Rattle.std.proofs.Math.Decide.{ℕ_discrete}
-use Rattle.model.specs.Basic.{if◌then◌else◌, filter, maximum}
+use Rattle.model.specs.Basic.{filter, maximum}
 use Rattle.model.specs.Hardest.{Stretch, first_or, hardest_of}
 use Rattle.laws_base.specs.Test.{by-test}
 use Rattle.laws_base.specs.Every.{Every}

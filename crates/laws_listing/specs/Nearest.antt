@@ -1,14 +1,13 @@
 -- The next period from an instant, for every schedule: it is the first stretch of the listing from that instant to the last one, cut to the search
 -- limit, where that stretch begins within the limit; further off, or with no stretch and a range that ends beyond the limit, it is refused with 6;
 -- with no stretch up to a range's end within the limit, with 7.
-use Rattle.std.specs.Prelude.{◌≡◌, Bool, true, false, ◌||◌, leb, ltb, eqb}
+use Rattle.std.specs.Prelude.{◌≡◌, Bool, true, false, ◌||◌, leb, ltb, eqb, if◌then◌else◌}
 use Rattle.std.proofs.Math.Path.{refl, sym}
 use Rattle.std.proofs.Common.{◌∙◌, ap, arith}
 use mathlib.Core.List.{List, [], ◌∷◌, ◌++◌, map-append}
 use Prim.Native.Nat.{ℕ, zero, suc, ◌+◌, ◌*◌, ◌-◌, ◌≤◌, ◌<◌, min, max}
 use Rattle.std.proofs.Math.Decide.{dec_lt}
 use borrow.Author.Tests.{eqb-true, eqb-false, eq-eqb, ne_eqb, ltb-true, ltb-false, lt-ltb, le-ltb, leb-true, le-leb, lt-leb}
-use Rattle.model.specs.Basic.{if◌then◌else◌}
 use Rattle.model.specs.Answer.{Answer, gives, refuses}
 use Rattle.model.specs.Instant.{week, last_instant}
 use Rattle.model.specs.Blocks.{Block, block, merged, merged_from}

@@ -6,7 +6,7 @@
 -- A listing that begins a whole number of weeks before t has those very windows, for every schedule: so the last stretch of the listing itself
 -- is the previous period where it goes back more than twice the limit (`previous-in-weeks`): a period is looked for within the limit and cut to it.
 -- Under demand 3's premise windows do not matter, and lo is any instant from -9998 on (`previous-from-any`).
-use Rattle.std.specs.Prelude.{◌≡◌, refl, Bool, false, ltb}
+use Rattle.std.specs.Prelude.{◌≡◌, refl, Bool, false, ltb, if◌then◌else◌}
 use Rattle.std.proofs.Math.Path.{sym}
 use Rattle.std.proofs.Common.{◌∙◌, ap, ap₂, add-zero, add-suc}
 use Rattle.std.proofs.Math.Logic.{⊎_elim}
@@ -15,7 +15,6 @@ use Prim.Native.Nat.{ℕ, zero, suc, ◌+◌, ◌*◌, ◌-◌, ◌≤◌, ◌<�
 use native.Mathlib.Omega.{arith}
 use Rattle.std.proofs.Math.Nat.{sub-zero}
 use borrow.Author.Tests.{lt-ltb, le-ltb, ltb-false}
-use Rattle.model.specs.Basic.{if◌then◌else◌}
 use Rattle.model.specs.Calendar.{first_day}
 use Rattle.model.specs.Answer.{Answer, gives, refuses}
 use Rattle.model.specs.Instant.{day, week, first_instant, last_instant}

@@ -1,7 +1,7 @@
 -- What whole marked blocks show around an instant, and the mark of a window's block that begins or ends there, by that alone. No list is sorted or
 -- merged: an end is seen from the instant u and from the one before it.
-use Rattle.std.specs.Prelude.{Bool, not, ◌&&◌, List, map, ℕ, leb, ltb, eqb}
-use Rattle.model.specs.Basic.{if◌then◌else◌, any, maximum}
+use Rattle.std.specs.Prelude.{Bool, not, ◌&&◌, List, map, ℕ, leb, ltb, eqb, if◌then◌else◌}
+use Rattle.model.specs.Basic.{any, maximum}
 use Rattle.model.specs.Marks.{MarkedBlock, plain}
 
 -- the instant u lies in b, and the instant before u does

@@ -1,12 +1,11 @@
 -- The mark of each end of a window's blocks, by what whole work and whole gaps show around it: `start_by` and `end_by`. The same marks are those
 -- that `start_mark_at` and `end_mark_at` find at any instant of the window.
-use Rattle.std.specs.Prelude.{◌≡◌, refl, ◌⊎◌, ℕ, suc, ◌-◌, ◌≤◌, ◌<◌, leb, ltb, eqb}
+use Rattle.std.specs.Prelude.{◌≡◌, refl, ◌⊎◌, ℕ, suc, ◌-◌, ◌≤◌, ◌<◌, leb, ltb, eqb, if◌then◌else◌}
 use Rattle.std.proofs.Common.{◌∙◌, arith}
 use Rattle.std.proofs.Math.Path.{ap}
 use Rattle.std.proofs.Math.Logic.{inl, inr, ⊎_elim}
 use mathlib.Core.List.{List, [], ◌∷◌, map}
 use borrow.Author.Tests.{ltb-true, leb-false, eqb-true, eqb-false}
-use Rattle.model.specs.Basic.{if◌then◌else◌}
 use Rattle.model.specs.Working.{Schedule}
 use Rattle.model.specs.Marks.{Edge, MarkedBlock, marked, plain, put_marked, cut_marked, subtract_marked, union_marked, not_before, not_behind, windowed, whole_of_all, marked_working, start_mark_at, end_mark_at}
 use Rattle.laws_base.specs.Test.{by-test}

@@ -1,13 +1,12 @@
 -- The marks of a period by the walk itself. A walk over marked blocks keeps the first start and the last end that it meets; windows and the search
 -- limit move ends as the request says. It gives the marks that `start_of_period` and `end_of_period` look up.
-use Rattle.std.specs.Prelude.{◌≡◌, ◌||◌, leb, ltb, eqb}
+use Rattle.std.specs.Prelude.{◌≡◌, ◌||◌, leb, ltb, eqb, if◌then◌else◌}
 use Rattle.std.proofs.Math.Path.{refl, ap}
 use Rattle.std.proofs.Common.{sym, ◌∙◌, ap₂}
 use mathlib.Core.List.{List, [], ◌∷◌, map}
 use Prim.Native.Nat.{ℕ, zero, suc, ◌+◌, ◌*◌, ◌-◌, ◌≤◌, ◌<◌, min}
 use native.Mathlib.Omega.{arith}
 use borrow.Author.Tests.{ltb-true, ltb-false, leb-false, eq-eqb, ne_eqb}
-use Rattle.model.specs.Basic.{if◌then◌else◌}
 use Rattle.model.specs.Instant.{week}
 use Rattle.model.specs.Answer.{Answer, gives, refuses, ◌>>=◌}
 use Rattle.model.specs.Blocks.{Block}

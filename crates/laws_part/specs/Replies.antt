@@ -1,5 +1,5 @@
 -- The calls' answers are numbers that fit: a refusal's place lies in the book, and a count of windows is at most that of the whole range.
-use Rattle.std.specs.Prelude.{Bool, not, ◌&&◌, ◌||◌, List, ◌++◌, map, eqb, ℤ}
+use Rattle.std.specs.Prelude.{Bool, not, ◌&&◌, ◌||◌, List, ◌++◌, map, eqb, ℤ, if◌then◌else◌}
 use Rattle.std.proofs.Math.Bool.{true, false}
 use Prim.Native.Nat.{ℕ, zero, suc, ◌+◌, ◌*◌, ◌-◌, ◌≤◌, ◌^◌, min}
 use Rattle.std.proofs.Common.{arith}
@@ -8,7 +8,7 @@ use Rattle.std.proofs.Math.IntN.{nat_abs}
 use Rattle.std.proofs.Math.ListN.{length, drop}
 use borrow.Author.Tests.{ltb-true, leb-true}
 use Rattle.model.specs.Answer.{Answer, gives, refuses, ◌>>=◌}
-use Rattle.model.specs.Basic.{if◌then◌else◌, is_in, joined}
+use Rattle.model.specs.Basic.{is_in, joined}
 use Rattle.model.specs.Blocks.{Block}
 use Rattle.model.specs.Build.{build}
 use Rattle.model.specs.Calendar.{is_date, day_number}

@@ -2,14 +2,14 @@
 -- the starting instant. One may be skipped if it and the window walked before it are whole, the span from 11 days before their border to 11 days
 -- after lies in the range, .."; "at least one for each window that may not be skipped".
 -- Window k begins at the distance k weeks from the starting instant; the first one, k = 0, has none before it.
-use Rattle.std.specs.Prelude.{◌≡◌, Bool, true, false, not, ◌&&◌, List, [], ◌∷◌, leb, ltb, eqb, length}
+use Rattle.std.specs.Prelude.{◌≡◌, Bool, true, false, not, ◌&&◌, List, [], ◌∷◌, leb, ltb, eqb, length, if◌then◌else◌}
 use Rattle.std.proofs.Math.Path.{refl}
 use Rattle.std.proofs.Common.{sym, ◌∙◌, lt-ltb, le-ltb, le-leb, eq-eqb, ne_eqb}
 use Prim.Native.Nat.{ℕ, zero, suc, ◌+◌, ◌*◌, ◌-◌, ◌≤◌, ◌<◌, min}
 use native.Mathlib.Omega.{arith}
 use Rattle.std.proofs.Math.Decide.{dec_le}
 use Rattle.std.proofs.lemmas.Bool.{lt-leb}
-use Rattle.model.specs.Basic.{if◌then◌else◌, filter, run}
+use Rattle.model.specs.Basic.{filter, run}
 use Rattle.model.specs.Instant.{week}
 use Rattle.model.specs.Blocks.{Block, block, total}
 use Rattle.model.specs.Working.{Schedule, working}

@@ -1,13 +1,13 @@
 -- Walks that skip windows, each with the number of windows that it resolves. They give the answers of the plain walks of the definitions, and
 -- resolve just the windows that may not be skipped.
-use Rattle.std.specs.Prelude.{◌≡◌, Bool, ◌&&◌, ◌⊎◌, List, ltb, eqb}
+use Rattle.std.specs.Prelude.{◌≡◌, Bool, ◌&&◌, ◌⊎◌, List, ltb, eqb, if◌then◌else◌}
 use Rattle.std.proofs.Math.Path.{refl, ap, ap₂}
 use Rattle.std.proofs.Common.{sym, ◌∙◌, inl, inr, add-zero}
 use Rattle.std.proofs.Math.Bool.{true, false}
 use Prim.Native.Nat.{ℕ, zero, suc, ◌+◌, ◌*◌, ◌-◌, ◌≤◌, ◌<◌, min}
 use native.Mathlib.Omega.{arith}
 use borrow.Author.Tests.{ltb-true, ltb-false, lt-ltb, le-ltb, ne_eqb, eqb-true, eqb-false}
-use Rattle.model.specs.Basic.{if◌then◌else◌, given}
+use Rattle.model.specs.Basic.{given}
 use Rattle.std.proofs.Math.Option.{Option, none, some}
 use Rattle.model.specs.Instant.{week}
 use Rattle.model.specs.Answer.{Answer, gives, refuses}

@@ -1,6 +1,6 @@
 -- Windows in a span without change of offset. There a date's clipped block is what the one offset gives, so the blocks of a date are those of
 -- the date a week before, a week later; and a holiday outside the span's local dates reaches into no window of it.
-use Rattle.std.specs.Prelude.{◌≡◌, Bool, true, false, ◌&&◌, ◌⊎◌, ℕ, zero, suc, ◌+◌, ◌*◌, ◌-◌, ◌/◌, ◌≤◌, ◌<◌, min, max, ltb}
+use Rattle.std.specs.Prelude.{◌≡◌, Bool, true, false, ◌&&◌, ◌⊎◌, ℕ, zero, suc, ◌+◌, ◌*◌, ◌-◌, ◌/◌, ◌≤◌, ◌<◌, min, max, ltb, if◌then◌else◌}
 use Rattle.std.proofs.Math.Path.{refl, sym, ap, ap₂}
 use Rattle.std.proofs.Common.{◌∙◌, ⊎_elim}
 use Rattle.std.proofs.Math.Logic.{inl, inr}
@@ -9,7 +9,7 @@ use native.Mathlib.Omega.{arith}
 use Rattle.std.proofs.Math.Decide.{dec_le}
 use Rattle.std.proofs.Math.Dec.{leb}
 use borrow.Author.Tests.{leb-true, leb-false, lt-ltb, le-ltb, le-leb}
-use Rattle.model.specs.Basic.{if◌then◌else◌, all, any, among, is_in, filter, run, joined}
+use Rattle.model.specs.Basic.{all, any, among, is_in, filter, run, joined}
 use Rattle.model.specs.Calendar.{first_day, last_day, contains}
 use Rattle.model.specs.Instant.{second, day, week, first_instant, last_instant}
 use Rattle.model.specs.Offset.{greatest_offset}

@@ -1,10 +1,9 @@
 -- The numbers of the days on which a footer's changes lie. Document 02, request 3: "those of footer changes in the years just outside, which still count,
 -- fit 32 bits too".
-use Rattle.std.specs.Prelude.{◌≡◌, refl, ◌&&◌, ℕ, ◌+◌, ◌*◌, ◌-◌, ◌/◌, ◌≤◌, ◌<◌, leb, pos, negsuc, ◌≤ℤ◌}
+use Rattle.std.specs.Prelude.{◌≡◌, refl, ◌&&◌, ℕ, ◌+◌, ◌*◌, ◌-◌, ◌/◌, ◌≤◌, ◌<◌, leb, pos, negsuc, ◌≤ℤ◌, if◌then◌else◌}
 use Rattle.std.proofs.Common.{arith, SFits}
 use Rattle.std.proofs.Math.Decide.{dec_le}
 use Rattle.std.specs.Int.{w32}
-use Rattle.model.specs.Basic.{if◌then◌else◌}
 use Rattle.model.specs.Calendar.{is_leap, days_before_year, day_number, first_day, last_day}
 use Rattle.model.specs.DayNumber.{signed_day}
 use Rattle.model.specs.Footer.{Day, month, julian, plain, day_in}

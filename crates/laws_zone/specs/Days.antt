@@ -1,8 +1,7 @@
 -- The days that a footer names. POSIX.1 section 8.3 (TZ): Mm.w.d is the w'th day d of month m, or the last one where w is 5, and day 0 is Sunday;
 -- Jn is day n of 1 to 365, and leap days are not counted.
-use Rattle.std.specs.Prelude.{◌≡◌, Bool, true, false, ◌&&◌, ℕ, ◌+◌, ◌*◌, ◌-◌, ◌%◌, ◌≤◌, ◌<◌, leb, ltb}
+use Rattle.std.specs.Prelude.{◌≡◌, Bool, true, false, ◌&&◌, ℕ, ◌+◌, ◌*◌, ◌-◌, ◌%◌, ◌≤◌, ◌<◌, leb, ltb, if◌then◌else◌}
 use Rattle.std.proofs.Common.{sym, arith, ltb-true, ltb-false}
-use Rattle.model.specs.Basic.{if◌then◌else◌}
 use Rattle.model.specs.Calendar.{is_leap, days_before_month, days_in_month, day_number, weekday}
 use Rattle.model.specs.Footer.{month, julian, day_in}
 use Rattle.laws_base.specs.Test.{by-test}

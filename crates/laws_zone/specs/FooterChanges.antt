@@ -1,13 +1,13 @@
 -- The changes of a footer. Document 01: "the latest of all years' changes counts; on a tie daylight time starts". `latest` looks at four years:
 -- here no change of any year at or before a second is later than the one it takes.
-use Rattle.std.specs.Prelude.{◌≡◌, Bool, true, false, ◌&&◌, List, [], ◌∷◌, map, ◌⊎◌, ℕ, ◌+◌, ◌*◌, ◌-◌, ◌/◌, ◌%◌, max, ◌≤◌, ◌<◌, ltb}
+use Rattle.std.specs.Prelude.{◌≡◌, Bool, true, false, ◌&&◌, List, [], ◌∷◌, map, ◌⊎◌, ℕ, ◌+◌, ◌*◌, ◌-◌, ◌/◌, ◌%◌, max, ◌≤◌, ◌<◌, ltb, if◌then◌else◌}
 use Rattle.std.proofs.Math.Path.{refl}
 use Rattle.std.proofs.Common.{sym, subst, arith, le-leb}
 use Rattle.std.proofs.Math.Logic.{inl, inr}
 use Rattle.std.proofs.Math.Decide.{dec_le}
 use Rattle.std.proofs.Math.Dec.{leb, leb→le}
 use Rattle.std.proofs.lemmas.Bool.{lt-leb}
-use Rattle.model.specs.Basic.{run, maximum, filter, if◌then◌else◌}
+use Rattle.model.specs.Basic.{run, maximum, filter}
 use Rattle.model.specs.Calendar.{is_leap, days_before_year, days_before_month, days_in_month, day_number, weekday}
 use Rattle.model.specs.Footer.{Day, month, julian, plain, ChangeRule, rules, day_in, change_in, time_bias, latest_time}
 use Rattle.model.specs.Zone.{latest, year_at, ruled_at}

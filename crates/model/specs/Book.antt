@@ -1,8 +1,8 @@
 -- The rule book. Document 01, "Rule book": "A record is: kind byte, zone name length (0 to 64), name, body, nothing more."
 -- Times of day are in nanoseconds, dates are day numbers.
-use Rattle.std.specs.Prelude.{Bool, true, false, ◌&&◌, List, [], ◌∷◌, map, ℕ, ◌+◌, ◌*◌, ◌-◌, leb, ltb, eqb, length, get_or, take, drop}
+use Rattle.std.specs.Prelude.{Bool, true, false, ◌&&◌, List, [], ◌∷◌, map, ℕ, ◌+◌, ◌*◌, ◌-◌, leb, ltb, eqb, length, get_or, take, drop, if◌then◌else◌}
 use Rattle.std.proofs.Math.Option.{Option, none, some}
-use Rattle.model.specs.Basic.{if◌then◌else◌, ◌>>=◌, given, need, each, sum}
+use Rattle.model.specs.Basic.{◌>>=◌, given, need, each, sum}
 use Rattle.model.specs.Bytes.{be, pieces, lifted}
 use Rattle.model.specs.Calendar.{is_date, day_number, is_set}
 use Rattle.model.specs.Instant.{second, day_seconds}

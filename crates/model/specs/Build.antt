@@ -1,8 +1,8 @@
 -- From book and pack to a schedule. Document 01, "Refusals": "Order: 1, 2, 3; the default zone that won (4, 5), then rules in book order
 -- (4, 5 each); build's 6"; schedule.rs `build`.
-use Rattle.std.specs.Prelude.{Bool, true, false, not, List, [], ◌∷◌, ℕ, ◌+◌, ◌*◌, eqb, length}
+use Rattle.std.specs.Prelude.{Bool, true, false, not, List, [], ◌∷◌, ℕ, ◌+◌, ◌*◌, eqb, length, if◌then◌else◌}
 use Rattle.std.proofs.Math.Option.{Option, none, some}
-use Rattle.model.specs.Basic.{if◌then◌else◌, given, distinct}
+use Rattle.model.specs.Basic.{given, distinct}
 use Rattle.model.specs.Instant.{epoch, second, day}
 use Rattle.model.specs.Pack.{Named, pack_of, find}
 use Rattle.model.specs.Tzif.{Zone, zone_of}

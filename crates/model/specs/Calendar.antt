@@ -1,8 +1,8 @@
 -- The proleptic Gregorian calendar. Document 01, "Instant, duration, date, time of day": "Date: proleptic Gregorian, -9999-01-01 to 9999-12-31."
 -- Years are counted from -10400 and days from -10400-01-01, so that all are natural numbers. 10,400 is a multiple of 400: leap years and
 -- weekdays are those of the calendar. 1970-01-01 is day 4,518,050.
-use Rattle.std.specs.Prelude.{Bool, not, ◌&&◌, ◌||◌, [], ◌∷◌, ℕ, zero, suc, ◌+◌, ◌*◌, ◌-◌, ◌/◌, ◌%◌, ◌^◌, leb, ltb, eqb, get_or}
-use Rattle.model.specs.Basic.{if◌then◌else◌, is_in}
+use Rattle.std.specs.Prelude.{Bool, not, ◌&&◌, ◌||◌, [], ◌∷◌, ℕ, zero, suc, ◌+◌, ◌*◌, ◌-◌, ◌/◌, ◌%◌, ◌^◌, leb, ltb, eqb, get_or, if◌then◌else◌}
+use Rattle.model.specs.Basic.{is_in}
 
 -- every fourth year, but of the centuries every fourth
 unfoldable pub is_leap : ℕ → Bool

@@ -1,7 +1,7 @@
 -- The calls, over signed numbers. Document 01, "Schedule and its answers"; "Refusals": "8; 9; the operation's own 6, 7 or 10".
-use Rattle.std.specs.Prelude.{◌≡◌, List, ◌++◌, map, ℕ, ◌+◌, ◌*◌, ◌-◌, ◌≤◌, min, max, leb, ltb, length, drop, ℤ}
+use Rattle.std.specs.Prelude.{◌≡◌, List, ◌++◌, map, ℕ, ◌+◌, ◌*◌, ◌-◌, ◌≤◌, min, max, leb, ltb, length, drop, ℤ, if◌then◌else◌}
 use Rattle.std.proofs.Math.Option.{Option, none, some}
-use Rattle.model.specs.Basic.{if◌then◌else◌, given, joined}
+use Rattle.model.specs.Basic.{given, joined}
 use Rattle.model.specs.Instant.{instant_of, instant, duration_of, duration, negated}
 use Rattle.model.specs.Answer.{Answer, gives, refuses, ◌>>=◌, or_refuse}
 use Rattle.model.specs.Blocks.{Block}

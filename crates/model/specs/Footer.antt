@@ -2,9 +2,9 @@
 -- rules. Hours in offsets and rule times go from 0 to 24." Document 02: "For version '3' RFC 8536 lets the hours of rule times run from -167 to 167,
 -- signed. Take that range, in one to three digits; version '2' and all offsets stay at 0 to 24."
 -- Offsets are seconds east of Greenwich plus 93,600. The version is the byte of the file's header.
-use Rattle.std.specs.Prelude.{Bool, true, false, not, ◌&&◌, ◌||◌, List, [], ◌∷◌, ℕ, zero, suc, ◌+◌, ◌*◌, ◌-◌, ◌%◌, leb, ltb, eqb}
+use Rattle.std.specs.Prelude.{Bool, true, false, not, ◌&&◌, ◌||◌, List, [], ◌∷◌, ℕ, zero, suc, ◌+◌, ◌*◌, ◌-◌, ◌%◌, leb, ltb, eqb, if◌then◌else◌}
 use Rattle.std.proofs.Math.Option.{Option, none, some}
-use Rattle.model.specs.Basic.{if◌then◌else◌, is_in}
+use Rattle.model.specs.Basic.{is_in}
 use Rattle.model.specs.Instant.{day_seconds, week_seconds}
 use Rattle.model.specs.Offset.{offset_bias}
 use Rattle.model.specs.Calendar.{is_leap, days_before_year, days_in_month, day_number, weekday}

@@ -1,7 +1,7 @@
 -- The hardest stretch of a pump's log. Document 02, request 2. A log is pairs of signed numbers, offset and length in whole seconds, from a given instant.
-use Rattle.std.specs.Prelude.{Bool, true, false, not, ◌&&◌, List, [], ◌∷◌, ◌++◌, map, ℕ, ◌+◌, ◌*◌, min, max, leb, eqb, ℤ, nat_abs, length}
+use Rattle.std.specs.Prelude.{Bool, true, false, not, ◌&&◌, List, [], ◌∷◌, ◌++◌, map, ℕ, ◌+◌, ◌*◌, min, max, leb, eqb, ℤ, nat_abs, length, if◌then◌else◌}
 use Rattle.std.proofs.Math.Option.{none}
-use Rattle.model.specs.Basic.{if◌then◌else◌, given, is_in, filter, sum, maximum}
+use Rattle.model.specs.Basic.{given, is_in, filter, sum, maximum}
 use Rattle.model.specs.Instant.{second, last_instant, is_below_0, instant_of, instant, duration}
 use Rattle.model.specs.Answer.{Answer, gives, ◌>>=◌, or_refuse}
 use Rattle.model.specs.Blocks.{Block, block}

@@ -1,7 +1,7 @@
 -- Instants and durations. Document 01, "Instant, duration, date, time of day". Outside they are pairs of signed numbers, seconds and nanoseconds.
 -- Inside, an instant is the number of nanoseconds from -10400-01-01T00:00:00Z, and a duration a sign and a number of nanoseconds.
-use Rattle.std.specs.Prelude.{◌≡◌, refl, Bool, true, false, not, ◌&&◌, ◌||◌, List, [], ◌∷◌, ℕ, suc, ◌+◌, ◌*◌, ◌-◌, ◌/◌, ◌%◌, ◌^◌, leb, ltb, eqb, ℤ, pos, negsuc, neg_ℤ, nat_abs}
-use Rattle.model.specs.Basic.{if◌then◌else◌, given, is_in}
+use Rattle.std.specs.Prelude.{◌≡◌, refl, Bool, true, false, not, ◌&&◌, ◌||◌, List, [], ◌∷◌, ℕ, suc, ◌+◌, ◌*◌, ◌-◌, ◌/◌, ◌%◌, ◌^◌, leb, ltb, eqb, ℤ, pos, negsuc, neg_ℤ, nat_abs, if◌then◌else◌}
+use Rattle.model.specs.Basic.{given, is_in}
 use Rattle.model.specs.Answer.{Answer, or_refuse}
 
 -- the second of 1970-01-01T00:00:00Z

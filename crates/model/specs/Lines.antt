@@ -1,7 +1,7 @@
 -- The program's lines. Document 01, "The label table": "A program reads book.bin, zones.bin .. and query lines from standard input."
-use Rattle.std.specs.Prelude.{Bool, true, false, ◌&&◌, List, [], ◌∷◌, ◌++◌, map, ℕ, zero, suc, ◌+◌, ◌*◌, ◌-◌, ◌/◌, ◌%◌, ◌^◌, leb, ltb, eqb, length, get_or, ℤ, pos, negsuc}
+use Rattle.std.specs.Prelude.{Bool, true, false, ◌&&◌, List, [], ◌∷◌, ◌++◌, map, ℕ, zero, suc, ◌+◌, ◌*◌, ◌-◌, ◌/◌, ◌%◌, ◌^◌, leb, ltb, eqb, length, get_or, ℤ, pos, negsuc, if◌then◌else◌}
 use Rattle.std.proofs.Math.Option.{Option, none, some}
-use Rattle.model.specs.Basic.{if◌then◌else◌, ◌>>=◌, given, is_in, all, each, joined, same_list}
+use Rattle.model.specs.Basic.{◌>>=◌, given, is_in, all, each, joined, same_list}
 use Rattle.model.specs.Bytes.{text, newline}
 use Rattle.model.specs.Instant.{signed}
 use Rattle.model.specs.Answer.{Answer, gives, refuses}

@@ -1,6 +1,6 @@
 -- Which ends the clock change moved. Document 02, request 4: "Dispatchers print shift ends and want a mark where a local time was skipped or came twice."
-use Rattle.std.specs.Prelude.{not, ◌&&◌, List, [], ◌∷◌, ◌++◌, map, ℕ, ◌+◌, ◌*◌, ◌-◌, ◌/◌, ◌%◌, min, max, leb, ltb, eqb, ℤ, pos}
-use Rattle.model.specs.Basic.{if◌then◌else◌, any, filter, joined}
+use Rattle.std.specs.Prelude.{not, ◌&&◌, List, [], ◌∷◌, ◌++◌, map, ℕ, ◌+◌, ◌*◌, ◌-◌, ◌/◌, ◌%◌, min, max, leb, ltb, eqb, ℤ, pos, if◌then◌else◌}
+use Rattle.model.specs.Basic.{any, filter, joined}
 use Rattle.model.specs.Calendar.{last_day}
 use Rattle.model.specs.Instant.{second, day_seconds, week, first_instant, last_instant, instant_of, instant}
 use Rattle.model.specs.Offset.{offset_bias, greatest_offset}

@@ -1,7 +1,6 @@
 -- The next change of a zone's offset after a second.
-use Rattle.std.specs.Prelude.{Bool, ℕ, zero, suc, ◌-◌}
+use Rattle.std.specs.Prelude.{Bool, ℕ, zero, suc, ◌-◌, if◌then◌else◌}
 use Rattle.std.proofs.Math.Option.{Option, none, some}
-use Rattle.model.specs.Basic.{if◌then◌else◌}
 use Rattle.model.specs.Instant.{last_second}
 use Rattle.model.specs.Tzif.{Zone}
 use Rattle.model.specs.Zone.{is_change}

@@ -1,8 +1,8 @@
 -- The zone pack. Document 01, "Zone pack and zone": "A record is a name length (1 to 64), the name, and a TZif file (maybe empty); a record
 -- whose name isn't whole breaks the layout. Names match without regard to ASCII case; the first match wins."
-use Rattle.std.specs.Prelude.{Bool, ◌&&◌, List, [], ◌∷◌, map, ℕ, ◌+◌, ◌-◌, leb, length, take, drop}
+use Rattle.std.specs.Prelude.{Bool, ◌&&◌, List, [], ◌∷◌, map, ℕ, ◌+◌, ◌-◌, leb, length, take, drop, if◌then◌else◌}
 use Rattle.std.proofs.Math.Option.{Option, none, some}
-use Rattle.model.specs.Basic.{if◌then◌else◌, ◌>>=◌, given, need, is_in, each, same_list}
+use Rattle.model.specs.Basic.{◌>>=◌, given, need, is_in, each, same_list}
 use Rattle.model.specs.Directory.{Part, parts_of, count_of}
 use Prim.Native.Char.{code}
 

@@ -1,7 +1,7 @@
 -- Which windows may be skipped, and the two bounds on the number of windows resolved. Document 01, "Schedule and its answers"; schedule.rs
 -- `repeats`.
-use Rattle.std.specs.Prelude.{Bool, true, not, ◌&&◌, List, ◌++◌, ℕ, zero, suc, ◌+◌, ◌*◌, ◌-◌, ◌/◌, min, leb, ltb, eqb}
-use Rattle.model.specs.Basic.{if◌then◌else◌, is_in, all, any}
+use Rattle.std.specs.Prelude.{Bool, true, not, ◌&&◌, List, ◌++◌, ℕ, zero, suc, ◌+◌, ◌*◌, ◌-◌, ◌/◌, min, leb, ltb, eqb, if◌then◌else◌}
+use Rattle.model.specs.Basic.{is_in, all, any}
 use Rattle.model.specs.Instant.{second, day, week, first_instant, last_instant}
 use Rattle.model.specs.Zone.{steady}
 use Rattle.model.specs.Blocks.{Block, total}

@@ -1,8 +1,8 @@
 -- A zone file. RFC 8536 section 3 (TZif); document 01, "Zone pack and zone": "A usable file has: ..".
 -- Times are seconds from -10400-01-01T00:00:00Z (earlier ones count as that second), offsets seconds east of Greenwich plus 93,600.
-use Rattle.std.specs.Prelude.{Bool, true, false, ◌&&◌, ◌||◌, List, [], ◌∷◌, map, ℕ, ◌+◌, ◌*◌, ◌-◌, ◌^◌, leb, ltb, eqb, length, get_or, take, drop}
+use Rattle.std.specs.Prelude.{Bool, true, false, ◌&&◌, ◌||◌, List, [], ◌∷◌, map, ℕ, ◌+◌, ◌*◌, ◌-◌, ◌^◌, leb, ltb, eqb, length, get_or, take, drop, if◌then◌else◌}
 use Rattle.std.proofs.Math.Option.{Option, none, some}
-use Rattle.model.specs.Basic.{if◌then◌else◌, ◌>>=◌, given, need, is_in, all, same_list}
+use Rattle.model.specs.Basic.{◌>>=◌, given, need, is_in, all, same_list}
 use Rattle.model.specs.Bytes.{be, words, pieces, lifted, newline}
 use Rattle.model.specs.Instant.{epoch}
 use Rattle.model.specs.Offset.{offset_bias, greatest_offset}

@@ -1,8 +1,7 @@
 -- The walk along a schedule and its answers, over instants in range. Document 01, "Schedule and its answers"; schedule.rs `between`, `forward`,
 -- `backward`, `next_period`, `previous_period`. Every window is resolved here: that skipping changes nothing is a law.
 -- A search goes on from t or back from it. All its numbers are distances from t, so that both ways are one definition.
-use Rattle.std.specs.Prelude.{◌||◌, List, [], ◌∷◌, ◌++◌, map, ℕ, zero, suc, ◌+◌, ◌-◌, ◌/◌, min, leb, ltb, eqb, reverse}
-use Rattle.model.specs.Basic.{if◌then◌else◌}
+use Rattle.std.specs.Prelude.{◌||◌, List, [], ◌∷◌, ◌++◌, map, ℕ, zero, suc, ◌+◌, ◌-◌, ◌/◌, min, leb, ltb, eqb, reverse, if◌then◌else◌}
 use Rattle.model.specs.Instant.{week, first_instant, last_instant}
 use Rattle.model.specs.Answer.{Answer, gives, refuses}
 use Rattle.model.specs.Blocks.{Block, block, merged, total}

@@ -1,7 +1,7 @@
 -- The working time of a window. Document 01, "Rule book" (shifts, holidays) and "Block"; engine.rs `local_dates`, workday.rs and holiday.rs
 -- `blocks`, schedule.rs `working_time`.
-use Rattle.std.specs.Prelude.{Bool, List, ◌++◌, map, ℕ, ◌+◌, ◌-◌, ◌/◌, leb, ltb}
-use Rattle.model.specs.Basic.{if◌then◌else◌, among, filter, run, joined}
+use Rattle.std.specs.Prelude.{Bool, List, ◌++◌, map, ℕ, ◌+◌, ◌-◌, ◌/◌, leb, ltb, if◌then◌else◌}
+use Rattle.model.specs.Basic.{among, filter, run, joined}
 use Rattle.model.specs.Calendar.{weekday, contains, first_day, last_day}
 use Rattle.model.specs.Instant.{second, day_seconds, last_instant}
 use Rattle.model.specs.Offset.{offset_bias}

@@ -1,7 +1,7 @@
 -- Local time. Document 01, "Zone pack and zone": "Offset at an instant: ..", "`resolve`: ..".
 -- A local second is kept with 93,600 added: it is the sum of a second and an offset.
-use Rattle.std.specs.Prelude.{Bool, not, ◌&&◌, List, [], ◌∷◌, ◌++◌, map, ℕ, ◌+◌, ◌*◌, ◌-◌, ◌/◌, ◌%◌, leb, ltb, eqb}
-use Rattle.model.specs.Basic.{if◌then◌else◌, any, filter, maximum, least_or, run}
+use Rattle.std.specs.Prelude.{Bool, not, ◌&&◌, List, [], ◌∷◌, ◌++◌, map, ℕ, ◌+◌, ◌*◌, ◌-◌, ◌/◌, ◌%◌, leb, ltb, eqb, if◌then◌else◌}
+use Rattle.model.specs.Basic.{any, filter, maximum, least_or, run}
 use Rattle.model.specs.Calendar.{year_of, day_of_year_zero}
 use Rattle.model.specs.Instant.{second, day_seconds, first_instant, last_instant}
 use Rattle.model.specs.Offset.{offset_bias, greatest_offset}

@@ -1,7 +1,7 @@
 -- A ticket clock with named holds, from its commands alone. Document 02, request 5. "A service ticket starts, goes on hold while a customer has the part, resumes,
 -- and can be set back to one of eight marks named 0 to 7." Lists of commands and of events have the latest first.
-use Rattle.std.specs.Prelude.{Bool, true, false, not, ◌&&◌, List, [], ◌∷◌, map, ℕ, leb, ltb, eqb, ℤ}
-use Rattle.model.specs.Basic.{if◌then◌else◌, need, any, filter, sum}
+use Rattle.std.specs.Prelude.{Bool, true, false, not, ◌&&◌, List, [], ◌∷◌, map, ℕ, leb, ltb, eqb, ℤ, if◌then◌else◌}
+use Rattle.model.specs.Basic.{need, any, filter, sum}
 use Rattle.model.specs.Instant.{instant_of}
 use Rattle.model.specs.Answer.{Answer, gives, refuses, ◌>>=◌, or_refuse}
 use Rattle.model.specs.Blocks.{Block, block}

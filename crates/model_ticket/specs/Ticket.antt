@@ -1,8 +1,8 @@
 -- Where a ticket's clock stands, without its history: what a caller keeps of a ticket between two commands. Document 02, request 5. That the answers are those of the
 -- history that remains is a law (crate laws_ticket).
-use Rattle.std.specs.Prelude.{Bool, true, false, not, ◌&&◌, List, [], ◌∷◌, ℕ, ◌+◌, leb, ltb, eqb, ℤ}
+use Rattle.std.specs.Prelude.{Bool, true, false, not, ◌&&◌, List, [], ◌∷◌, ℕ, ◌+◌, leb, ltb, eqb, ℤ, if◌then◌else◌}
 use Rattle.std.proofs.Math.Option.{Option, none, some}
-use Rattle.model.specs.Basic.{if◌then◌else◌, need, any, filter}
+use Rattle.model.specs.Basic.{need, any, filter}
 use Rattle.model.specs.Instant.{instant_of}
 use Rattle.model.specs.Answer.{Answer, gives, refuses, ◌>>=◌, or_refuse}
 use Rattle.model.specs.Working.{Schedule}

@@ -1,4 +1,5 @@
 -- The line of an answer is the line of the definition's answer.
+use Rattle.std.specs.Prelude.{if◌then◌else◌}
 use mathlib.Core.Path.{◌≡◌, refl}
 use mathlib.Core.Bool.{Bool, true, false}
 use mathlib.Core.Option.{Option, none, some}
@@ -6,7 +7,6 @@ use mathlib.Core.List.{List, [], ◌∷◌}
 use Prim.Native.Nat.{ℕ}
 use native.Mathlib.Omega.{arith}
 use lib.IntN.{ℤ}
-use Rattle.model.specs.Basic.{if◌then◌else◌}
 use Rattle.model.specs.Answer.{Answer, gives, refuses, ◌>>=◌}
 use Rattle.model.specs.Instant.{instant_of, duration_of, negated}
 use Rattle.model.specs.Working.{Schedule}

@@ -1,4 +1,5 @@
 -- A line of which nothing is read gives its query: the word's length and the number that its bytes write tell it from every other word.
+use Rattle.std.specs.Prelude.{if◌then◌else◌}
 use mathlib.Core.Path.{◌≡◌, refl, sym, ap, ◌∙◌}
 use mathlib.Core.Bool.{true, false, ◌&&◌}
 use mathlib.Core.Option.{Option, none, some}
@@ -9,7 +10,7 @@ use lib.Dec.{ltb, eqb, eqb→eq}
 use lib.ListN.{length}
 use lib.IntN.{ℤ}
 use borrow.Author.Tests.{eq-eqb, ltb-true}
-use Rattle.model.specs.Basic.{if◌then◌else◌, ◌>>=◌, all, each, same_list}
+use Rattle.model.specs.Basic.{◌>>=◌, all, each, same_list}
 use Rattle.model.specs.Bytes.{number_from, text}
 use Rattle.model.specs.Walk.{on, back}
 use Rattle.model.specs.Lines as model

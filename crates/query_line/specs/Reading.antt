@@ -1,7 +1,7 @@
 -- What a line that is partly read gives, once its other bytes are known.
-use Rattle.std.specs.Prelude.{Bool, true, false, not, ◌&&◌, ◌||◌, List, [], ◌∷◌, ◌++◌, ℕ, zero, suc, ◌+◌, ◌-◌, ◌^◌, ◌≤◌, ◌<◌, leb, ltb, eqb, length, ℤ}
+use Rattle.std.specs.Prelude.{Bool, true, false, not, ◌&&◌, ◌||◌, List, [], ◌∷◌, ◌++◌, ℕ, zero, suc, ◌+◌, ◌-◌, ◌^◌, ◌≤◌, ◌<◌, leb, ltb, eqb, length, ℤ, if◌then◌else◌}
 use Rattle.std.proofs.Math.Option.{Option, none, some}
-use Rattle.model.specs.Basic.{if◌then◌else◌, ◌>>=◌, given, is_in, all, each}
+use Rattle.model.specs.Basic.{◌>>=◌, given, is_in, all, each}
 use Rattle.model.specs.Bytes.{number_from}
 use Rattle.model.specs.Instant.{signed}
 use Rattle.model.specs.Walk.{on, back}

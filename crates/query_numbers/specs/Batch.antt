@@ -1,8 +1,7 @@
 -- Queries and answers as numbers. The sentences are those of the header hirgwamo.h, "Many queries of one book and pack".
-use Rattle.std.specs.Prelude.{◌≡◌, Bool, false, not, ◌||◌, List, [], ◌∷◌, ◌++◌, ℕ, zero, suc, ◌+◌, ◌*◌, ◌/◌, ◌%◌, ◌^◌, ◌<◌, eqb, ltb, ℤ, pos, negsuc, length, get_or, take}
+use Rattle.std.specs.Prelude.{◌≡◌, Bool, false, not, ◌||◌, List, [], ◌∷◌, ◌++◌, ℕ, zero, suc, ◌+◌, ◌*◌, ◌/◌, ◌%◌, ◌^◌, ◌<◌, eqb, ltb, ℤ, pos, negsuc, length, get_or, take, if◌then◌else◌}
 use Rattle.std.proofs.Math.Option.{Option, none, some}
 use Rattle.model.specs.Answer.{Answer, gives, refuses, ◌>>=◌}
-use Rattle.model.specs.Basic.{if◌then◌else◌}
 use Rattle.model.specs.Build.{build}
 use Rattle.model.specs.Calls.{Reply, least_of}
 use Rattle.model.specs.Lines.{Query, ask_between, ask_move, ask_period, reply_to}

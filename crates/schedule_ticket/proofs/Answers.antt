@@ -1,4 +1,5 @@
 -- The answers to a command: what is refused, what is accepted, and that the elapsed time fits.
+use Rattle.std.specs.Prelude.{if◌then◌else◌}
 use mathlib.Core.Path.{◌≡◌, refl, sym, ap, ◌∙◌}
 use mathlib.Core.Bool.{Bool, true, false, not, ◌&&◌}
 use mathlib.Core.Option.{Option, none, some}
@@ -7,7 +8,7 @@ use native.Mathlib.Omega.{arith}
 use lib.Dec.{leb, ltb, eqb}
 use borrow.Author.Tests.{leb-true, ltb-true, le-leb, lt-leb, lt-ltb, le-ltb, ltb-false, eq-eqb, ne_eqb}
 use lib.IntN.{ℤ}
-use Rattle.model.specs.Basic.{if◌then◌else◌, need, any}
+use Rattle.model.specs.Basic.{need, any}
 use Rattle.model.specs.Instant.{second, first_instant, last_instant, instant_of}
 use Rattle.model.specs.Answer.{Answer, gives, refuses, ◌>>=◌, or_refuse}
 use Rattle.model.specs.Working.{Schedule}

@@ -1,6 +1,6 @@
 -- What the answer to a command says: document 02's numbers for each case, as the definitions' answers list them.
-use Rattle.std.specs.Prelude.{◌≡◌, true, List, ℕ, eqb, ℤ}
-use Rattle.model.specs.Basic.{if◌then◌else◌, need}
+use Rattle.std.specs.Prelude.{◌≡◌, true, List, ℕ, eqb, ℤ, if◌then◌else◌}
+use Rattle.model.specs.Basic.{need}
 use Rattle.model.specs.Instant.{last_instant}
 use Rattle.model.specs.Answer.{Answer, gives, refuses, ◌>>=◌, or_refuse}
 use Rattle.model.specs.Working as model

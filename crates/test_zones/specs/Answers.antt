@@ -1,6 +1,5 @@
 -- A stored answer: where its two numbers stand, and what makes it the zone's own.
-use Rattle.model.specs.Basic.{if◌then◌else◌}
-use Rattle.std.specs.Prelude.{ℕ, ◌+◌, ◌-◌, ◌*◌, ◌%◌, ◌^◌, Bool, false, List, ◌==◌, nat_le, nat_lt}
+use Rattle.std.specs.Prelude.{ℕ, ◌+◌, ◌-◌, ◌*◌, ◌%◌, ◌^◌, Bool, false, List, ◌==◌, nat_le, nat_lt, if◌then◌else◌}
 use Rattle.std.proofs.Math.Option.{Option, none, some}
 use Rattle.big_endian.specs.Be.{be64}
 use Rattle.big_endian.specs.Walk.{both}

@@ -1,9 +1,9 @@
 -- What the tests of a ticket tell, in the code's order and back; and that each command leaves a ticket.
-use Rattle.std.specs.Prelude.{◌≡◌, refl, Bool, true, false, not, ◌&&◌, List, [], ◌∷◌, map, ℕ, zero, suc, ◌+◌, ◌-◌, ◌≤◌, ◌<◌, leb, ltb, eqb, length, get_or}
+use Rattle.std.specs.Prelude.{◌≡◌, refl, Bool, true, false, not, ◌&&◌, List, [], ◌∷◌, map, ℕ, zero, suc, ◌+◌, ◌-◌, ◌≤◌, ◌<◌, leb, ltb, eqb, length, get_or, if◌then◌else◌}
 use Rattle.std.proofs.Common.{sym, ap, ◌∙◌, arith, add-one}
 use Rattle.std.proofs.Math.Option.{none, some}
 use borrow.Author.Tests.{leb-true, ltb-true, ltb-false, le-leb, lt-leb, lt-ltb, le-ltb, eq-eqb, ne_eqb}
-use Rattle.model.specs.Basic.{if◌then◌else◌, given, is_in, any, filter}
+use Rattle.model.specs.Basic.{given, is_in, any, filter}
 use Rattle.model.specs.Instant.{second, first_second, last_second, first_instant}
 use Rattle.laws_base.specs.Test.{by-test, clash, and_both, both-and, in_bounds, within}
 use Rattle.instant.specs.Instant.{nanos, InRange}

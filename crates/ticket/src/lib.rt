@@ -1,8 +1,8 @@
 // A ticket by value: where the clock of a service ticket stands between two commands, without its history. What a command makes of it, and which values are tickets.
 #![tactic(auto)]
 
-ghost use Rattle.std.specs.Prelude.{◌≡◌, true, ◌≤◌, ◌<◌};
-ghost use Rattle.model.specs.Basic.{if◌then◌else◌, any};
+ghost use Rattle.std.specs.Prelude.{◌≡◌, true, ◌≤◌, ◌<◌, if◌then◌else◌};
+ghost use Rattle.model.specs.Basic.{any};
 ghost use Rattle.model_ticket.specs.History as commands;
 ghost use Rattle.model_ticket.specs.Ticket as model;
 ghost use Rattle.instant.specs.Instant.{nanos, InRange};

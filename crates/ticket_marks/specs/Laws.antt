@@ -1,10 +1,10 @@
 -- Lists of marks: what stays true of them where some are left out, and that eight names give at most eight marks.
-use Rattle.std.specs.Prelude.{◌≡◌, Bool, true, false, not, ◌&&◌, List, [], ◌∷◌, map, ℕ, zero, suc, ◌+◌, ◌-◌, ◌≤◌, ◌<◌, leb, ltb, eqb, length, get_or, set}
+use Rattle.std.specs.Prelude.{◌≡◌, Bool, true, false, not, ◌&&◌, List, [], ◌∷◌, map, ℕ, zero, suc, ◌+◌, ◌-◌, ◌≤◌, ◌<◌, leb, ltb, eqb, length, get_or, set, if◌then◌else◌}
 use Rattle.std.proofs.Math.Path.{refl}
 use Rattle.std.proofs.Common.{sym, ap, ◌∙◌, arith, get_or-set_same, get_or-set_other}
 use Rattle.std.proofs.Math.Numerals.{add-one}
 use borrow.Author.Tests.{leb-true, leb-false, ltb-true, ltb-false, le-leb, lt-leb, lt-ltb, le-ltb, eq-eqb, ne_eqb, eqb-true, eqb-false}
-use Rattle.model.specs.Basic.{if◌then◌else◌, any, filter}
+use Rattle.model.specs.Basic.{any, filter}
 use Rattle.model.specs.Instant.{second, first_instant}
 use Rattle.laws_base.specs.Test.{by-test, and_both, both-and, not-true, true-not, clash}
 use Rattle.instant.specs.Instant.{nanos}

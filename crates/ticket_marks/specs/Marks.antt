@@ -1,6 +1,6 @@
 -- What the marks of a ticket mean, and which marks a ticket may have.
-use Rattle.std.specs.Prelude.{Bool, true, false, not, ◌&&◌, List, [], ◌∷◌, map, ℕ, zero, suc, ◌-◌, leb, ltb, eqb, get_or}
-use Rattle.model.specs.Basic.{if◌then◌else◌, any}
+use Rattle.std.specs.Prelude.{Bool, true, false, not, ◌&&◌, List, [], ◌∷◌, map, ℕ, zero, suc, ◌-◌, leb, ltb, eqb, get_or, if◌then◌else◌}
+use Rattle.model.specs.Basic.{any}
 use Rattle.model.specs.Instant.{second, first_instant}
 use Rattle.instant.specs.Instant.{nanos}
 use Rattle.instant.specs.declared.Instant.{Instant}

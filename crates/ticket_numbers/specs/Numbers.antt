@@ -4,9 +4,8 @@
 -- Numbers 3 and 4: since when the ticket has been running or held. Numbers 5 and 6: the time that had elapsed by then, seconds and nanoseconds. Number 7: how many
 -- marks are set, 0 to 8. Then four numbers for each mark, in the order in which they were set: its name, 1 if the ticket was running there else 0, the time that had
 -- elapsed there, seconds and nanoseconds. All others are 0. A new ticket is 40 zeros."
-use Rattle.std.specs.Prelude.{Bool, true, false, List, [], ◌∷◌, ◌++◌, ℕ, ◌+◌, ◌*◌, ◌-◌, min, eqb, ℤ, pos, negsuc, length, get_or, take, replicate}
+use Rattle.std.specs.Prelude.{Bool, true, false, List, [], ◌∷◌, ◌++◌, ℕ, ◌+◌, ◌*◌, ◌-◌, min, eqb, ℤ, pos, negsuc, length, get_or, take, replicate, if◌then◌else◌}
 use Rattle.std.proofs.Math.Option.{Option, none, some}
-use Rattle.model.specs.Basic.{if◌then◌else◌}
 use Rattle.model.specs.Instant.{instant_of, instant, duration_of, duration}
 use Rattle.model_ticket.specs.History as commands
 use Rattle.model_ticket.specs.Ticket as model

@@ -1,8 +1,7 @@
 -- What a command to a ticket of 40 numbers leaves: what is returned, the numbers of the answer and those of the ticket.
-use Rattle.std.specs.Prelude.{◌≡◌, ◌||◌, List, [], ◌∷◌, ◌++◌, ℕ, ◌^◌, ◌<◌, ltb, ℤ, length, drop}
+use Rattle.std.specs.Prelude.{◌≡◌, ◌||◌, List, [], ◌∷◌, ◌++◌, ℕ, ◌^◌, ◌<◌, ltb, ℤ, length, drop, if◌then◌else◌}
 use Rattle.std.proofs.Math.Option.{Option, none, some}
 use Rattle.model.specs.Answer.{Answer, gives, refuses, ◌>>=◌}
-use Rattle.model.specs.Basic.{if◌then◌else◌}
 use Rattle.model_ticket.specs.Ticket.{Ticket, Told}
 use Rattle.instant.specs.Instant.{Exact}
 use Rattle.instant.specs.declared.Instant.{Instant}

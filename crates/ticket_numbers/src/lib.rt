@@ -2,9 +2,8 @@
 // keeps them between two commands.
 #![tactic(auto)]
 
-ghost use Rattle.std.specs.Prelude.{◌≡◌, [], ◌∷◌, ◌++◌, map, ◌+◌, ◌*◌, ◌-◌, ◌^◌, ◌≤◌, ◌<◌, length, take, drop};
+ghost use Rattle.std.specs.Prelude.{◌≡◌, [], ◌∷◌, ◌++◌, map, ◌+◌, ◌*◌, ◌-◌, ◌^◌, ◌≤◌, ◌<◌, length, take, drop, if◌then◌else◌};
 ghost use Rattle.std.proofs.Math.Option.{none};
-ghost use Rattle.model.specs.Basic.{if◌then◌else◌};
 ghost use Rattle.model.specs.Instant.{instant};
 ghost use Rattle.instant.specs.Instant.{nanos, InRange};
 ghost use Rattle.answer_numbers.specs.Outcomes.{written};

@@ -1,6 +1,5 @@
 -- What the walk over the windows of a log is asked and leaves. Seconds are counted from the given instant.
-use Rattle.std.specs.Prelude.{◌≡◌, List, ℕ, ◌+◌, ◌*◌, ◌≤◌, ◌<◌, ltb, ℤ, length, get_or}
-use Rattle.model.specs.Basic.{if◌then◌else◌}
+use Rattle.std.specs.Prelude.{◌≡◌, List, ℕ, ◌+◌, ◌*◌, ◌≤◌, ◌<◌, ltb, ℤ, length, get_or, if◌then◌else◌}
 use Rattle.model.specs.Instant.{second, last_second}
 use Rattle.model.specs.Working.{Schedule}
 use Rattle.model.specs.Hardest as model

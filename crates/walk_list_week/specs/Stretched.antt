@@ -1,6 +1,6 @@
 -- Stretches as they are found block by block: those that are ended, the one that is still open, and the numbers that are written of them.
-use Rattle.std.specs.Prelude.{◌≡◌, Bool, true, false, List, [], ◌∷◌, ◌++◌, map, ℕ, ◌+◌, ◌*◌, ◌≤◌, ◌<◌, max, leb, ℤ, length, take, drop, get_or}
-use Rattle.model.specs.Basic.{if◌then◌else◌, joined}
+use Rattle.std.specs.Prelude.{◌≡◌, Bool, true, false, List, [], ◌∷◌, ◌++◌, map, ℕ, ◌+◌, ◌*◌, ◌≤◌, ◌<◌, max, leb, ℤ, length, take, drop, get_or, if◌then◌else◌}
+use Rattle.model.specs.Basic.{joined}
 use Rattle.model.specs.Blocks.{Block, block, merged, merged_from}
 use Rattle.model.specs.Instant.{instant}
 use Rattle.laws_blocks.specs.Move.{moves}

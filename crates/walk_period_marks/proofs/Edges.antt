@@ -1,4 +1,5 @@
 -- The ends of a period in the windows of the walk. Assumes nothing.
+use Rattle.std.specs.Prelude.{if◌then◌else◌}
 use mathlib.Core.Path.{◌≡◌}
 use mathlib.Core.Bool.{Bool, true, false}
 use Prim.Native.Nat.{ℕ, ◌+◌, ◌-◌, ◌≤◌, min}
@@ -21,7 +22,6 @@ use Rattle.walk_period_marks.specs.PeriodMarked.{IsBorder, IsSpan, span-on, span
 use Rattle.window_marks.specs.Whole.{MarksWanted, IsMarks}
 use Rattle.window_marks.specs.declared.Border.{Border}
 use Rattle.window_marks.specs.declared.Marks.{Marks}
-use Rattle.model.specs.Basic.{if◌then◌else◌}
 use Rattle.walk_distance.specs.Distances.{way_of, WindowPlaced, placed_on, placed-back}
 
 -- ---- a border and its window

@@ -1,8 +1,7 @@
 // The marks of a period's two ends: each is that of the block which has this end in the window of the walk where the period begins or ends.
 #![tactic(auto)]
 
-ghost use Rattle.std.specs.Prelude.{◌≡◌};
-ghost use Rattle.model.specs.Basic.{if◌then◌else◌};
+ghost use Rattle.std.specs.Prelude.{◌≡◌, if◌then◌else◌};
 ghost use Rattle.model.specs.Marks.{plain, window_of_start, window_of_end};
 ghost use Rattle.instant.specs.Instant.{nanos, InRange};
 ghost use Rattle.rule.specs.Rules.{ScheduleFits};

@@ -1,4 +1,5 @@
 -- The search through the blocks of a window: the nearest block, those behind it, and the same from the search's instant. Assumes nothing.
+use Rattle.std.specs.Prelude.{if◌then◌else◌}
 use mathlib.Core.Path.{◌≡◌, refl, sym, ◌∙◌, ap}
 use mathlib.Core.Bool.{Bool, true, false, not}
 use mathlib.Core.List.{List, [], ◌∷◌}
@@ -9,7 +10,6 @@ use lib.ListN.{get_or}
 use borrow.Author.Tests.{not-true, not-false, eq-eqb, ne_eqb, eqb-true, eqb-false}
 use Rattle.laws_base.specs.Test.{by-test}
 use Rattle.laws_blocks.specs.Move.{moves}
-use Rattle.model.specs.Basic.{if◌then◌else◌}
 use Rattle.model.specs.Blocks.{Block, block}
 use Rattle.model.specs.Walk.{Way, on, back, backward, PeriodSoFar, nothing, growing, ended, too_far, period_in}
 use Rattle.block_pairs.specs.Pairs.{part, pairs}

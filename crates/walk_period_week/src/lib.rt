@@ -2,8 +2,7 @@
 // window the numbers are nanoseconds from its nearer border; what is known of a period is lengths of time from the instant.
 #![tactic(auto)]
 
-ghost use Rattle.std.specs.Prelude.{◌≡◌, not, ◌+◌, ◌*◌, ◌≤◌, ◌<◌, ltb, eqb, length};
-ghost use Rattle.model.specs.Basic.{if◌then◌else◌};
+ghost use Rattle.std.specs.Prelude.{◌≡◌, not, ◌+◌, ◌*◌, ◌≤◌, ◌<◌, ltb, eqb, length, if◌then◌else◌};
 ghost use Rattle.model.specs.Walk as model;
 ghost use Rattle.instant.specs.Instant.{nanos, Exact};
 ghost use Rattle.walk_distance.specs.Distances.{way_of, Short};

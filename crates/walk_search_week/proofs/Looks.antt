@@ -1,4 +1,5 @@
 -- The loops of the search: what a turn keeps. Assumes nothing.
+use Rattle.std.specs.Prelude.{if◌then◌else◌}
 use mathlib.Core.Path.{◌≡◌, refl, sym, ◌∙◌, ap}
 use mathlib.Core.Bool.{true, false}
 use mathlib.Core.List.{List, [], ◌∷◌, ◌++◌, map, reverse, reverse-append}
@@ -7,7 +8,6 @@ use native.Mathlib.Omega.{arith}
 use borrow.Author.Tests.{le-leb, lt-leb, ltb-true, ltb-false}
 use lib.Dec.{ltb, leb}
 use lib.ListN.{get_or}
-use Rattle.model.specs.Basic.{if◌then◌else◌}
 use Rattle.model.specs.Blocks.{Block, block}
 use Rattle.model.specs.Walk.{Step, search_blocks, found, gap, left, backward}
 use Rattle.laws_base.specs.Test.{by-test}

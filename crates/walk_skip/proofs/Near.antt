@@ -1,4 +1,5 @@
 -- Dates in their order, on or back: the nearer of two, and the nearest of those of a holiday record. Assumes nothing.
+use Rattle.std.specs.Prelude.{if◌then◌else◌}
 use mathlib.Core.Path.{◌≡◌, refl, sym, ◌∙◌, ap}
 use mathlib.Core.Bool.{Bool, true, false, not}
 use mathlib.Core.List.{List, ◌∷◌}
@@ -10,7 +11,7 @@ use mir.Syntax.{w32}
 use mir.Val.{SFits, to_z, of_z}
 use mir.Facts.{to_z-of_z}
 use borrow.Author.Tests.{le-leb, lt-leb, leb-true, leb-false, ltb-true, ltb-false}
-use Rattle.model.specs.Basic.{if◌then◌else◌, any}
+use Rattle.model.specs.Basic.{any}
 use Rattle.model.specs.DayNumber.{day_of}
 use Rattle.laws_base.specs.Test.{by-test, never}
 use Rattle.laws_calendar.specs.Numbers.{IsDayNumber, is_before, is-fits}

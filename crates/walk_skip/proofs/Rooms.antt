@@ -1,5 +1,6 @@
 -- The room of several tests: the least of theirs. One turn of a loop over an array, and how the parts make the test of a run of borders. Assumes
 -- nothing.
+use Rattle.std.specs.Prelude.{if◌then◌else◌}
 use mathlib.Core.Path.{◌≡◌, refl, sym, ◌∙◌, ap}
 use mathlib.Core.Bool.{Bool, true, false, ◌&&◌}
 use mathlib.Core.List.{List, [], ◌∷◌, ◌++◌}
@@ -8,7 +9,7 @@ use native.Mathlib.Omega.{arith}
 use lib.Dec.{leb}
 use lib.ListN.{length, take, drop, get_or}
 use borrow.Author.Tests.{le-leb, lt-leb, leb-true}
-use Rattle.model.specs.Basic.{if◌then◌else◌, all}
+use Rattle.model.specs.Basic.{all}
 use Rattle.model.specs.Instant.{second, day, week, first_instant, last_instant, week_seconds}
 use Rattle.model.specs.Working.{Rule, Schedule}
 use Rattle.model.specs.Zone.{steady}

@@ -1,7 +1,7 @@
 -- The skip test at a border and at those beyond it: how far the eleven days on each side may be widened, in seconds, on from the border or back
 -- from it.
-use Rattle.std.specs.Prelude.{◌≡◌, Bool, true, false, ◌&&◌, List, map, ℕ, ◌+◌, ◌*◌, ◌-◌, ◌≤◌, ◌<◌, leb, ℤ, take}
-use Rattle.model.specs.Basic.{if◌then◌else◌, is_in, any, all}
+use Rattle.std.specs.Prelude.{◌≡◌, Bool, true, false, ◌&&◌, List, map, ℕ, ◌+◌, ◌*◌, ◌-◌, ◌≤◌, ◌<◌, leb, ℤ, take, if◌then◌else◌}
+use Rattle.model.specs.Basic.{is_in, any, all}
 use Rattle.model.specs.DayNumber.{day_of}
 use Rattle.model.specs.Instant.{second, day, week, first_instant, last_instant, first_second, last_second, day_seconds}
 use Rattle.model.specs.Working.{Rule, Holidays, Schedule}

@@ -1,7 +1,7 @@
 -- The dates of a holiday record in one pass, in whichever order they are written: what a turn keeps. Assumes nothing.
-use Rattle.std.proofs.Common.{◌≡◌, ℕ, zero, suc, ◌+◌, ◌-◌, ◌*◌, ◌<◌, ◌≤◌, Bool, true, false, eqb, leb, ◌⊎◌, ◌↔◌, List, [], ◌∷◌, ◌++◌, length, sym, refl, ap, ◌∙◌, ap₂, inl, inr, ⊎_elim, append-nil, eq-or-lt_of_le, arith, length-append, eq-eqb, ne_eqb, eqb-true, leb-false}
+use Rattle.std.proofs.Common.{◌≡◌, ℕ, zero, suc, ◌+◌, ◌-◌, ◌*◌, ◌<◌, ◌≤◌, Bool, true, false, eqb, leb, ◌⊎◌, ◌↔◌, List, [], ◌∷◌, ◌++◌, length, sym, refl, ap, ◌∙◌, ap₂, inl, inr, ⊎_elim, append-nil, eq-or-lt_of_le, arith, length-append, eq-eqb, ne_eqb, eqb-true, leb-false, if◌then◌else◌}
 use lib.ListN.{length-map}
-use Rattle.model.specs.Basic.{if◌then◌else◌, is_in, any, among, filter, run, joined}
+use Rattle.model.specs.Basic.{is_in, any, among, filter, run, joined}
 use Rattle.model.specs.Blocks.{Block, block, union}
 use Rattle.model.specs.Walk.{onward}
 use Rattle.model.specs.Working.{holiday_rule, first_date, last_date, blocks_of}

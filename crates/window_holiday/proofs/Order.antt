@@ -1,8 +1,8 @@
 -- The ranks of dates grow with their days: a date of a lesser or a greater rank than a window's dates have is not in it. Assumes nothing.
-use Rattle.std.proofs.Common.{◌≡◌, ℕ, zero, suc, ◌+◌, ◌-◌, ◌/◌, ◌%◌, ◌<◌, ◌≤◌, Bool, true, false, ltb, leb, ◌⊎◌, List, [], get_or, ℤ, sym, refl, ap, ◌∙◌, ap₂, inl, inr, ⊎_elim, eq-or-lt_of_le, arith, le-ltb, lt-ltb, le-leb, leb-false, leb-true}
+use Rattle.std.proofs.Common.{◌≡◌, ℕ, zero, suc, ◌+◌, ◌-◌, ◌/◌, ◌%◌, ◌<◌, ◌≤◌, Bool, true, false, ltb, leb, ◌⊎◌, List, [], get_or, ℤ, sym, refl, ap, ◌∙◌, ap₂, inl, inr, ⊎_elim, eq-or-lt_of_le, arith, le-ltb, lt-ltb, le-leb, leb-false, leb-true, if◌then◌else◌}
 use borrow.Author.Tests.{lt-leb}
 use Rattle.big_endian.specs.Be.{be16, be32}
-use Rattle.model.specs.Basic.{if◌then◌else◌, is_in}
+use Rattle.model.specs.Basic.{is_in}
 use Rattle.model.specs.Blocks.{Block}
 use Rattle.model.specs.DayNumber.{day_of}
 use Rattle.model.specs.Calendar.{is_leap, is_date, day_number, date_of, days_in_month, days_before_month, days_before_year}

@@ -1,6 +1,6 @@
 -- What the functions on a holiday record are asked and answer.
-use Rattle.std.specs.Prelude.{ℕ, ◌≤◌, List, []}
-use Rattle.model.specs.Basic.{if◌then◌else◌, is_in}
+use Rattle.std.specs.Prelude.{ℕ, ◌≤◌, List, [], if◌then◌else◌}
+use Rattle.model.specs.Basic.{is_in}
 use Rattle.model.specs.Blocks.{Block}
 use Rattle.model.specs.Tzif.{Zone}
 use Rattle.model.specs.Working.{blocks_of, holiday_rule}

@@ -1,7 +1,6 @@
 -- Dates as numbers in the order of their days, so that it is told by these whether a date lies from one day to another.
-use Rattle.std.specs.Prelude.{ℕ, ◌+◌, ◌-◌, ◌*◌, ◌/◌, ◌%◌, Bool, ◌&&◌, List, nat_le, nat_lt, slice_index}
+use Rattle.std.specs.Prelude.{ℕ, ◌+◌, ◌-◌, ◌*◌, ◌/◌, ◌%◌, Bool, ◌&&◌, List, nat_le, nat_lt, slice_index, if◌then◌else◌}
 use Rattle.big_endian.specs.Be.{be16}
-use Rattle.model.specs.Basic.{if◌then◌else◌}
 use Rattle.model.specs.Calendar.{date_of, is_date, day_number}
 use Rattle.civil.specs.Dates.{year_bias, day_read}
 use Rattle.civil.specs.declared.DayRead.{DayRead}

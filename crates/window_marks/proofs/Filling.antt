@@ -1,4 +1,5 @@
 -- Filling a list with the marked blocks of a rule that may touch an instant from a to b, and going through rules: what a turn of each loop keeps. Assumes nothing.
+use Rattle.std.specs.Prelude.{if◌then◌else◌}
 use mathlib.Core.Path.{◌≡◌, refl, sym, ◌∙◌, ap}
 use mathlib.Core.Bool.{true, false}
 use mathlib.Core.List.{List, [], ◌++◌, map, append-nil}
@@ -6,7 +7,7 @@ use Prim.Native.Nat.{ℕ, ◌+◌, ◌-◌, ◌≤◌, ◌<◌}
 use native.Mathlib.Omega.{arith}
 use lib.Dec.{ltb}
 use lib.ListN.{length, take, get_or, set, length-set}
-use Rattle.model.specs.Basic.{if◌then◌else◌, run, joined}
+use Rattle.model.specs.Basic.{run, joined}
 use Rattle.model.specs.Marks.{MarkedBlock, whole_on, whole_of, whole_of_all}
 use Rattle.model.specs.Working.{Rule, first_date, last_date, local_dates}
 use Rattle.laws_base.specs.Front.{front-push, front-set}

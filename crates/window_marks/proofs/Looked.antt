@@ -1,11 +1,12 @@
 -- The mark of a start or an end, from what work and what breaks with holidays show around it. Assumes nothing.
+use Rattle.std.specs.Prelude.{if◌then◌else◌}
 use mathlib.Core.Path.{◌≡◌, refl, sym, ◌∙◌, ap, ap₂}
 use mathlib.Core.List.{List, [], ◌∷◌, ◌++◌, append_assoc}
 use Prim.Native.Nat.{ℕ, ◌≤◌, ◌<◌}
 use native.Mathlib.Omega.{arith}
 use lib.Dec.{ltb}
 use borrow.Author.Tests.{ltb-true, ltb-false, le-ltb, ne_eqb}
-use Rattle.model.specs.Basic.{if◌then◌else◌, joined}
+use Rattle.model.specs.Basic.{joined}
 use Rattle.model.specs.Instant.{first_instant, last_instant}
 use Rattle.model.specs.Marks.{Edge, MarkedBlock, plain, put_marked, not_before, not_behind, windowed, whole_of, whole_of_all, marked_working, start_mark_at, end_mark_at}
 use Rattle.model.specs.Working.{Rule, Schedule}

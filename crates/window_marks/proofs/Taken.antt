@@ -1,4 +1,5 @@
 -- What a rule takes of a date, whole, as the code puts it together; and the dates of a holiday record. Assumes nothing.
+use Rattle.std.specs.Prelude.{if◌then◌else◌}
 use mathlib.Core.Path.{◌≡◌, refl, sym, ◌∙◌, ap}
 use mathlib.Core.Bool.{Bool, true, false}
 use mathlib.Core.List.{List, [], map}
@@ -7,7 +8,7 @@ use native.Mathlib.Omega.{arith}
 use lib.Dec.{eqb}
 use lib.IntN.{ℤ}
 use borrow.Author.Tests.{eq-eqb, ne_eqb}
-use Rattle.model.specs.Basic.{if◌then◌else◌, any, among}
+use Rattle.model.specs.Basic.{any, among}
 use Rattle.model.specs.DayNumber.{day_of}
 use Rattle.model.specs.Marks.{put_marked, edge, resolve_mark, mark_by_end, whole_on}
 use Rattle.model.specs.Working.{Rule, start_of, end_of, holiday_rule}

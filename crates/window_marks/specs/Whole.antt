@@ -1,6 +1,6 @@
 -- What the functions on the marks of a window are asked and answer.
-use Rattle.std.specs.Prelude.{◌≡◌, Bool, true, false, List, [], ◌⊎◌, ℕ, ◌+◌, ◌*◌, ◌≤◌, ltb, length}
-use Rattle.model.specs.Basic.{if◌then◌else◌, among, distinct}
+use Rattle.std.specs.Prelude.{◌≡◌, Bool, true, false, List, [], ◌⊎◌, ℕ, ◌+◌, ◌*◌, ◌≤◌, ltb, length, if◌then◌else◌}
+use Rattle.model.specs.Basic.{among, distinct}
 use Rattle.model.specs.Calendar.{contains, weekday}
 use Rattle.model.specs.Marks.{MarkedBlock, plain, put_marked, whole_of, whole_of_all, marked_working, start_mark_at, end_mark_at}
 use Rattle.model.specs.Working as model

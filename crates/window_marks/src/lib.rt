@@ -2,8 +2,8 @@
 // window's dates that may touch one of the two are filled into a list, date by date; what these show around the two gives the marks. Nothing is sorted, merged or cut.
 #![tactic(auto)]
 
-ghost use Rattle.std.specs.Prelude.{◌≡◌, true, ◌+◌, ◌*◌, ◌≤◌, ◌<◌, ltb, eqb, length};
-ghost use Rattle.model.specs.Basic.{if◌then◌else◌, among};
+ghost use Rattle.std.specs.Prelude.{◌≡◌, true, ◌+◌, ◌*◌, ◌≤◌, ◌<◌, ltb, eqb, length, if◌then◌else◌};
+ghost use Rattle.model.specs.Basic.{among};
 ghost use Rattle.model.specs.DayNumber.{day_of};
 ghost use Rattle.model.specs.Marks.{whole_on};
 ghost use Rattle.instant.specs.Instant.{nanos, InRange};

@@ -1,8 +1,7 @@
 -- How many numbers each slice has that is lent to a walk.
-use Rattle.std.specs.Prelude.{◌≡◌, ℕ, ◌+◌, ◌*◌, ◌≤◌, ◌<◌, leb}
+use Rattle.std.specs.Prelude.{◌≡◌, ℕ, ◌+◌, ◌*◌, ◌≤◌, ◌<◌, leb, if◌then◌else◌}
 use Rattle.std.proofs.Common.{arith, le-leb}
 use Rattle.std.proofs.lemmas.Bool.{lt-leb}
-use Rattle.model.specs.Basic.{if◌then◌else◌}
 use Rattle.window_memory.specs.declared.Size.{Size}
 use Rattle.window_memory.specs.declared.Size.TheVariants as S
 

@@ -1,6 +1,5 @@
 -- What the functions on one date are asked and answer.
-use Rattle.std.specs.Prelude.{true, ◌≡◌, ◌⊎◌, ℕ, ◌+◌, ◌*◌, ◌-◌, ◌/◌, ◌≤◌, ◌<◌, ltb, List, []}
-use Rattle.model.specs.Basic.{if◌then◌else◌}
+use Rattle.std.specs.Prelude.{true, ◌≡◌, ◌⊎◌, ℕ, ◌+◌, ◌*◌, ◌-◌, ◌/◌, ◌≤◌, ◌<◌, ltb, List, [], if◌then◌else◌}
 use Rattle.model.specs.Calendar.{first_day, last_day, day_of_year_zero}
 use Rattle.model.specs.Instant.{second, day, day_seconds, first_instant, last_instant}
 use Rattle.model.specs.Offset.{offset_bias, greatest_offset}

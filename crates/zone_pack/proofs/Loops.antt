@@ -1,4 +1,5 @@
 -- One step of each loop of src/lib.rt, and its end.
+use Rattle.std.specs.Prelude.{if◌then◌else◌}
 use mathlib.Core.Path.{◌≡◌, refl, ap}
 use mathlib.Core.List.{List, [], ◌∷◌, map}
 use mathlib.Core.Bool.{Bool, true, false}
@@ -10,7 +11,7 @@ use borrow.Author.Tests.{eq-eqb, ne_eqb}
 use lib.Dec.{eqb}
 use lib.ListN.{length, get_or, drop, drop_of_length-le}
 use lib.Seq.{drop-cons}
-use Rattle.model.specs.Basic.{if◌then◌else◌, run, same_list}
+use Rattle.model.specs.Basic.{run, same_list}
 use Rattle.model.specs.Pack.{lower, same_name, find}
 use Rattle.zone_pack.specs.Pack.{named_at}
 

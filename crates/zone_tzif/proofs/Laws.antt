@@ -1,4 +1,5 @@
 -- The laws of this crate that callers cite: what `read` promises, and how the lookups make a zone's offset. At the end, what the lookups' own proofs cite.
+use Rattle.std.specs.Prelude.{if◌then◌else◌}
 use mathlib.Core.Path.{◌≡◌, sym, ap, ◌∙◌, subst}
 use mathlib.Core.Bool.{true, false, ◌&&◌}
 use mathlib.Core.Option.{none, some}
@@ -9,7 +10,7 @@ use native.Mathlib.Decide.{dec_le, dec_lt}
 use lib.Dec.{leb, ltb, eqb}
 use lib.ListN.{length, get_or}
 use borrow.Author.Tests.{lt-ltb, le-ltb, le-leb, lt-leb, leb-true, ltb-true, ltb-false}
-use Rattle.model.specs.Basic.{if◌then◌else◌, ◌>>=◌, is_in}
+use Rattle.model.specs.Basic.{◌>>=◌, is_in}
 use Rattle.model.specs.Footer.{Footer, footer_of}
 use Rattle.model.specs.Tzif.{counts_ok, zero_or, version_of, table_of, zone_of, most_types, most_transitions}
 use Rattle.model.specs.Offset.{greatest_offset}

@@ -1,7 +1,6 @@
 -- A zone file read by place: what makes it usable, and the table's layout, as the code reads them. Its headers and its second data block are those of
 -- the crates zone_tzif_head and zone_tzif_block. proofs/Bridge.antt shows that this is the crate `model`'s reading. A place past the end reads as 0.
-use Rattle.std.specs.Prelude.{Bool, ◌&&◌, List, [], ◌∷◌, ℕ, zero, suc, ◌+◌, ◌*◌, ◌-◌, ◌^◌, eqb, length, get_or, take, drop}
-use Rattle.model.specs.Basic.{if◌then◌else◌}
+use Rattle.std.specs.Prelude.{Bool, ◌&&◌, List, [], ◌∷◌, ℕ, zero, suc, ◌+◌, ◌*◌, ◌-◌, ◌^◌, eqb, length, get_or, take, drop, if◌then◌else◌}
 use Rattle.model.specs.Instant.{epoch}
 use Rattle.model.specs.Tzif.{Change, Table, type_size, header_size}
 use Rattle.big_endian.specs.Be.{be32}

@@ -1,5 +1,5 @@
-use Rattle.std.proofs.Common.{List, [], refl, ap, arith, to_z-of_z}
-use Rattle.model.specs.Basic.{if◌then◌else◌, is_in}
+use Rattle.std.proofs.Common.{List, [], refl, ap, arith, to_z-of_z, if◌then◌else◌}
+use Rattle.model.specs.Basic.{is_in}
 use Rattle.model.specs.Blocks.{Block}
 use Rattle.model.specs.Working.{holiday_rule}
 use Rattle.laws_calendar.specs.Numbers.{is-fits, day-bits}
