@@ -1,4 +1,6 @@
 -- `answer` meets its contract.
+use Rattle.model.specs.Answer.{gives}
+use Rattle.rule.specs.Rules.{schedule_is}
 use mir.Facts.{to_z-of_z}
 use mathlib.Core.Path.{sym, ◌∙◌}
 use Rattle.query_numbers.proofs.Answering as A
@@ -14,4 +16,4 @@ pub returns-then-is_period : goal.returns-then-is_period
 returns-then-is_period c = A.as-period _ _ _ _ _ _ (sym c.if-is_period.true ∙ (rw (to_z-of_z c.ranges.kind) at c.is_period.ensures)) (rw (to_z-of_z c.ranges.a, to_z-of_z c.ranges.b) at c.period.ensures)
 
 pub returns : goal.returns
-returns c = A.as_none _ _ _ _ _ _ c.if-kind-eq-BETWEEN.false (sym c.if-is_move.false ∙ (rw (to_z-of_z c.ranges.kind) at c.is_move.ensures)) (sym c.if-is_period.false ∙ (rw (to_z-of_z c.ranges.kind) at c.is_period.ensures))
+returns c = A.as_none (gives (schedule_is c.args.book.now c.args.pack.now c.args.s)) _ _ _ _ _ c.if-kind-eq-BETWEEN.false (sym c.if-is_move.false ∙ (rw (to_z-of_z c.ranges.kind) at c.is_move.ensures)) (sym c.if-is_period.false ∙ (rw (to_z-of_z c.ranges.kind) at c.is_period.ensures))

@@ -22,8 +22,5 @@ loop-left-smaller c = omega arith
 pub loop-left-preserved : goal.loop-left-preserved
 loop-left-preserved c = let h = c.loop-left.invariant.1.0 in let g = c.loop-left.invariant.1.1 in let k = c.answer_one.auto.out in (A.all-turned _ _ _ _ _ _ c.loop-left-test.true c.answer_one.ensures c.loop-left.invariant.0, (omega arith, omega arith, k ∙ c.loop-left.invariant.1.2))
 
-pub shape_of-out : goal.shape_of-out
-shape_of-out c = c.loop-left.invariant.1.2
-
 pub returns : goal.returns
 returns c = sym (A.none_left _ _ _ _ _ _ c.loop-left-test.false) ∙ c.loop-left.invariant.0

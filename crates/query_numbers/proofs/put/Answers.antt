@@ -14,10 +14,10 @@ pub overflow_cast-place : goal.overflow_cast-place
 overflow_cast-place c = let h = subst AnyFits c.in-Refused.is c.requires.1 in omega arith
 
 pub returns-in-Counted : goal.returns-in-Counted
-returns-in-Counted c = A.put_as _ _ c.put_six.ensures (A.counted-put c.in-Counted.is (to_z_pos w64 (subst AnyFits c.in-Counted.is c.requires.1)) (to_z-of_z {w = w64} (record { sfits = c.known_told-1.given.0.1 })) (to_z-of_z {w = w64} (record { sfits = c.known_told-1.given.1.0.1 })))
+returns-in-Counted c = A.put_as _ _ c.put_six.ensures (A.counted-put c.in-Counted.is (to_z_pos w64 (subst AnyFits c.in-Counted.is c.requires.1)) (to_z-of_z {w = w64} (record { sfits = c.in-Counted.known_told-1-own.given.0.1 })) (to_z-of_z {w = w64} (record { sfits = c.in-Counted.known_told-1-own.given.1.0.1 })))
 
 pub returns-in-Period : goal.returns-in-Period
-returns-in-Period c = A.put_as _ _ c.put_six-in-Period.ensures (A.period-put c.in-Period.is (to_z-of_z {w = w64} (record { sfits = c.known_told-in-Period-1.given.0.1 })) (to_z-of_z {w = w64} (record { sfits = c.known_told-in-Period-1.given.1.0.1 })) (to_z-of_z {w = w64} (record { sfits = c.known_told-in-Period-1.given.1.1.0.1 })) (to_z-of_z {w = w64} (record { sfits = c.known_told-in-Period-1.given.1.1.1.0.1 })))
+returns-in-Period c = A.put_as _ _ c.put_six-in-Period.ensures (A.period-put c.in-Period.is (to_z-of_z {w = w64} (record { sfits = c.in-Period.known_told-in-Period-1-own.given.0.1 })) (to_z-of_z {w = w64} (record { sfits = c.in-Period.known_told-in-Period-1-own.given.1.0.1 })) (to_z-of_z {w = w64} (record { sfits = c.in-Period.known_told-in-Period-1-own.given.1.1.0.1 })) (to_z-of_z {w = w64} (record { sfits = c.in-Period.known_told-in-Period-1-own.given.1.1.1.0.1 })))
 
 pub returns-in-Refused : goal.returns-in-Refused
-returns-in-Refused c = A.put_as _ _ c.put_six-in-Refused.ensures (A.refused-put c.in-Refused.is (to_z_pos w64 (let h = c.known_told-in-Refused-1.given.0.1 in omega arith)) (to_z_pos w64 (subst AnyFits c.in-Refused.is c.requires.1)))
+returns-in-Refused c = A.put_as _ _ c.put_six-in-Refused.ensures (A.refused-put c.in-Refused.is (to_z_pos w64 (let h = c.in-Refused.known_told-in-Refused-1-own.given.0.1 in omega arith)) (to_z_pos w64 (subst AnyFits c.in-Refused.is c.requires.1)))

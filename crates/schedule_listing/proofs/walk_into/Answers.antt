@@ -22,7 +22,7 @@ pub loop-s-smaller : goal.loop-s-smaller
 loop-s-smaller c = let h = (ltb-true (nanos (c.loop-s.lo)) (nanos (c.args.b)) (sym (c.precedes.ensures) ∙ (c.loop-s-test.true))) in let e = (c.window_end-hi.ensures).0 in omega arith
 
 pub loop-s-preserved : goal.loop-s-preserved
-loop-s-preserved c = (walking_on _ _ _ _ _ _ _ _ (c.loop-s.invariant).0 (ltb-true (nanos (c.loop-s.lo)) (nanos (c.args.b)) (sym (c.precedes.ensures) ∙ (c.loop-s-test.true))) _ (c.window_end-hi.ensures).0 _ _ (c.working_into-n.ensures).0 (let w = c.requires.0.fits.works in let p = c.requires.0.fits.pauses in let q = c.requires.0.fits.closings in let n = (c.working_into-n.ensures).1 in omega arith) c.requires.0.space _ (c.join_window-last.ensures).0 _ (c.join_window-last.ensures).1, range-end _ _ _ c.loop-s.invariant.1 c.requires.0.end (ltb-true (nanos (c.loop-s.lo)) (nanos (c.args.b)) (sym (c.precedes.ensures) ∙ (c.loop-s-test.true))) (c.window_end-hi.ensures).0 (c.window_end-hi.ensures).1, (c.working_into-n.auto.off.1.1.1.1.0) ∙ (c.loop-s.invariant).2, (c.working_into-n.auto.off.1.1.1.1.1.0) ∙ (c.loop-s.invariant).3, (c.working_into-n.ensures).2 ∙ (c.loop-s.invariant).4)
+loop-s-preserved c = (walking_on _ _ _ _ _ _ _ _ (c.loop-s.invariant).0 (ltb-true (nanos (c.loop-s.lo)) (nanos (c.args.b)) (sym (c.precedes.ensures) ∙ (c.loop-s-test.true))) _ (c.window_end-hi.ensures).0 _ _ (c.working_into-n.ensures).0 (let w = c.requires.0.fits.works in let p = c.requires.0.fits.pauses in let q = c.requires.0.fits.closings in let n = (c.working_into-n.ensures).1 in omega arith) c.requires.0.space _ (c.join_window-last.ensures).0 _ (c.join_window-last.ensures).1, range-end _ _ _ c.loop-s.invariant.1 c.requires.0.end (ltb-true (nanos (c.loop-s.lo)) (nanos (c.args.b)) (sym (c.precedes.ensures) ∙ (c.loop-s-test.true))) (c.window_end-hi.ensures).0 (c.window_end-hi.ensures).1, (c.working_into-n.auto.on) ∙ (c.loop-s.invariant).2, (c.working_into-n.auto.off) ∙ (c.loop-s.invariant).3, (c.working_into-n.ensures).2 ∙ (c.loop-s.invariant).4)
 
 pub finish-requires : goal.finish-requires
 finish-requires c = ((c.loop-s.invariant).0.small, walked-few _ _ _ _ _ _ _ _ _ _ (c.loop-s.invariant).0 (range_last _ (c.loop-s.invariant).1), walked-room _ _ _ _ _ _ _ _ _ _ (c.loop-s.invariant).0 (ltb-false (nanos (c.loop-s.lo)) (nanos (c.args.b)) (sym (c.precedes.ensures) ∙ (c.loop-s-test.false))) c.requires.0.space)
