@@ -1,5 +1,5 @@
 -- A piece of the input is read, and its answers are written as often as the memory for them is full.
-use Rattle.std.proofs.Common.{◌≡◌, refl, sym, ap, ◌∙◌, subst, ℕ, suc, ◌+◌, ◌≤◌, ◌<◌, List, [], ◌∷◌, ◌++◌, Option, Result, Ok, Err, IfErr, arith, length, take, drop, get_or, append_assoc, drop_of_length-le, take-append-drop}
+use Rattle.std.proofs.Common.{◌≡◌, refl, sym, ap, ◌∙◌, subst, ℕ, suc, ◌≤◌, ◌<◌, List, [], ◌∷◌, ◌++◌, Option, Result, Ok, Err, IfErr, arith, length, take, drop, get_or, append_assoc, drop_of_length-le, take-append-drop}
 use Rattle.std.proofs.Math.Seq.{take-append_seam}
 use Rattle.std.specs.Io.KnownBytes.{Appends}
 use Rattle.std.proofs.KnownBytes.{Appends-nil, Appends-trans}
@@ -68,11 +68,12 @@ module _ (a : Answer Schedule) (input : List ℕ) (old : Option (List ℕ)) (p :
           written = Appends-trans _ _ _ _ _ g.written (subst (λ l. Appends mid new (take n l)) fed-front w);
           front =
               λ t b.
-              let come : List ℕ = to_come a s (drop s.next input ++ t) in
-              (drop n f.text ++ come,
-              append_assoc g.text (take n f.text) (drop n f.text ++ come)
-              ∙ ap (λ l. g.text ++ l) (sym (append_assoc (take n f.text) (drop n f.text) come) ∙ ap (λ l. l ++ come) (take-append-drop n f.text) ∙ fed-same t b)
-              ∙ g.same t b);
+              let come : List ℕ = to_come a s (drop s.next input ++ t) in (
+                drop n f.text ++ come,
+                append_assoc g.text (take n f.text) (drop n f.text ++ come)
+                    ∙ ap (λ l. g.text ++ l) (sym (append_assoc (take n f.text) (drop n f.text) come) ∙ ap (λ l. l ++ come) (take-append-drop n f.text) ∙ fed-same t b)
+                    ∙ g.same t b,
+              );
         }
 
   pub passed : (new : Option (List ℕ)) (r : Progress) (i : ℕ) → length input ≤ i → Passing a input old new p r i → Passes a input old new p r

@@ -1,5 +1,5 @@
 -- The input is read piece by piece, and what is written is the front of the answers to it.
-use Rattle.std.proofs.Common.{◌≡◌, refl, sym, ap, ◌∙◌, subst, ℕ, List, [], ◌∷◌, ◌++◌, Option, None, Some, take, drop, append_assoc, append-nil, take-append-drop}
+use Rattle.std.proofs.Common.{◌≡◌, refl, sym, ap, ◌∙◌, subst, ℕ, List, [], ◌∷◌, ◌++◌, Option, None, Some, take, drop, append_assoc, take-append-drop}
 use Rattle.std.specs.Io.KnownBytes.{Appends, Consumes, IsAtEnd}
 use Rattle.std.proofs.KnownBytes.{Appends-nil, Appends-trans, Consumes-nil, Consumes-trans, Consumes-whole}
 use Rattle.model.specs.Answer.{Answer}
@@ -89,11 +89,15 @@ module _ (a : Answer Schedule) (from old : Option (List ℕ)) where
               λ h.
               let b = f.bytes in
               let bz : Bytes z = bytes-behind (g.read ++ piece) z (subst Bytes k h) in
-              let (u, q) = f.front z bz in
-              (g.text ++ f.text, Appends-trans _ _ _ _ _ g.written f.written,
-              (u,
-              append_assoc g.text f.text u ∙ ap (λ l. g.text ++ l) q ∙ g.same (piece ++ z) (bytes-join piece z b bz)
-              ∙ ap (answered least_only a) (sym (append_assoc g.read piece z) ∙ sym k)))
+              let (u, q) = f.front z bz in (
+                g.text ++ f.text,
+                Appends-trans _ _ _ _ _ g.written f.written,
+                (
+                  u,
+                  append_assoc g.text f.text u ∙ ap (λ l. g.text ++ l) q ∙ g.same (piece ++ z) (bytes-join piece z b bz)
+                      ∙ ap (answered least_only a) (sym (append_assoc g.read piece z) ∙ sym k),
+                ),
+              )
 
     -- the input has ended
     module _ (past : Option (List ℕ)) (e : Consumes to past []) (end : IsAtEnd past) (last : Option (List ℕ)) (held put : List ℕ) (k : ℕ) (f : Placed held put 0 k (out_yet a p.line p.begun [])) where
@@ -117,6 +121,8 @@ module _ (a : Answer Schedule) (from old : Option (List ℕ)) where
           let line : List ℕ = out_yet a p.line p.begun [] in
           let w' : Appends new last (take n line) = subst (λ l. Appends new last (take n l)) (front-placed f) w in
           Consumes-whole from past (g.read ++ []) (λ s. Bytes s → (text : List ℕ) × Appends old last text × IsFront text (answered least_only a s)) all-read end
-          (λ _.
-          (g.text ++ take n line, Appends-trans _ _ _ _ _ g.written w',
-          (drop n line, append_assoc g.text (take n line) (drop n line) ∙ ap (λ l. g.text ++ l) (take-append-drop n line) ∙ whole)))
+          (λ _. (
+            g.text ++ take n line,
+            Appends-trans _ _ _ _ _ g.written w',
+            (drop n line, append_assoc g.text (take n line) (drop n line) ∙ ap (λ l. g.text ++ l) (take-append-drop n line) ∙ whole),
+          ))
