@@ -1,6 +1,5 @@
 -- The text of answers that is still to come, and what one call does to it.
 use Rattle.std.specs.Prelude.{◌≡◌, Bool, true, false, List, [], ◌∷◌, ◌++◌, map, ℕ, ◌+◌, ◌-◌, ◌^◌, ◌≤◌, ◌<◌, length, drop}
-use Rattle.std.specs.Borrow.{Bor}
 use Rattle.model.specs.Basic.{joined}
 use Rattle.model.specs.Answer.{Answer}
 use Rattle.model.specs.Working.{Schedule}
@@ -58,9 +57,9 @@ pub record Fed (a : Answer Schedule) (input old new : List ℕ) (p r : Progress)
   pub next : r.next ≤ length input
   pub onward : p.used + longest ≤ length old → p.next < length input → p.next < r.next
 
--- the same for the bytes that references refer to, with the answers of a book and a pack by the definitions
-abbrev pub FedBy : Bor (List ℕ) → Bor (List ℕ) → Bor (List ℕ) → Bor (List ℕ) → Bor (List ℕ) → Progress → Progress → Type 0
-FedBy book pack input old new p r = Fed (build book.now pack.now) input.now old.now new.now p r
+-- the same with the answers of a book and a pack by the definitions
+abbrev pub FedBy : List ℕ → List ℕ → List ℕ → List ℕ → List ℕ → Progress → Progress → Type 0
+FedBy book pack input old new p r = Fed (build book pack) input old new p r
 
 -- the input ends at p: the text still to come, the answer of a last line without a newline, is written from the start of `out` on
 abbrev pub Ended : List ℕ → List ℕ → List ℕ → List ℕ → Progress → ℕ → Type 0

@@ -73,7 +73,7 @@ pub fn feed(
     out: &mut [u8],
 ) -> Progress
     requires { Builds book.now pack.now b × ((p.used ≤ length out.old) × (p.next ≤ length input.now)) }
-    ensures { FedBy book.entry pack.entry input.entry out.entry out.exit p result }
+    ensures { FedBy book.now pack.now input.now out.old out.new p result }
 {
     let mut r = p;
     let mut i = p.next;

@@ -1,6 +1,8 @@
 // The program `clock` on this crate's input (docs/CASES.md).
 #![tactic(auto)]
 
-fn main() {
-    clock_run::run();
+use std::process::ExitCode;
+
+fn main(rt: HostRuntime) -> ExitCode {
+    clock_run::run(&rt)
 }

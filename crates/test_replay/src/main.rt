@@ -3,11 +3,13 @@
 // are compared. Writes a line for each case that differs, and at the end how many cases and lines are equal and how many cases differ.
 #![tactic(auto)]
 
-ghost use Rattle.std.specs.Prelude.{◌≤◌, length};
+ghost use Rattle.std.specs.Prelude.{◌<◌, ◌≤◌, length};
 ghost use Rattle.test_cases.specs.Cases.{longest_file};
 
 use answer_line::LONGEST;
-use test_cases::{number, one_more, text};
+use std::rt::Files;
+use std::{fs, io};
+use test_cases::one_more;
 
 // The parts of a case: 0 the book, 1 the pack, 2 the lines, 3 the answers.
 const PARTS: usize = 4;
@@ -21,7 +23,9 @@ pub struct Seen {
 }
 
 // The digit of k, 0 to 9.
-fn digit(k: usize) -> u8 {
+fn digit(k: usize) -> u8
+    ensures { result < 128 }
+{
     b'0' + (k % 10) as u8
 }
 
@@ -31,12 +35,10 @@ fn stands_at(whole: &[u8], at: usize, part: &[u8]) -> bool {
     if rest.len() != part.len() {
         return false;
     }
-    let mut i: usize = 0;
-    while i < part.len() {
-        if big_endian::byte_at(rest, i) != big_endian::byte_at(part, i) {
+    for i in 0..part.len() {
+        if rest[i] != part[i] {
             return false;
         }
-        i += 1;
     }
     true
 }
@@ -44,12 +46,10 @@ fn stands_at(whole: &[u8], at: usize, part: &[u8]) -> bool {
 // How many lines a text has.
 fn lines_in(s: &[u8], seen: u64) -> u64 {
     let mut n = seen;
-    let mut i: usize = 0;
-    while i < s.len() {
-        if big_endian::byte_at(s, i) == b'\n' {
+    for byte in s {
+        if *byte == b'\n' {
             n = one_more(n);
         }
-        i += 1;
     }
     n
 }
@@ -79,7 +79,13 @@ fn agrees(book: &[u8], pack: &[u8], input: &[u8], expected: &[u8], out: &mut [u8
 // ---- files of cases
 
 // Replays the case at the place at.
-fn replay_case(file: &[u8], at: usize, seen: Seen, out: &mut [u8]) -> Seen
+fn replay_case<P: Print>(
+    rt: &P,
+    file: &[u8],
+    at: usize,
+    seen: Seen,
+    out: &mut [u8],
+) -> io::Result<Seen>
     requires { at ≤ longest_file }
 {
     let book = test_cases::part_of(file, PARTS, at, 0);
@@ -88,37 +94,35 @@ fn replay_case(file: &[u8], at: usize, seen: Seen, out: &mut [u8]) -> Seen
     let expected = test_cases::part_of(file, PARTS, at, 3);
     let cases = one_more(seen.cases);
     if agrees(book, pack, input, expected, out) {
-        return Seen {
+        return Ok(Seen {
             cases,
             lines: lines_in(expected, seen.lines),
             different: seen.different,
-        };
+        });
     }
-    text(b"case ");
-    number(cases);
-    text(b" differs\n");
-    Seen {
+    println!(rt; "case {cases} differs")?;
+    Ok(Seen {
         cases,
         lines: seen.lines,
         different: one_more(seen.different),
-    }
+    })
 }
 
 // Replays the cases of a file.
-fn replay_file(file: &[u8], seen: Seen, out: &mut [u8]) -> Seen
+fn replay_file<P: Print>(rt: &P, file: &[u8], seen: Seen, out: &mut [u8]) -> io::Result<Seen>
     requires { length file.now ≤ longest_file }
 {
     let mut r = seen;
     let mut at: usize = 0;
     while at < file.len() {
-        r = replay_case(file, at, r, out);
+        r = replay_case(rt, file, at, r, out)?;
         at = test_cases::place_of(file, PARTS, at, PARTS);
     }
-    r
+    Ok(r)
 }
 
 // Replays file k of the folder. Answers without a change where there is none.
-fn replay_at(k: usize, seen: Seen, out: &mut [u8]) -> Seen {
+fn replay_at<R: Files + Print>(rt: &R, k: usize, seen: Seen, out: &mut [u8]) -> io::Result<Seen> {
     // cases-KK.bin
     let path = [
         b'c',
@@ -134,38 +138,34 @@ fn replay_at(k: usize, seen: Seen, out: &mut [u8]) -> Seen {
         b'i',
         b'n',
     ];
-    let file = os::open_read(&path);
-    if file < 0 {
-        return seen;
-    }
+    let name = str::from_utf8(&path).unwrap();
+    let Ok(mut file) = fs::open(rt, name) else {
+        return Ok(seen);
+    };
     let mut buffer = [0u8; 65536];
-    let n = io::read_full(file, &mut buffer);
-    libc::close(file);
-    replay_file(&buffer[..n], seen, out)
+    let n = pieces::read_full(&mut file, &mut buffer)?;
+    replay_file(rt, &buffer[..n], seen, out)
 }
 
 // Replays all files of the folder.
-fn replay_all(out: &mut [u8]) -> Seen {
+fn replay_all<R: Files + Print>(rt: &R, out: &mut [u8]) -> io::Result<Seen> {
     let mut seen = Seen {
         cases: 0,
         lines: 0,
         different: 0,
     };
-    let mut k: usize = 0;
-    while k < 100 {
-        seen = replay_at(k, seen, out);
-        k += 1;
+    for k in 0..100 {
+        seen = replay_at(rt, k, seen, out)?;
     }
-    seen
+    Ok(seen)
 }
 
-fn main() {
+fn main(rt: HostRuntime) -> io::Result<()> {
     let mut out = [0u8; 65792];
-    let seen = replay_all(&mut out);
-    number(seen.cases);
-    text(b" cases, ");
-    number(seen.lines);
-    text(b" lines equal, ");
-    number(seen.different);
-    text(b" cases different\n");
+    let Seen {
+        cases,
+        lines,
+        different,
+    } = replay_all(&rt, &mut out)?;
+    println!(rt; "{cases} cases, {lines} lines equal, {different} cases different")
 }

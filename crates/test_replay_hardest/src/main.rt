@@ -8,7 +8,9 @@ ghost use Rattle.big_endian.specs.Be.{be32, four_bytes};
 ghost use Rattle.test_cases.specs.Cases.{longest_file};
 ghost use Rattle.test_replay_hardest.specs.Compared.{refusal_at, is_stretch, is_expected};
 
+use anyhow::{Context, Result};
 use schedule_hardest::HardestAnswer;
+use std::io;
 use test_cases::{LONGEST, Seen};
 
 // The parts of a case: 0 the book, 1 the pack, 2 the questions.
@@ -133,61 +135,84 @@ fn agrees(book: &[u8], pack: &[u8], q: &[u8], numbers: &mut [i64]) -> bool {
 }
 
 // Asks question q and counts it.
-fn ask(book: &[u8], pack: &[u8], q: &[u8], seen: Seen, numbers: &mut [i64]) -> Seen {
+fn ask<P: Print>(
+    rt: &P,
+    book: &[u8],
+    pack: &[u8],
+    q: &[u8],
+    seen: Seen,
+    numbers: &mut [i64],
+) -> io::Result<Seen> {
     if !agrees(book, pack, q, numbers) {
-        return test_cases::different(seen, b"stretch");
+        return test_cases::different(rt, seen, b"stretch");
     }
-    test_cases::equal(seen, refusal_of(q))
+    Ok(test_cases::equal(seen, refusal_of(q)))
 }
 
 // Asks all questions.
-fn ask_all(book: &[u8], pack: &[u8], questions: &[u8], seen: Seen, numbers: &mut [i64]) -> Seen
+fn ask_all<P: Print>(
+    rt: &P,
+    book: &[u8],
+    pack: &[u8],
+    questions: &[u8],
+    seen: Seen,
+    numbers: &mut [i64],
+) -> io::Result<Seen>
     requires { length questions.now ≤ longest_file }
 {
     let mut r = seen;
     let mut at: usize = 0;
     while at < questions.len() {
         let q = big_endian::part(questions, at, LONGEST);
-        r = ask(book, pack, q, r, numbers);
+        r = ask(rt, book, pack, q, r, numbers)?;
         at += length_of(q);
     }
-    r
+    Ok(r)
 }
 
 // ---- the file of cases
 
 // Asks the questions of the case at the place at.
-fn ask_case(file: &[u8], at: usize, seen: Seen, numbers: &mut [i64]) -> Seen
+fn ask_case<P: Print>(
+    rt: &P,
+    file: &[u8],
+    at: usize,
+    seen: Seen,
+    numbers: &mut [i64],
+) -> io::Result<Seen>
     requires { (length file.now ≤ longest_file) × (at ≤ longest_file) }
 {
     let book = test_cases::part_of(file, PARTS, at, 0);
     let pack = test_cases::part_of(file, PARTS, at, 1);
     let questions = test_cases::part_of(file, PARTS, at, 2);
-    ask_all(book, pack, questions, test_cases::next_case(seen), numbers)
+    ask_all(
+        rt,
+        book,
+        pack,
+        questions,
+        test_cases::next_case(seen),
+        numbers,
+    )
 }
 
 // Asks the questions of all cases of a file.
-fn ask_file(file: &[u8], numbers: &mut [i64]) -> Seen
+fn ask_file<P: Print>(rt: &P, file: &[u8], numbers: &mut [i64]) -> io::Result<Seen>
     requires { length file.now ≤ longest_file }
 {
     let mut seen = test_cases::nothing();
     let mut at: usize = 0;
     while at < file.len() {
-        seen = ask_case(file, at, seen, numbers);
+        seen = ask_case(rt, file, at, seen, numbers)?;
         at = test_cases::place_of(file, PARTS, at, PARTS);
     }
-    seen
+    Ok(seen)
 }
 
-fn main() {
-    let file = os::open_read(b"hardest.bin");
-    if file < 0 {
-        os::fail(b"hardest.bin");
-        return;
-    }
+fn main(rt: HostRuntime) -> Result<()> {
     let mut buffer = [0u8; LONGEST];
-    let n = io::read_full(file, &mut buffer);
-    libc::close(file);
+    let n = test_cases::load(&rt, "hardest.bin", &mut buffer).context("hardest.bin")?;
     let mut numbers = [0i64; MOST_NUMBERS];
-    test_cases::tell(ask_file(&buffer[..n], &mut numbers), b"answers");
+    let seen = ask_file(&rt, &buffer[..n], &mut numbers)?;
+    test_cases::tell(&rt, seen, b"answers")?;
+    Ok(())
 }

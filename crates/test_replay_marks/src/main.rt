@@ -16,10 +16,12 @@ ghost use Rattle.test_replay_marks.specs.Compared.{refusal_place, is_signed_at, 
 ghost use Rattle.test_replay_marks.specs.Compared.{is_resolved, is_marked_period, is_resolve_answer, is_period_answer};
 ghost use Rattle.test_replay_marks.specs.Asked.{Within};
 
+use anyhow::{Context, Result};
 use instant::Instant;
 use instant_signed::InstantRead;
 use rule::Schedule;
 use schedule_periods::MarkedPeriodAnswer;
+use std::io;
 use test_cases::{LONGEST, Seen};
 use window_marks::Border;
 use zone_calls::ResolveAnswer;
@@ -397,60 +399,62 @@ fn agrees(book: &[u8], pack: &[u8], q: &[u8]) -> bool {
 }
 
 // Asks question q and counts it.
-fn ask(book: &[u8], pack: &[u8], q: &[u8], seen: Seen) -> Seen {
+fn ask<P: Print>(rt: &P, book: &[u8], pack: &[u8], q: &[u8], seen: Seen) -> io::Result<Seen> {
     if !agrees(book, pack, q) {
-        return test_cases::different(seen, b"marked answer");
+        return test_cases::different(rt, seen, b"marked answer");
     }
-    test_cases::equal(seen, refusal_of(q))
+    Ok(test_cases::equal(seen, refusal_of(q)))
 }
 
 // Asks all questions.
-fn ask_all(book: &[u8], pack: &[u8], questions: &[u8], seen: Seen) -> Seen
+fn ask_all<P: Print>(
+    rt: &P,
+    book: &[u8],
+    pack: &[u8],
+    questions: &[u8],
+    seen: Seen,
+) -> io::Result<Seen>
     requires { length questions.now ≤ longest_file }
 {
     let mut r = seen;
     let mut at: usize = 0;
     while at < questions.len() {
         let q = big_endian::part(questions, at, LONGEST);
-        r = ask(book, pack, q, r);
+        r = ask(rt, book, pack, q, r)?;
         at += length_of(q);
     }
-    r
+    Ok(r)
 }
 
 // ---- the file of cases
 
 // Asks the questions of the case at the place at.
-fn ask_case(file: &[u8], at: usize, seen: Seen) -> Seen
+fn ask_case<P: Print>(rt: &P, file: &[u8], at: usize, seen: Seen) -> io::Result<Seen>
     requires { (length file.now ≤ longest_file) × (at ≤ longest_file) }
 {
     let book = test_cases::part_of(file, PARTS, at, 0);
     let pack = test_cases::part_of(file, PARTS, at, 1);
     let questions = test_cases::part_of(file, PARTS, at, 2);
-    ask_all(book, pack, questions, test_cases::next_case(seen))
+    ask_all(rt, book, pack, questions, test_cases::next_case(seen))
 }
 
 // Asks the questions of all cases of a file.
-fn ask_file(file: &[u8]) -> Seen
+fn ask_file<P: Print>(rt: &P, file: &[u8]) -> io::Result<Seen>
     requires { length file.now ≤ longest_file }
 {
     let mut seen = test_cases::nothing();
     let mut at: usize = 0;
     while at < file.len() {
-        seen = ask_case(file, at, seen);
+        seen = ask_case(rt, file, at, seen)?;
         at = test_cases::place_of(file, PARTS, at, PARTS);
     }
-    seen
+    Ok(seen)
 }
 
-fn main() {
-    let file = os::open_read(b"marks.bin");
-    if file < 0 {
-        os::fail(b"marks.bin");
-        return;
-    }
+fn main(rt: HostRuntime) -> Result<()> {
     let mut buffer = [0u8; LONGEST];
-    let n = io::read_full(file, &mut buffer);
-    libc::close(file);
-    test_cases::tell(ask_file(&buffer[..n]), b"answers");
+    let n = test_cases::load(&rt, "marks.bin", &mut buffer).context("marks.bin")?;
+    let seen = ask_file(&rt, &buffer[..n])?;
+    test_cases::tell(&rt, seen, b"answers")?;
+    Ok(())
 }

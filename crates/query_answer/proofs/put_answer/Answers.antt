@@ -1,6 +1,9 @@
 -- `query_answer::put_answer` meets its contract.
 use mir.Facts.{to_z-of_z}
 use mir.Syntax.{w64}
+use borrow.Author.Rules.{rules}
+use Rattle.model.specs.Answer.{gives}
+use Rattle.rule.specs.Rules.{schedule_is}
 use Rattle.query_answer.proofs.Counting.{line-between, line-add, line-sub, line-next, line-previous, line-bad}
 use Rattle.rule.specs.Rules.{schedule_is}
 use Rattle.model.specs.Answer.{gives}

@@ -1,6 +1,7 @@
 -- `query_answer::put_moved` meets its contract.
 use mir.Facts.{to_z-of_z}
 use mir.Syntax.{w64}
+use borrow.Author.Rules.{rules}
 use Rattle.query_answer.proofs.Counting.{moved-given, moved-refused}
 use Rattle.query_answer.proofs.put_moved.Goals as goal
 

@@ -3,6 +3,7 @@ use mir.Facts.{to_z-of_z}
 use mir.Syntax.{w64}
 use Rattle.schedule_periods.specs.Replies.{period_is}
 use mathlib.Core.Path.{ap}
+use borrow.Author.Rules.{rules}
 use Rattle.query_answer.proofs.Counting.{period-given, period-refused}
 use Rattle.query_answer.proofs.put_period.Goals as goal
 

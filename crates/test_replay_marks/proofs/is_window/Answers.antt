@@ -1,0 +1,13 @@
+-- `test_replay_marks::is_window` meets its contract.
+use Rattle.test_replay_marks.proofs.Steps.{window-read}
+use Rattle.laws_base.specs.Test.{clash}
+use mathlib.Core.Path.{refl}
+use native.Mathlib.Omega.{arith}
+use borrow.Author.Tests.{not-true}
+use Rattle.test_replay_marks.proofs.is_window.Goals as goal
+
+pub returns-then-precedes : goal.returns-then-precedes
+returns-then-precedes c = λ e. clash _ e refl
+
+pub returns : goal.returns
+returns c = λ e. window-read _ _ _ c.requires.0 c.requires.1 (omega arith) c.precedes.ensures c.if-precedes.false c.precedes-2.ensures (not-true _ e)
