@@ -4,16 +4,7 @@ use Rattle.build.specs.First.{not-built, is-built}
 use Rattle.model_ticket.specs.Ticket.{command_call}
 use mir.Facts.{to_z-of_z}
 use mathlib.Core.Path.{refl, sym}
-use Rattle.schedule_ticket.proofs.command.Reads as reads
-use Rattle.schedule_ticket.proofs.command.Lts as lts
-use Rattle.build.proofs.build.Reads as build-reads
-use Rattle.schedule_ticket.proofs.command_in.Reads as command-in-reads
-use Rattle.schedule_ticket.proofs.refused.Reads as refused-reads
 use Rattle.schedule_ticket.proofs.command.Goals as goal
-
--- src/lib.rt:166:9
-pub refused-requires : goal.refused-requires
-refused-requires c = above c.build-built.result.number (c.if-built-ne0.true)
 
 -- src/lib.rt:166:9
 pub returns-then-built-ne0 : goal.returns-then-built-ne0
