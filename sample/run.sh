@@ -18,7 +18,7 @@ prove() {
     mkdir -p "$root/target"
     crates=$(crates_of clock)
     (cd "$root/crates/clock" && rt run </dev/null 2>&1 && echo 'rt run: done') | tee "$log" | awk -v all="$crates" '
-        /^logic=proved / { n++; printf "%d of %d crates proved\n", n, all > "/dev/stderr" }'
+        /^logic=proved / { n++; printf "%d of at most %d crates proved\n", n, all > "/dev/stderr" }'
     tail -n 1 "$log" | grep -qx 'rt run: done' || { tail -n 20 "$log" >&2; return 1; }
 }
 
