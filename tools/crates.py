@@ -20,7 +20,7 @@ WINGS = [
 ]  # fmt: skip
 WING = {
     "model": "meaning", "number": "base", "mark": "base", "refusal": "base", "big_endian": "base", "instant": "base", "instant_signed": "base", "civil": "base",
-    "directory": "base", "run_log": "base", "rule": "book", "answer_line": "query", "pieces": "clock",
+    "directory": "base", "run_log": "base", "rule": "book", "answer_line": "query", "pieces": "base",
     "laws_answers": "part", "answer_numbers": "part", "query_numbers": "part", "query_numbers_c": "part", "hirgwamo": "part",
     "model_ticket": "meaning", "ticket": "block", "ticket_marks": "block", "ticket_numbers": "part",
 }  # fmt: skip
