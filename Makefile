@@ -1,6 +1,6 @@
 # The library for C. target/part/ gets libhirgwamo.a, libhirgwamo.so.1 with the link libhirgwamo.so, hirgwamo.h and hirgwamo.pc.
 #
-#   make             builds; the Rattle toolchain (`rt staticlib`) proves and compiles the functions
+#   make             builds; the Rattle toolchain (`rt lib`) proves and compiles the functions
 #   make check       builds and runs the tests (part/test.sh)
 #   make install     installs below PREFIX: include/, lib/, lib/pkgconfig/, share/doc/hirgwamo/ (NOTICE), and the Python package below
 #                    lib/hirgwamo/python/
@@ -30,8 +30,8 @@ doc_dir = $(DESTDIR)$(PREFIX)/share/doc/hirgwamo
 python_dir = $(own_dir)/python/hirgwamo
 python_files = $(wildcard python/hirgwamo/*.py python/hirgwamo/py.typed)
 
-# The crates that export functions.
-exporting = hirgwamo query_numbers
+# The crates that export functions, each a static library.
+exporting = hirgwamo query_numbers_c
 code = $(exporting:%=crates/%/src/lib.rt)
 refusals = crates/refusal/src/lib.rt
 marks = crates/mark/src/lib.rt
@@ -59,11 +59,11 @@ $(out)/.compared: part/header.py part/hirgwamo.h part/hirgwamo.map part/hirgwamo
 put_archive = cmp -s $(1) $(out)/libhirgwamo.a || $(INSTALL) -m 644 $(1) $(out)/libhirgwamo.a
 
 ifeq ($(strip $(STATICLIB)),)
-archives = $(exporting:%=target/staticlib/lib%.a)
+archives = $(foreach crate,$(exporting),crates/$(crate)/out/lib$(crate).a)
 
-# `touch -c` is for an archive that the toolchain leaves as it is.
-target/staticlib/lib%.a: $(shell find crates -name '*.rt' -o -name '*.antt')
-	$(RT) staticlib $*
+# What the toolchain makes in a crate's out/ is no source. `touch -c` is for an archive that it leaves as it is.
+$(archives): $(shell find crates -name out -prune -o \( -name '*.rt' -o -name '*.antt' \) -print)
+	cd crates/$(patsubst lib%.a,%,$(notdir $@)) && $(RT) lib
 	@touch -c $@
 
 # Each crate's archive has one object, with inner functions of its own.

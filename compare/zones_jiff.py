@@ -13,10 +13,10 @@ version 3 alone has, which is in no mix), `taken` of COUNT files below DIR with 
 and of COUNT footers put together from good and bad parts, each in version 2
 and in version 3 (as tools/zone_survey.py makes them), only whether they are
 taken. Ours is second.py's reading of document 01; PROGRAM is test_zone_calls as
-`rt check test_zone_calls` builds it, and must answer each line as second.py
-does. Lines lie about every change (a second before, at and after it, and the
-local times about both of its readings), four times a year from 1900 to 2200,
-and at both ends of the range.
+`rt run` in crates/test_zone_calls builds it (out/test_zone_calls there), and
+must answer each line as second.py does. Lines lie about every change (a second
+before, at and after it, and the local times about both of its readings), four
+times a year from 1900 to 2200, and at both ends of the range.
 
 Prints how many lines there are of each class, with the first line of each that
 differs. Ends with 1 if PROGRAM and second.py differ, or if a difference from

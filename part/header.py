@@ -1,5 +1,5 @@
 #!/usr/bin/env python3
-"""Compares hirgwamo.h with the functions that the crates `hirgwamo` and `query_numbers` export.
+"""Compares hirgwamo.h with the functions that the crates `hirgwamo` and `query_numbers_c` export.
 
 usage: part/header.py [--root FOLDER] [--code FILE].. [--refusals FILE] [--marks FILE] [--header FILE] [--map FILE] [--pc FILE] [--library FILE]
 
@@ -7,8 +7,8 @@ Says what differs, one sentence for each difference, and ends with 1; where noth
 
 - each function that the code exports with the prototype in the header, names of parameters included, and that neither has one more: a lent slice `&[T]` is
   a pointer to const and a length, `&mut [T]` a pointer and a length, and the length of the slice `book` is `book_len`;
-- the refusals' numbers with the constants of the crate `refusal`, and the marks' with those of the crate `mark`; the version, the sizes, the two numbers that
-  are no refusals and the kinds of queries with those of these crates, or of the crates that they name;
+- the refusals' numbers with the constants of the crate `refusal`, but for those of calls that are not exported, and the marks' with those of the crate
+  `mark`; the version, the sizes, the two numbers that are no refusals and the kinds of queries with those of these crates, or of the crates that they name;
 - the names in the version script with the header's functions, and the script's version and that of hirgwamo.pc.in with the code's;
 - with --library, the symbols that a shared library exports (nm) and their version with the header's functions and the script's, and the number in the
   library's name with the code's version.
@@ -28,6 +28,7 @@ SCALARS = {
 }  # fmt: skip
 PREFIX = "HIRGWAMO_"
 RETURNS = ["TOO_SHORT", "NO_QUERY"]  # returned numbers that are no refusals
+OF_TICKETS = ["EARLIER_INSTANT", "NOT_ALLOWED"]  # refusals of calls that are not exported, so that the header has none of them
 SIZES = [
     "VERDICT_SIZE", "TIME_SIZE", "INSTANT_SIZE", "PERIOD_SIZE", "COUNT_SIZE", "STRETCH_SIZE", "OFFSET_SIZE", "CHANGE_SIZE", "RESOLVED_SIZE", "QUERY_SIZE",
     "ANSWER_SIZE", "MARKED_PERIOD_SIZE", "MARKED_INSTANT_SIZE",
@@ -72,9 +73,9 @@ def prototype(name, parameters, returned):
 def exported(code):
     """The prototypes of the functions that the code exports, by name."""
     text = without_line_comments(code)
-    heads = re.findall(r'#\[no_mangle\]\s*pub\s+extern\s+"C"\s+fn\s+(\w+)\s*\(([^()]*)\)\s*(?:->\s*(\w+))?', text)
-    if len(heads) != text.count("#[no_mangle]") or len(heads) != len(re.findall(r'extern\s+"C"', text)):
-        raise Unreadable('not every #[no_mangle] and extern "C" of the code stands at a function of the form #[no_mangle] pub extern "C" fn')
+    heads = re.findall(r'#\[unsafe\(no_mangle\)\]\s*pub\s+extern\s+"C"\s+fn\s+(\w+)\s*\(([^()]*)\)\s*(?:->\s*(\w+))?', text)
+    if len(heads) != text.count("no_mangle") or len(heads) != len(re.findall(r'extern\s+"C"', text)):
+        raise Unreadable('not every no_mangle and extern "C" of the code stands at a function of the form #[unsafe(no_mangle)] pub extern "C" fn')
     return {name: prototype(name, parameters, returned or None) for name, parameters, returned in heads}
 
 
@@ -157,7 +158,7 @@ def wanted_numbers(code, named, crates):
     wanted = {**OK, **{name: number for name, number in own.items() if number is not None}}
     for file in named:
         wanted |= constants(file)
-    return wanted, missing
+    return {name: number for name, number in wanted.items() if name not in OF_TICKETS}, missing
 
 
 def number_differences(code, named, header, crates):
@@ -251,7 +252,7 @@ def main():
     told = parser.parse_args()
     root = told.root
     files = [
-        told.code or [root / "crates" / name / "src/lib.rt" for name in ("hirgwamo", "query_numbers")],
+        told.code or [root / "crates" / name / "src/lib.rt" for name in ("hirgwamo", "query_numbers_c")],
         told.refusals or root / "crates/refusal/src/lib.rt",
         told.marks or root / "crates/mark/src/lib.rt",
         told.header or root / "part/hirgwamo.h",

@@ -3,7 +3,7 @@
 #
 #   part/test.sh
 #
-# Builds with `make`, which runs `rt staticlib` unless STATICLIB is set to an archive. One line for each test; the last line is 'N passed, 0 failed',
+# Builds with `make`, which runs `rt lib` unless STATICLIB is set to an archive. One line for each test; the last line is 'N passed, 0 failed',
 # and where a test fails it ends with 1. A tool that is missing (valgrind, g++, pkg-config) is a failure. Settings from the environment: CC (cc), CXX (g++),
 # PYTHON (python3), STATICLIB.
 set -eu
@@ -256,13 +256,15 @@ readme_python() {
     PYTHONPATH=python PYTHONDONTWRITEBYTECODE=1 readme_prints python "$python" "$tmp/due.py"
 }
 
-# The program that the Python package is compared with. Where the toolchain is not there, one that is built already serves.
+# The program that the Python package is compared with. `rt run` proves and builds it, and runs it, here with no queries. Where the toolchain is not there,
+# one that is built already serves.
 clock_built() {
+    clock=crates/clock/out/clock
     if has rt; then
-        rt check clock || return 1
+        (cd crates/clock && rt run </dev/null) || return 1
     fi
-    [ -x target/bin/clock ] || { echo "target/bin/clock is missing"; return 1; }
-    echo "target/bin/clock"
+    [ -x "$clock" ] || { echo "$clock is missing"; return 1; }
+    echo "$clock"
 }
 
 # ---- all of it

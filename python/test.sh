@@ -4,7 +4,7 @@
 #   python/test.sh
 #
 # HIRGWAMO_LIBRARY  the shared library (default: target/part/libhirgwamo.so.1 of the repository)
-# CLOCK             the program whose answers are compared (default: target/bin/clock of the repository)
+# CLOCK             the program whose answers are compared (default: crates/clock/out/clock of the repository)
 # PYTHON            the interpreter, 3.9 or later (default: python3)
 set -eu
 here=$(cd "$(dirname "$0")" && pwd)
@@ -18,7 +18,7 @@ absolute() {
 }
 
 HIRGWAMO_LIBRARY=$(absolute "${HIRGWAMO_LIBRARY:-$here/../target/part/libhirgwamo.so.1}")
-CLOCK=$(absolute "${CLOCK:-$here/../target/bin/clock}")
+CLOCK=$(absolute "${CLOCK:-$here/../crates/clock/out/clock}")
 PYTHON=${PYTHON:-python3}
 export HIRGWAMO_LIBRARY CLOCK
 export PYTHONDONTWRITEBYTECODE=1

@@ -3,28 +3,29 @@
 #
 #   sample/run.sh [PROGRAM]
 #
-# PROGRAM is a clock that is built already. Without it `rt check clock` proves and builds one, which takes about ten minutes on a new machine with two
-# free cores, and seconds afterwards; how many crates are proved is shown meanwhile.
+# PROGRAM is a clock that is built already. Without it `rt run` in crates/clock proves and builds one, as crates/clock/out/clock, which takes many minutes
+# on a new machine, and seconds afterwards; the crates that are proved are counted meanwhile.
 # Dates are turned into words by GNU date, with Berlin's rule of today; the clock itself reads the zone from zones.bin.
 set -eu
 here=$(cd "$(dirname "$0")" && pwd)
 root=$(cd "$here/.." && pwd)
 program=${1:-}
 
-# Proves and builds the clock; shows how many of its crates are proved, and what `rt` wrote where it fails.
+# Proves and builds the clock; shows how many of its crates were proved anew, and what `rt` wrote where it fails. `rt run` also runs the program, here with
+# no queries, so that it writes nothing.
 prove() {
     log=$root/target/sample.log
     mkdir -p "$root/target"
     crates=$(crates_of clock)
-    (cd "$root" && rt check clock 2>&1 && echo 'rt check: done') | tee "$log" | awk -v all="$crates" '
-        /^rt: [a-z0-9_]+ proved/ { n++; printf "%d of %d crates proved\n", n, all > "/dev/stderr" }'
-    tail -n 1 "$log" | grep -qx 'rt check: done' || { tail -n 20 "$log" >&2; return 1; }
+    (cd "$root/crates/clock" && rt run </dev/null 2>&1 && echo 'rt run: done') | tee "$log" | awk -v all="$crates" '
+        /^logic=proved / { n++; printf "%d of at most %d crates proved\n", n, all > "/dev/stderr" }'
+    tail -n 1 "$log" | grep -qx 'rt run: done' || { tail -n 20 "$log" >&2; return 1; }
 }
 
 # How many crates of the repository a crate rests on, itself included, by crates.txt.
 crates_of() {
     awk -v want="$1" -F: '
-        /^[a-z]/ { own[$1] = 1; needs[$1] = $2 }
+        /^[a-z]/ { split($1, word, " "); own[word[1]] = 1; needs[word[1]] = $2 } # a static library has a word behind its name
         function visit(c,   i, k, list) {
             if (!(c in own) || c in seen) return
             seen[c] = 1; total++
@@ -36,7 +37,7 @@ crates_of() {
 
 if [ -z "$program" ]; then
     prove
-    program=$root/target/bin/clock
+    program=$root/crates/clock/out/clock
 fi
 program=$(cd "$(dirname "$program")" && pwd)/$(basename "$program")
 

@@ -17,7 +17,8 @@ from pathlib import Path
 
 ROOT = Path(__file__).resolve().parent.parent
 HEAD = re.compile(r'^(?:pub )?(extern "C" )?fn ([a-z_0-9]+)', re.MULTILINE)
-CLAUSE = re.compile(r"^ *(?:requires|ensures|ghost)\b.*$", re.MULTILINE)
+GHOST = re.compile(r"^ *ghost\b.*$", re.MULTILINE)
+CLAUSE = re.compile(r"^ *(?:requires|ensures)\b[^{\n]*\{", re.MULTILINE)
 CALL = re.compile(r"(?:\b([a-z_0-9]+)::)?\b([a-z_0-9]+)\(")
 ROW = re.compile(r"^\| `([a-z_0-9]+)` \|(.*)$", re.MULTILINE)
 WORD = re.compile(r"`([a-z_0-9]+)`")
@@ -27,9 +28,22 @@ def is_test(function):
     return function[0].startswith(("test_", "bench_"))
 
 
+def without_clauses(text):
+    """A text without its clauses, which go on to the brace that closes them."""
+    kept, at = [], 0
+    for clause in CLAUSE.finditer(text):
+        if clause.start() >= at:
+            kept.append(text[at : clause.start()])
+            at, depth = clause.end(), 1
+            while depth and at < len(text):
+                depth += (text[at] == "{") - (text[at] == "}")
+                at += 1
+    return "".join(kept) + text[at:]
+
+
 def functions_of(crate, text):
     """The functions of a file: (name, is it exported, its text without comments and contracts)."""
-    text = CLAUSE.sub("", re.sub(r"//.*", "", text))
+    text = without_clauses(GHOST.sub("", re.sub(r"//.*", "", text)))
     heads = list(HEAD.finditer(text))
     ends = [head.start() for head in heads[1:]] + [len(text)]
     for head, end in zip(heads, ends):

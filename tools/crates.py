@@ -8,20 +8,21 @@ below. A line leads from a crate to one that it rests on; lines to the same crat
 rests on B and B on C, there is no line from A to C.
 
 A crate's wing is its name's first word, or what WING says. Ends with a message and status 1, and writes nothing, where crates.txt names a crate
-that is not there, or a folder of crates/ is not in crates.txt, or crates rest on each other.
+that is not there, or a folder of crates/ has code and is not in crates.txt, or crates rest on each other.
 """
 import sys
 from pathlib import Path
 
 ROOT = Path(__file__).resolve().parent.parent
-KIT = {"check", "libc", "io", "os", "bytes"}  # libraries of the toolchain
+KIT = {"anyhow", "libc", "io", "os"}  # libraries of the toolchain
 WINGS = [
     "meaning", "laws", "base", "block", "zone", "book", "window", "walk", "build", "schedule", "part", "query", "clock", "test", "bench",
 ]  # fmt: skip
 WING = {
     "model": "meaning", "number": "base", "mark": "base", "refusal": "base", "big_endian": "base", "instant": "base", "instant_signed": "base", "civil": "base",
-    "directory": "base", "run_log": "base", "rule": "book", "answer_line": "query",
-    "laws_answers": "part", "answer_numbers": "part", "query_numbers": "part", "hirgwamo": "part",
+    "directory": "base", "run_log": "base", "rule": "book", "answer_line": "query", "pieces": "base",
+    "laws_answers": "part", "answer_numbers": "part", "query_numbers": "part", "query_numbers_c": "part", "hirgwamo": "part",
+    "model_ticket": "meaning", "ticket": "block", "ticket_marks": "block", "ticket_numbers": "part",
 }  # fmt: skip
 COLOURS = ["#4e79a7", "#b07aa1", "#59a14f", "#d37222", "#9c755f", "#2f8f8b", "#c23b52", "#6b6ecf", "#8c8c1a"]
 
@@ -37,14 +38,14 @@ def read_crates():
     for line in (ROOT / "crates.txt").read_text(encoding="utf-8").splitlines():
         line = line.split("#", 1)[0].strip()
         if line:
-            name, _, needs = line.partition(":")
-            listed[name.strip()] = [need for need in needs.split() if need not in KIT]
+            head, _, needs = line.partition(":")
+            listed[head.split()[0]] = [need for need in needs.split() if need not in KIT]  # behind a static library's name stands a word
     return listed
 
 
 def check(listed):
     """Stops where crates.txt and the folders do not agree."""
-    folders = {path.name for path in (ROOT / "crates").iterdir() if path.is_dir()}
+    folders = {path.name for path in (ROOT / "crates").iterdir() if (path / "src").is_dir()}
     wrong = [f"{name}: in crates.txt, and no folder" for name in listed if name not in folders]
     wrong += [f"{name}: a folder, and not in crates.txt" for name in sorted(folders) if name not in listed]
     wrong += [f"{name} rests on {need}, which crates.txt does not list" for name, needs in listed.items() for need in needs if need not in listed]

@@ -5,8 +5,8 @@ usage: tools/days.py
 
 The program below, in C, goes from day to day by itself: it knows how many days a month has, which years are leap years, and that 1970-01-01 is a
 Thursday and day 0, and nothing else of the code. Of each day it asks whether the day's number has that weekday and that date, and the date that number
-(crates/test_dates), and that it has not those of the day before. Builds target/staticlib/libtest_dates.a by `rt staticlib test_dates` unless it is newer
-than the code. Needs cc. Prints how many days were asked for and ends with 1 at the first that is wrong.
+(crates/test_dates), and that it has not those of the day before. Builds crates/test_dates/out/libtest_dates.a by `rt lib` there unless it is newer than
+the code. Needs cc. Prints how many days were asked for and ends with 1 at the first that is wrong.
 """
 import subprocess
 import sys
@@ -76,9 +76,10 @@ int main(void) {
 
 def archive():
     """The static library, made anew where some code is newer."""
-    made = ROOT / "target" / "staticlib" / "libtest_dates.a"
+    crate = ROOT / "crates" / "test_dates"
+    made = crate / "out" / "libtest_dates.a"
     if not made.exists() or any(f.stat().st_mtime > made.stat().st_mtime for f in (ROOT / "crates").glob("*/src/*.rt")):
-        done = subprocess.run(["rt", "staticlib", "test_dates"], cwd=ROOT, stdout=subprocess.PIPE, stderr=subprocess.STDOUT, text=True)
+        done = subprocess.run(["rt", "lib"], cwd=crate, stdout=subprocess.PIPE, stderr=subprocess.STDOUT, text=True)
         if done.returncode != 0:
             raise SystemExit(done.stdout[-2000:])
     return made

@@ -40,7 +40,7 @@ def named_in(text):
 def table(found, named):
     lines = [HEAD, "|---|---|"]
     for line in (ROOT / "crates.txt").read_text().split("\n"):
-        crate = line.split(":")[0]
+        crate = (line.split(":")[0].split() or [""])[0]  # a static library has a word behind its name
         rest = [f"`{name}`: {rule}" for (owner, name), rule in found.items() if owner == crate and (owner, name) not in named]
         if rest:
             lines.append(f"| `{crate}` | {'; '.join(rest)} |")

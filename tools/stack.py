@@ -3,8 +3,8 @@
 
 usage: tools/stack.py [FOLDER..]
 
-Each FOLDER has a book.bin and a zones.bin (sample/ where none is told). Builds target/part/libhirgwamo.a by `make` and target/bin/clock
-by `rt check clock` unless they are newer than the code, and a small program in C over the archive. Needs cc and objdump. Prints, in bytes:
+Each FOLDER has a book.bin and a zones.bin (sample/ where none is told). Builds target/part/libhirgwamo.a by `make` and crates/clock/out/clock by
+`rt run` there unless they are newer than the code, and a small program in C over the archive. Needs cc and objdump. Prints, in bytes:
 
 - bound: read from the compiled code. A function's need is its frame and the deepest need of those it calls; nothing is called through a pointer. So
   it holds for every input. A function that calls itself, which only the writer of a number's digits does, counts 20 times, for 20 digits. What
@@ -126,9 +126,9 @@ def newer(made):
     return not made.exists() or any(f.stat().st_mtime > made.stat().st_mtime for f in (ROOT / "crates").glob("*/src/*.rt"))
 
 
-def quiet(command):
-    """Runs a command in the repository, and shows what it wrote only where it fails."""
-    done = subprocess.run(command, cwd=ROOT, stdout=subprocess.PIPE, stderr=subprocess.STDOUT, text=True)
+def quiet(command, folder=ROOT):
+    """Runs a command in the repository, with no input, and shows what it wrote only where it fails."""
+    done = subprocess.run(command, cwd=folder, stdin=subprocess.DEVNULL, stdout=subprocess.PIPE, stderr=subprocess.STDOUT, text=True)
     if done.returncode != 0:
         raise SystemExit(done.stdout[-2000:])
 
@@ -138,9 +138,10 @@ def build(folder):
     archive = ROOT / "target" / "part" / "libhirgwamo.a"
     if newer(archive):
         quiet(["make"])
-    program = ROOT / "target" / "bin" / "clock"
+    crate = ROOT / "crates" / "clock"
+    program = crate / "out" / "clock"
     if newer(program):
-        quiet(["rt", "check", "clock"])
+        quiet(["rt", "run"], crate)
     source, driver = folder / "driver.c", folder / "driver"
     source.write_text(DRIVER)
     subprocess.run(["cc", "-O2", "-I", archive.parent, "-Wl,-z,now", "-o", driver, source, archive], check=True)

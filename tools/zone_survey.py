@@ -5,7 +5,7 @@ usage: tools/zone_survey.py ZONEINFO [PROGRAM [DAMAGED]]
 
 ZONEINFO is a folder of compiled zone files (Debian's package tzdata installs one). Every file below it is a record of a zone pack, under its path
 in the folder; a pack has at most 1,024 records and 65,536 bytes, so there are many. The judgement below is written from document 01 and RFC 8536
-and shares nothing with the crates. PROGRAM is test_zones as `rt check test_zones` builds it (target/bin/test_zones): it is run on each pack, and what
+and shares nothing with the crates. PROGRAM is test_zones as `rt run` in crates/test_zones builds it (out/test_zones there): it is run on each pack, and what
 it calls usable is compared. Beside a pack lie answers of Python's zoneinfo for local times about every change and four times a year, and in a second
 run for the next change of the offset (made as zone_answers.py makes them), which the program compares. Each different file whose footer has a rule time
 that version 3 alone has is asked about more: about every change from the year 2 to 9999, the last ones by the footer, and about random seconds from a fixed

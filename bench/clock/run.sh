@@ -9,7 +9,7 @@
 # MILLISECONDS (20) of processor time for each row of the table and each that is timed, in each of eight rounds; the best batch counts, so that other
 # work on the machine disturbs little. BOOK and CALL choose rows. Settings from the environment: ZONEINFO, where the zone files are (/usr/share/zoneinfo);
 # JIFF, a folder that has jiff or where it is to be brought (target/jiff; compare/jiff.sh). Without jiff the stand-in alone is timed beside ours.
-# Builds target/staticlib/libbench_clock.a by `rt staticlib bench_clock`, unless it is newer than the code, and target/part/libhirgwamo.a by `make`. Ends with 1
+# Builds crates/bench_clock/out/libbench_clock.a by `rt lib` there, unless it is newer than the code, and target/part/libhirgwamo.a by `make`. Ends with 1
 # where answers differ.
 #
 # The second form times the functions that other languages link, from libhirgwamo.a: many queries in one call, and one call for each question. Beside them
@@ -30,9 +30,10 @@ most_walks=8192
 clock=$root/target/bench_clock/release/clock
 zoneinfo=${ZONEINFO:-/usr/share/zoneinfo}
 
-library=$root/target/staticlib/libbench_clock.a
-if [ ! -f "$library" ] || [ -n "$(find "$root/crates" -name '*.rt' -newer "$library" | head -n 1)" ]; then
-    (cd "$root" && rt staticlib bench_clock >"$work/rt.out" 2>&1) || { tail -n 20 "$work/rt.out" >&2; exit 1; }
+crate=$root/crates/bench_clock
+library=$crate/out/libbench_clock.a
+if [ ! -f "$library" ] || [ -n "$(find "$root/crates" -name out -prune -o -name '*.rt' -newer "$library" -print | head -n 1)" ]; then
+    (cd "$crate" && rt lib >"$work/rt.out" 2>&1) || { tail -n 20 "$work/rt.out" >&2; exit 1; }
 fi
 part=$root/target/part
 make -C "$root" >"$work/make.out" 2>&1 || { tail -n 20 "$work/make.out" >&2; exit 1; }

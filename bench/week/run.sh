@@ -6,7 +6,7 @@
 # COUNT weeks at random (200) in BATCHES batches (200); the best batch counts, in processor time, so that other work on the machine disturbs
 # little. Building the book is counted once in a batch, for both.
 # Settings from the environment: ZONEINFO, where the zone files are (/usr/share/zoneinfo).
-# Builds target/staticlib/libbench_week.a by `rt staticlib bench_week`, unless it is newer than the code. Ends with 1 where answers differ.
+# Builds crates/bench_week/out/libbench_week.a by `rt lib` there, unless it is newer than the code. Ends with 1 where answers differ.
 set -eu
 here=$(cd "$(dirname "$0")" && pwd)
 root=$(cd "$here/../.." && pwd)
@@ -15,9 +15,10 @@ batches=${2:-200}
 work=$(mktemp -d /tmp/bench_week.XXXXXX)
 trap 'rm -r "$work"' EXIT
 
-library=$root/target/staticlib/libbench_week.a
-if [ ! -f "$library" ] || [ -n "$(find "$root/crates" -name '*.rt' -newer "$library" | head -n 1)" ]; then
-    (cd "$root" && rt staticlib bench_week >"$work/rt.out" 2>&1) || { tail -n 20 "$work/rt.out" >&2; exit 1; }
+crate=$root/crates/bench_week
+library=$crate/out/libbench_week.a
+if [ ! -f "$library" ] || [ -n "$(find "$root/crates" -name out -prune -o -name '*.rt' -newer "$library" -print | head -n 1)" ]; then
+    (cd "$crate" && rt lib >"$work/rt.out" 2>&1) || { tail -n 20 "$work/rt.out" >&2; exit 1; }
 fi
 cargo build --quiet --release --offline --manifest-path "$here/Cargo.toml" --target-dir "$root/target/bench_week"
 bad=0

@@ -6,7 +6,7 @@
 # COUNT local times at random (10000) in BATCHES batches (20), and that ROUNDS times in turn (5); the best batch counts, in processor time, so
 # that other work on the machine disturbs little. Opening the file is counted once in a batch for our code, and not at all for the others.
 # Settings from the environment: ZONEINFO, where the zone files are (/usr/share/zoneinfo); CC (cc).
-# Builds target/staticlib/libbench_zone.a by `rt staticlib bench_zone`, unless it is newer than the code. Ends with 1 where answers differ.
+# Builds crates/bench_zone/out/libbench_zone.a by `rt lib` there, unless it is newer than the code. Ends with 1 where answers differ.
 set -eu
 here=$(cd "$(dirname "$0")" && pwd)
 root=$(cd "$here/../.." && pwd)
@@ -17,9 +17,10 @@ zoneinfo=${ZONEINFO:-/usr/share/zoneinfo}
 work=$(mktemp -d /tmp/bench_zone.XXXXXX)
 trap 'rm -r "$work"' EXIT
 
-library=$root/target/staticlib/libbench_zone.a
-if [ ! -f "$library" ] || [ -n "$(find "$root/crates" -name '*.rt' -newer "$library" | head -n 1)" ]; then
-    (cd "$root" && rt staticlib bench_zone >"$work/rt.out" 2>&1) || { tail -n 20 "$work/rt.out" >&2; exit 1; }
+crate=$root/crates/bench_zone
+library=$crate/out/libbench_zone.a
+if [ ! -f "$library" ] || [ -n "$(find "$root/crates" -name out -prune -o -name '*.rt' -newer "$library" -print | head -n 1)" ]; then
+    (cd "$crate" && rt lib >"$work/rt.out" 2>&1) || { tail -n 20 "$work/rt.out" >&2; exit 1; }
 fi
 "${CC:-cc}" -O2 -Wall -o "$work/bench" "$here/bench.c" "$library"
 
