@@ -20,9 +20,9 @@ import tempfile
 from pathlib import Path
 
 ROOT = Path(__file__).resolve().parent.parent
-PAGE = 4096
 RUNS = 40  # of the program under one limit
 POINTER = "through a pointer"
+START = "clock::main+start"  # the program's main, which C's main jumps to
 DIGITS = 20  # how often a function that calls itself is in its own frames
 CALLS = [
     "build", "between", "add", "sub", "next_period", "previous_period", "list", "hardest", "answers", "offset", "next_change", "resolve",
@@ -158,35 +158,45 @@ def functions(path):
             name = head.group(1)
             found[name] = frame = {"depth": 8, "calls": {}}  # the return address
             depth = body = 8
-            start = True
+            base = None  # how deep the stack is where %rbp stands
+            start, loop = True, False
             continue
         part = re.match(r"\s+[0-9a-f]+:\s+(\S+)\s*(.*)", line)
         if not part or name is None:
             continue
-        word, rest = part.group(1), part.group(2).split("#")[0].strip()
+        word, rest = part.group(1), part.group(2).split(" # ")[0].strip()
         amount = re.match(r"\$(-?0x[0-9a-f]+),%rsp$", rest)
-        probed = re.match(r"\$(0x[0-9a-f]+),%r11$", rest)  # a large frame is taken page by page, in a loop that ends at %r11
+        probed = re.match(r"\$(0x[0-9a-f]+),%r11$", rest)  # a large frame is taken in steps less than a page, in a loop that ends at %r11
+        back = re.match(r"-(0x[0-9a-f]+)\(%rbp\),%rsp$", rest)
         if word.startswith("push"):
             depth += 8
         elif word.startswith("pop"):
             depth -= 8
             start = False
         elif word == "sub" and probed and start:
-            depth += int(probed.group(1), 16) - PAGE
+            depth += int(probed.group(1), 16)
+            loop = True
+        elif word == "sub" and amount and loop:
+            loop = False  # a step of the loop
         elif word == "sub" and amount:
             depth += int(amount.group(1), 16)
+        elif word == "mov" and rest == "%rsp,%rbp":
+            base = depth
+        elif word == "lea" and back and base is not None:
+            depth = base + int(back.group(1), 16)
+            start = False
         elif word == "add" and amount:
             depth -= int(amount.group(1), 16)
             start = False
         elif word == "and" and amount:
             depth += 2**64 - int(amount.group(1), 16) if int(amount.group(1), 16) > 0 else -int(amount.group(1), 16)
         elif word not in ("cmp", "test") and rest.endswith(",%rsp"):
-            raise SystemExit(f"{path}: {name}: what does `{word} {rest}` do to the stack?")
+            frame["odd"] = f"{path}: {name}: what does `{word} {rest}` do to the stack?"
         if start:
             body = depth
         red = re.search(r"-0x([0-9a-f]+)\(%rsp", rest)  # a function that calls none may use 128 bytes below its frame
         frame["depth"] = max(frame["depth"], depth + (int(red.group(1), 16) if red else 0))
-        target = re.search(r"<([^>+]*)>$", rest)
+        target = re.search(r"<(?!.*\+0x[0-9a-f]+>$)(.*)>$", rest)  # not a place inside of a function
         if word in ("call", "callq", "jmp", "jmpq") and target and target.group(1) != name or word.startswith("call") and target:
             callee = target.group(1)
             below = depth if word.startswith("call") else depth - 8
@@ -203,6 +213,8 @@ def need(found, name, above=()):
     frame = found.get(name)
     if frame is None or name.endswith("@plt"):
         return 0, []
+    if "odd" in frame:
+        raise SystemExit(frame["odd"])
     best, way = frame["depth"], [name]
     for callee, depth in frame["calls"].items():
         if callee == name:
@@ -247,7 +259,7 @@ def main():
         for k, name in enumerate(CALLS):
             deepest, way = need(found, "hirgwamo_" + name)
             print(f"{name}: {deepest}; {', '.join(s[k] for s in seen)}    ({' > '.join(way[1:])})")
-        deepest, way = need(functions(program), "main")
+        deepest, way = need(functions(program), START)
         print(f"the program: {deepest}    ({' > '.join(way)})")
         for f in folders:
             print(f"least limit on the program's stack, {f.name}: {least_limit(program, f)} kB")
