@@ -21,7 +21,7 @@ pub returns-then-not-is_log : goal.returns-then-not-is_log
 returns-then-not-is_log c = no-log _ _ _ _ _ _ (instant-yes _ _ c.ranges.t_sec c.ranges.t_ns c.instant_of.ensures c.in-At.is).means (omega arith) (sym c.is_log-is_log.ensures ∙ not-true _ c.if-not-is_log.true-raw)
 
 pub returns-then-not-is_width : goal.returns-then-not-is_width
-returns-then-not-is_width c = no-width _ _ _ _ _ _ (instant-yes _ _ c.ranges.t_sec c.ranges.t_ns c.instant_of.ensures c.in-At.is).means (sym c.is_log-is_log.ensures ∙ not-false _ c.if-not-is_log.false-raw) (omega arith) (sym (by_bits is_width c.ranges.width c.is_width-is_width.ensures) ∙ not-true _ c.if-not-is_width.true-raw)
+returns-then-not-is_width c = no-width _ _ _ _ _ _ (instant-yes _ _ c.ranges.t_sec c.ranges.t_ns c.instant_of.ensures c.in-At.is).means (sym c.is_log-is_log.ensures ∙ (cc)) (omega arith) (sym (by_bits is_width c.ranges.width c.is_width-is_width.ensures) ∙ (cc))
 
 pub unsigned-seconds-requires : goal.unsigned-seconds-requires
 unsigned-seconds-requires c = rw (to_z-of_z c.ranges.width) (width_read _ (sym (by_bits is_width c.ranges.width c.is_width-is_width.ensures) ∙ not-false _ c.if-not-is_width.false-raw)).0
