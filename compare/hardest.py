@@ -5,11 +5,11 @@ Usage: hardest.py SEED COUNT PROGRAM
 
 Makes COUNT cases from SEED, each a book and a pack of generate.py's families and
 some logs of runs, with the answers of second.py. They go to files hardest.bin, one
-after the other, in a new folder, where PROGRAM (test_replay_hardest as the gate
-builds it) is run without arguments. A line of PROGRAM about a question whose
-answer differs is printed, the file of such cases is kept, and the command ends
-with 1. The last line printed tells all numbers. ZONEINFO tells where real zone
-files are (if not set /usr/share/zoneinfo).
+after the other, in a new folder, where PROGRAM (out/test_replay_hardest as `rt run`
+in crates/test_replay_hardest builds it) is run without arguments. A line of PROGRAM
+about a question whose answer differs is printed, the file of such cases is kept, and
+the command ends with 1. The last line printed tells all numbers. ZONEINFO tells where
+real zone files are (if not set /usr/share/zoneinfo).
 
 In hardest.bin a case is three numbers of 4 bytes, the lengths of its parts, and then
 the parts: book, pack, questions. A question is the instant's seconds and nanoseconds

@@ -3,9 +3,9 @@
 
 Usage: lists_jiff.py FOLDER PROGRAM
 
-FOLDER has the cases that run_jiff.sh has answered. PROGRAM is test_replay_lists
-as the gate builds it: our listing, which no query line asks for, asked for the
-stretches that a file lists.bin tells. The answers that it must give are those of
+FOLDER has the cases that run_jiff.sh has answered. PROGRAM is out/test_replay_lists
+as `rt run` in crates/test_replay_lists builds it: our listing, which no query line
+asks for, asked for the stretches that a file lists.bin tells. The answers that it must give are those of
 real-list.txt, where the stand-in gives the same; the others are agree_jiff.py's
 concern. Prints the numbers, and ends with 1 if a listing differs.
 """

@@ -6,11 +6,11 @@ Usage: marks.py SEED COUNT PROGRAM
 Makes COUNT cases from SEED: books and packs of generate.py's families and of
 families with more changes of zones, and zone files, each with some questions and
 the answers of second.py. They go to files marks.bin, one after the other, in a new
-folder, where PROGRAM (test_replay_marks as the gate builds it) is run without
-arguments. A line of PROGRAM about a question whose answer differs is printed, the
-file of such cases is kept, and the command ends with 1. The last lines printed tell
-the marks asked for and all numbers. ZONEINFO tells where real zone files are (if not
-set /usr/share/zoneinfo).
+folder, where PROGRAM (out/test_replay_marks as `rt run` in crates/test_replay_marks
+builds it) is run without arguments. A line of PROGRAM about a question whose answer
+differs is printed, the file of such cases is kept, and the command ends with 1. The
+last lines printed tell the marks asked for and all numbers. ZONEINFO tells where real
+zone files are (if not set /usr/share/zoneinfo).
 
 In marks.bin a case is three numbers of 4 bytes, the lengths of its parts, and then
 the parts: book, pack, questions. A question is its kind, its length in bytes, the

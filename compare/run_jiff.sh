@@ -13,8 +13,9 @@
 #   JIFF      where jiff is, as jiff.sh unpacks it (if not set WORK/jiff)
 #   ZONEINFO  where real zone files are (if not set /usr/share/zoneinfo)
 #   PATIENCE  seconds for each run of an implementation on a case (600)
-#   LISTS     test_replay_lists as the gate builds it: then our listing too is
-#             held to that of the original over jiff (lists_jiff.py)
+#   LISTS     out/test_replay_lists as `rt run` in crates/test_replay_lists
+#             builds it: then our listing too is held to that of the original
+#             over jiff (lists_jiff.py)
 #
 # The answers are compared line by line but for the window count, which the
 # original does not report; the listing's with the stand-in's. All lines that

@@ -14,7 +14,7 @@ import sys
 from pathlib import Path
 
 ROOT = Path(__file__).resolve().parent.parent
-KIT = {"anyhow", "libc", "io", "os"}  # libraries of the toolchain
+KIT = {"anyhow"}  # libraries of the toolchain, beside std, which no line names
 WINGS = [
     "meaning", "laws", "base", "block", "zone", "book", "window", "walk", "build", "schedule", "part", "query", "clock", "test", "bench",
 ]  # fmt: skip
@@ -22,7 +22,7 @@ WING = {
     "model": "meaning", "number": "base", "mark": "base", "refusal": "base", "big_endian": "base", "instant": "base", "instant_signed": "base", "civil": "base",
     "directory": "base", "run_log": "base", "rule": "book", "answer_line": "query", "pieces": "base",
     "laws_answers": "part", "answer_numbers": "part", "query_numbers": "part", "query_numbers_c": "part", "hirgwamo": "part",
-    "model_ticket": "meaning", "ticket": "block", "ticket_marks": "block", "ticket_numbers": "part",
+    "model_ticket": "meaning", "ticket": "block", "ticket_marks": "block",
 }  # fmt: skip
 COLOURS = ["#4e79a7", "#b07aa1", "#59a14f", "#d37222", "#9c755f", "#2f8f8b", "#c23b52", "#6b6ecf", "#8c8c1a"]
 
@@ -45,7 +45,7 @@ def read_crates():
 
 def check(listed):
     """Stops where crates.txt and the folders do not agree."""
-    folders = {path.name for path in (ROOT / "crates").iterdir() if (path / "src").is_dir()}
+    folders = {path.name for path in (ROOT / "crates").iterdir() if any(path.glob("src/**/*.rt"))}
     wrong = [f"{name}: in crates.txt, and no folder" for name in listed if name not in folders]
     wrong += [f"{name}: a folder, and not in crates.txt" for name in sorted(folders) if name not in listed]
     wrong += [f"{name} rests on {need}, which crates.txt does not list" for name, needs in listed.items() for need in needs if need not in listed]
