@@ -169,5 +169,4 @@ class Calls:
             return answer.rpartition(" ")[0]
         if answer == "never":
             return "none"
-        # the nanoseconds of a change are none, and a local time's mark is no part of the common form
-        return answer if line.startswith("offset") else answer.rpartition(" ")[0]
+        return answer.rpartition(" ")[0] if line.startswith("change") else answer

@@ -1,10 +1,10 @@
 /* Hirgwamo, a working-hours clock: the functions that C can call.
  *
  * Every function is proved, for all inputs, to answer as its definition says, to read only inside the ends of what is lent to it, and to write only the
- * numbers that are told here (crates `hirgwamo` and `query_numbers` of the repository). Nothing is kept from one call to the next and nothing is allocated,
- * so any number of threads may call at once, each with answers of its own; books, packs, zone files, logs and queries may be shared.
+ * numbers that are told here (crates `hirgwamo`, `query_numbers` and `query_numbers_c` of the repository). Nothing is kept from one call to the next and
+ * nothing is allocated, so any number of threads may call at once, each with answers of its own; books, packs, zone files, logs and queries may be shared.
  *
- * Platform: x86-64 Linux, System V calling convention, with the C library's memcpy and memset.
+ * Platform: x86-64 Linux on processors with the instructions of x86-64-v2, System V calling convention, with the C library's memcpy and memset.
  *
  * WHO OWNS WHAT. All memory is the caller's. A call reads what is lent as `const`, writes to what is lent as `int64_t *`, and keeps no pointer to either
  * when it returns. `book` is a rule book and `pack` a zone pack, `file` one zone file (TZif); docs/FORMATS.md has their bytes. A `.._len` counts elements:

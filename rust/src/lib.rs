@@ -66,7 +66,8 @@
 //!
 //! # Platform
 //!
-//! The proved code is a static archive for x86-64 Linux, `libhirgwamo.a`. The
+//! The proved code is a static archive for x86-64 Linux (processors with the
+//! instructions of x86-64-v2), `libhirgwamo.a`. The
 //! build looks for it in the folder that the environment variable
 //! `HIRGWAMO_LIB_DIR` names, then in `target/part` of the repository, then where
 //! pkg-config tells.
