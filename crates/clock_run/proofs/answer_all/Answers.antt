@@ -10,7 +10,7 @@ pub loop-init : goal.loop-init
 loop-init g c = running-first _ _ _ _ c.begin-p.ensures
 
 pub returns-in-Err-clause-err : goal.returns-in-Err-clause-err
-returns-in-Err-clause-err g c = running-front _ _ _ _ _ _ c.loop.invariant
+returns-in-Err-clause-err g c = let front = running-front _ _ _ _ _ _ c.loop.invariant in search (rules, front)
 
 pub returns-in-Ok-write_all-clause-ok : goal.returns-in-Ok-write_all-clause-ok
 returns-in-Ok-write_all-clause-ok g c =

@@ -1,13 +1,13 @@
 -- `window_marks::start_within` meets its contract. Assumes nothing.
-use borrow.Author.Tests.{not-true, not-false}
-use mathlib.Core.Path.{sym, ◌∙◌}
+use Rattle.std.proofs.Common.{◌≡◌, ltb, true, sym, ◌∙◌}
+use borrow.Author.Tests.{not-false}
+use Rattle.instant.specs.Instant.{nanos}
 use Rattle.window_marks.proofs.start_within.Goals as goal
 
 pub returns-then-precedes : goal.returns-then-precedes
 returns-then-precedes c = rw (sym c.precedes.ensures ∙ c.if-precedes.true)
 
-pub returns-then-not-precedes : goal.returns-then-not-precedes
-returns-then-not-precedes c = rw (sym c.precedes.ensures ∙ c.if-precedes.false, sym c.precedes-2.ensures ∙ not-true _ c.if-not-precedes.true-raw)
-
 pub returns : goal.returns
-returns c = rw (sym c.precedes.ensures ∙ c.if-precedes.false, sym c.precedes-2.ensures ∙ not-false _ c.if-not-precedes.false-raw) c.start_by.ensures
+returns c =
+    let inside : ltb (nanos c.args.a.at) (nanos c.args.a.hi) ≡ true = sym c.precedes-2.ensures ∙ not-false _ c.if-not-precedes.false-raw in
+    rw (sym c.precedes.ensures ∙ c.if-precedes.false, inside) c.start_by.ensures
