@@ -20,65 +20,78 @@ fn digit(k: u64) -> u8
     b'0' + k as u8
 }
 
-// Writes one byte.
-fn put(out: &mut [u8], at: usize, byte: u8) -> usize
-    requires { at < length out.old }
-    ensures { Placed out.old out.new at result (byte ∷ []) }
-{
-    out[at] = byte;
-    at + 1
+// Lent memory, and the place in it where the next byte goes.
+#[derive(Drop)]
+struct Writer<'a> {
+    out: &'a mut [u8],
+    at: usize,
 }
 
-// Writes the digits of n.
-fn put_digits(out: &mut [u8], at: usize, n: u64) -> usize
-    requires { at + (most_digits + 1) ≤ length out.old }
-    ensures { PlacedIn most_digits out.old out.new at result (digits_from most_digits n []) }
-{
-    if n < 10 {
-        return put(out, at, digit(n));
+impl Writer<'_> {
+    // Writes one byte.
+    fn byte(&mut self, byte: u8)
+        requires { self.old.at < length self.old.out.now }
+        ensures text { Placed self.old.out.now self.new.out.now self.old.at self.new.at (byte ∷ []) }
+        ensures kept { length self.new.out.now ≡ length self.old.out.now }
+        ensures lent { self.new.out.ghost_name ≡ self.old.out.ghost_name }
+    {
+        self.out[self.at] = byte;
+        self.at += 1;
     }
-    let r = put_digits(out, at, n / 10);
-    put(out, r, digit(n % 10))
-}
 
-// Writes a space and n.
-fn put_size(out: &mut [u8], at: usize, n: u64) -> usize
-    requires { at + (most_digits + 2) ≤ length out.old }
-    ensures { PlacedIn (most_digits + 1) out.old out.new at result (shown (pos n)) }
-{
-    let a = put(out, at, b' ');
-    put_digits(out, a, n)
-}
-
-// Writes a space, a minus sign and n.
-fn put_minus(out: &mut [u8], at: usize, n: u64) -> usize
-    requires { at + (most_digits + 3) ≤ length out.old }
-    ensures { PlacedIn (most_digits + 2) out.old out.new at result (minus_text n) }
-{
-    let a = put(out, at, b' ');
-    let b = put(out, a, b'-');
-    put_digits(out, b, n)
-}
-
-// Writes a space and x.
-fn put_number(out: &mut [u8], at: usize, x: i64) -> usize
-    requires { at + (most_digits + 3) ≤ length out.old }
-    ensures { PlacedIn (most_digits + 2) out.old out.new at result (shown x) }
-{
-    let k = instant_signed::lift(x);
-    if k < HALF {
-        return put_minus(out, at, HALF - k);
+    // Writes the digits of n.
+    fn digits(&mut self, n: u64)
+        requires { self.old.at + (most_digits + 1) ≤ length self.old.out.now }
+        ensures text { PlacedIn most_digits self.old.out.now self.new.out.now self.old.at self.new.at (digits_from most_digits n []) }
+        ensures kept { length self.new.out.now ≡ length self.old.out.now }
+        ensures lent { self.new.out.ghost_name ≡ self.old.out.ghost_name }
+    {
+        if n < 10 {
+            self.byte(digit(n));
+            return;
+        }
+        self.digits(n / 10);
+        self.byte(digit(n % 10));
     }
-    put_size(out, at, k - HALF)
-}
 
-// Writes two letters.
-fn put_letters(out: &mut [u8], at: usize, a: u8, b: u8) -> usize
-    requires { at + 2 ≤ length out.old }
-    ensures { Placed out.old out.new at result (two a b []) }
-{
-    let e = put(out, at, a);
-    put(out, e, b)
+    // Writes a space and n.
+    fn size(&mut self, n: u64)
+        requires { self.old.at + (most_digits + 2) ≤ length self.old.out.now }
+        ensures text { PlacedIn (most_digits + 1) self.old.out.now self.new.out.now self.old.at self.new.at (shown (pos n)) }
+        ensures kept { length self.new.out.now ≡ length self.old.out.now }
+        ensures lent { self.new.out.ghost_name ≡ self.old.out.ghost_name }
+    {
+        self.byte(b' ');
+        self.digits(n);
+    }
+
+    // Writes a space and x.
+    fn number(&mut self, x: i64)
+        requires { self.old.at + (most_digits + 3) ≤ length self.old.out.now }
+        ensures text { PlacedIn (most_digits + 2) self.old.out.now self.new.out.now self.old.at self.new.at (shown x) }
+        ensures kept { length self.new.out.now ≡ length self.old.out.now }
+        ensures lent { self.new.out.ghost_name ≡ self.old.out.ghost_name }
+    {
+        let k = instant_signed::lift(x);
+        if k < HALF {
+            self.byte(b' ');
+            self.byte(b'-');
+            self.digits(HALF - k);
+            return;
+        }
+        self.size(k - HALF);
+    }
+
+    // Writes two letters.
+    fn letters(&mut self, a: u8, b: u8)
+        requires { self.old.at + 2 ≤ length self.old.out.now }
+        ensures text { Placed self.old.out.now self.new.out.now self.old.at self.new.at (two a b []) }
+        ensures kept { length self.new.out.now ≡ length self.old.out.now }
+        ensures lent { self.new.out.ghost_name ≡ self.old.out.ghost_name }
+    {
+        self.byte(a);
+        self.byte(b);
+    }
 }
 
 // Writes the answer of `between`, `add` or `sub`: seconds, nanoseconds and the number of windows that the call reports.
@@ -86,11 +99,13 @@ pub fn put_counted(out: &mut [u8], at: usize, sec: i64, ns: i64, windows: u64) -
     requires { at + longest ≤ length out.old }
     ensures { PlacedCounted out.old out.new at result sec ns windows }
 {
-    let a = put_letters(out, at, b'o', b'k');
-    let b = put_number(out, a, sec);
-    let c = put_number(out, b, ns);
-    let d = put_size(out, c, windows);
-    put(out, d, b'\n')
+    let mut w = Writer { out, at };
+    w.letters(b'o', b'k');
+    w.number(sec);
+    w.number(ns);
+    w.size(windows);
+    w.byte(b'\n');
+    w.at
 }
 
 // Writes the answer of `next` or `previous`: seconds and nanoseconds of start and end.
@@ -98,12 +113,14 @@ pub fn put_period(out: &mut [u8], at: usize, sec: i64, ns: i64, sec2: i64, ns2: 
     requires { at + longest ≤ length out.old }
     ensures { PlacedPeriod out.old out.new at result sec ns sec2 ns2 }
 {
-    let a = put_letters(out, at, b'o', b'k');
-    let b = put_number(out, a, sec);
-    let c = put_number(out, b, ns);
-    let d = put_number(out, c, sec2);
-    let e = put_number(out, d, ns2);
-    put(out, e, b'\n')
+    let mut w = Writer { out, at };
+    w.letters(b'o', b'k');
+    w.number(sec);
+    w.number(ns);
+    w.number(sec2);
+    w.number(ns2);
+    w.byte(b'\n');
+    w.at
 }
 
 // Writes a refusal: its number and its place.
@@ -111,10 +128,12 @@ pub fn put_refused(out: &mut [u8], at: usize, number: u64, place: u64) -> usize
     requires { at + longest ≤ length out.old }
     ensures { PlacedRefusal out.old out.new at result number place }
 {
-    let a = put_letters(out, at, b'n', b'o');
-    let b = put_size(out, a, number);
-    let c = put_size(out, b, place);
-    put(out, c, b'\n')
+    let mut w = Writer { out, at };
+    w.letters(b'n', b'o');
+    w.size(number);
+    w.size(place);
+    w.byte(b'\n');
+    w.at
 }
 
 // Writes the answer to a line that is no query.
@@ -122,6 +141,8 @@ pub fn put_bad(out: &mut [u8], at: usize) -> usize
     requires { at + longest ≤ length out.old }
     ensures { PlacedLine out.old out.new at result (text "bad\n") }
 {
-    let a = put_letters(out, at, b'b', b'a');
-    put_letters(out, a, b'd', b'\n')
+    let mut w = Writer { out, at };
+    w.letters(b'b', b'a');
+    w.letters(b'd', b'\n');
+    w.at
 }

@@ -4,7 +4,10 @@
 
 ghost use Rattle.std.specs.Prelude.{◌≡◌, [], ◌∷◌, ◌+◌, ◌^◌, ◌≤◌, ◌<◌, length};
 ghost use Rattle.model.specs.Answer.{gives, refuses};
+ghost use Rattle.refusal.specs.Refused.{number_of};
 ghost use Rattle.answer_numbers.specs.Outcomes.{written, answering, EndsAs};
+
+use refusal::Refused;
 
 // Returned where the call answers.
 pub const ANSWERED: u32 = 0;
@@ -12,80 +15,29 @@ pub const ANSWERED: u32 = 0;
 // Returned where the numbers lent for the answer are fewer than it needs.
 pub const TOO_SHORT: u32 = 100;
 
-// Gives one number.
-pub fn give_one(answer: &mut [i64], a: i64) -> u32
-    requires { 1 ≤ length answer.old }
-    ensures { EndsAs result answer.new (answering (gives («a» ∷ [])) answer.old) }
+// Writes numbers from `at` on.
+pub fn put<const N: usize>(out: &mut [i64], at: usize, numbers: [i64; N])
+    requires { at + N ≤ length out.old }
+    ensures { out.new ≡ written at numbers.entry out.old }
 {
-    answer[0] = a;
-    ANSWERED
+    out[at..at + N].copy_from_slice(&numbers);
 }
 
-// Gives two numbers.
-pub fn give_two(answer: &mut [i64], a: i64, b: i64) -> u32
-    requires { 2 ≤ length answer.old }
-    ensures { EndsAs result answer.new (answering (gives («a» ∷ «b» ∷ [])) answer.old) }
+// Gives an answer's numbers.
+pub fn give<const N: usize>(answer: &mut [i64], numbers: [i64; N]) -> u32
+    requires { N ≤ length answer.old }
+    ensures { EndsAs result answer.new (answering (gives numbers.entry) answer.old) }
 {
-    answer[0] = a;
-    answer[1] = b;
-    ANSWERED
-}
-
-// Gives three numbers.
-pub fn give_three(answer: &mut [i64], a: i64, b: i64, c: i64) -> u32
-    requires { 3 ≤ length answer.old }
-    ensures { EndsAs result answer.new (answering (gives («a» ∷ «b» ∷ «c» ∷ [])) answer.old) }
-{
-    answer[0] = a;
-    answer[1] = b;
-    answer[2] = c;
-    ANSWERED
-}
-
-// Gives four numbers.
-pub fn give_four(answer: &mut [i64], a: i64, b: i64, c: i64, d: i64) -> u32
-    requires { 4 ≤ length answer.old }
-    ensures { EndsAs result answer.new (answering (gives («a» ∷ «b» ∷ «c» ∷ «d» ∷ [])) answer.old) }
-{
-    answer[0] = a;
-    answer[1] = b;
-    answer[2] = c;
-    answer[3] = d;
-    ANSWERED
-}
-
-// Gives six numbers.
-pub fn give_six(answer: &mut [i64], a: i64, b: i64, c: i64, d: i64, e: i64, f: i64) -> u32
-    requires { 6 ≤ length answer.old }
-    ensures { EndsAs result answer.new (answering (gives («a» ∷ «b» ∷ «c» ∷ «d» ∷ «e» ∷ «f» ∷ [])) answer.old) }
-{
-    put_six(answer, 0, a, b, c, d, e, f);
+    put(answer, 0, numbers);
     ANSWERED
 }
 
 // Gives a refusal's place, and returns its number.
-pub fn refuse(answer: &mut [i64], number: u32, place: usize) -> u32
-    requires { (1 ≤ length answer.old) × (place < 2 ^ 63) }
-    ensures { EndsAs result answer.new (answering (refuses number place) answer.old) }
+#[tactic(auto, unfolding(crate::specs::Outcomes::written))]
+pub fn refuse(answer: &mut [i64], r: Refused) -> u32
+    requires { (1 ≤ length answer.old) × (r.place < 2 ^ 63) }
+    ensures { EndsAs result answer.new (answering (refuses (number_of r.refusal) r.place) answer.old) }
 {
-    answer[0] = place as i64;
-    number
-}
-
-// Writes six numbers from `at` on.
-pub fn put_six(out: &mut [i64], at: usize, a: i64, b: i64, c: i64, d: i64, e: i64, f: i64)
-    requires { at + 6 ≤ length out.old }
-    ensures { out.new ≡ written at («a» ∷ «b» ∷ «c» ∷ «d» ∷ «e» ∷ «f» ∷ []) out.old }
-{
-    let i = at + 1;
-    let j = i + 1;
-    let k = j + 1;
-    let l = k + 1;
-    let m = l + 1;
-    out[at] = a;
-    out[i] = b;
-    out[j] = c;
-    out[k] = d;
-    out[l] = e;
-    out[m] = f;
+    answer[0] = r.place as i64;
+    r.refusal.number()
 }

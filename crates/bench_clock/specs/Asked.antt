@@ -1,5 +1,5 @@
 -- What the functions that are timed leave in the lent numbers, by the definitions of the calls.
-use Rattle.std.specs.Prelude.{◌≡◌, Bool, List, [], ◌∷◌, ℕ, zero, suc, ◌+◌, ◌/◌, eqb, ltb, ℤ, pos, length, get_or, set, take, if◌then◌else◌}
+use Rattle.std.specs.Prelude.{◌≡◌, Bool, List, [], ◌∷◌, ℕ, zero, suc, ◌+◌, ◌/◌, eqb, ltb, ℤ, pos, length, get_or, set, take, Result, if◌then◌else◌}
 use Rattle.model.specs.Answer.{Answer, gives, refuses}
 use Rattle.model.specs.Build.{build}
 use Rattle.model.specs.Calls.{between_call, move_call, period_call, list_call, said, numbers_after}
@@ -11,14 +11,16 @@ use Rattle.rule.specs.Rules.{schedule_is}
 use Rattle.rule.specs.declared.Schedule as rule
 use Rattle.walk_distance.specs.Distances.{way_of}
 use Rattle.answer_numbers.specs.Outcomes.{written}
-use Rattle.bench_clock.specs.declared.AnyAnswer.{AnyAnswer}
-use Rattle.bench_clock.specs.declared.AnyAnswer.TheVariants as T
+use Rattle.refusal.specs.Answered.{answer_of}
+use Rattle.refusal.specs.declared.Refused.{Refused}
 
--- the numbers of an answer
-abbrev pub reply_is : AnyAnswer → Answer (List ℤ)
-reply_is (T.Two a b) = gives (a ∷ b ∷ [])
-reply_is (T.Four a b c d) = gives (a ∷ b ∷ c ∷ d ∷ [])
-reply_is (T.Refused n p) = refuses n p
+-- the numbers themselves
+abbrev pub numbers_are : List ℤ → List ℤ
+numbers_are l = l
+
+-- the numbers of an answer, or the number and place of its refusal
+abbrev pub reply_is : Result (List ℤ) Refused → Answer (List ℤ)
+reply_is r = answer_of numbers_are r
 
 -- the answer to a question, by its kind
 unfoldable pub answer_of_kind : ℕ → Schedule → ℤ → ℤ → ℤ → ℤ → Answer (List ℤ)
@@ -36,7 +38,7 @@ written_at i (refuses n p) e = set e i (pos n)
 -- the question at i with its answer in its place
 unfoldable pub with_answer : ℕ → Schedule → ℕ → List ℤ → List ℤ
 with_answer kind s i e =
-    written_at i (answer_of_kind kind s (get_or e i (pos 0)) (get_or e (i + 1) (pos 0)) (get_or e (i + 1 + 1) (pos 0)) (get_or e (i + 1 + 1 + 1) (pos 0))) e
+    written_at i (answer_of_kind kind s (get_or e i (pos 0)) (get_or e (i + 1) (pos 0)) (get_or e (i + 2) (pos 0)) (get_or e (i + 3) (pos 0))) e
 
 -- so many questions from i on, one after the other
 unfoldable pub groups_from : ℕ → Schedule → ℕ → ℕ → List ℤ → List ℤ
@@ -77,20 +79,16 @@ at_front r e = if ltb (length e) 4 then e else written_at 0 r e
 
 -- ---- what each function promises
 
--- r is the answer to a question, by its kind
-abbrev pub IsAnswer : List ℕ → List ℕ → rule.Schedule → ℕ → ℤ → ℤ → ℤ → ℤ → AnyAnswer → Type 0
-IsAnswer book pack s kind a b c d r = reply_is r ≡ answer_of_kind kind (schedule_is book pack s) a b c d
-
 -- r is the answer of `between`
-abbrev pub IsTime : List ℕ → List ℕ → rule.Schedule → ℤ → ℤ → ℤ → ℤ → AnyAnswer → Type 0
+abbrev pub IsTime : List ℕ → List ℕ → rule.Schedule → ℤ → ℤ → ℤ → ℤ → Result (List ℤ) Refused → Type 0
 IsTime book pack s a b c d r = reply_is r ≡ said (between_call (schedule_is book pack s) a b c d)
 
 -- r is the answer of `add` or `sub`
-abbrev pub IsMove : List ℕ → List ℕ → rule.Schedule → Bool → ℤ → ℤ → ℤ → ℤ → AnyAnswer → Type 0
+abbrev pub IsMove : List ℕ → List ℕ → rule.Schedule → Bool → ℤ → ℤ → ℤ → ℤ → Result (List ℤ) Refused → Type 0
 IsMove book pack s is_back a b c d r = reply_is r ≡ said (move_call (way_of is_back) (schedule_is book pack s) a b c d)
 
 -- r is the next or the previous period
-abbrev pub IsPeriod : List ℕ → List ℕ → rule.Schedule → Bool → ℤ → ℤ → AnyAnswer → Type 0
+abbrev pub IsPeriod : List ℕ → List ℕ → rule.Schedule → Bool → ℤ → ℤ → Result (List ℤ) Refused → Type 0
 IsPeriod book pack s is_back a b r = reply_is r ≡ said (period_call (way_of is_back) (schedule_is book pack s) a b)
 
 -- the question at i has its answer in its place
@@ -114,7 +112,7 @@ abbrev pub ListsOf : List ℕ → List ℕ → ℕ → ℤ → ℤ → ℤ → �
 ListsOf book pack times a b c d old new = new ≡ listed_of times (build book pack) a b c d old
 
 -- r is the hardest stretch of a log
-abbrev pub IsHardest : List ℕ → List ℕ → ℤ → ℤ → List ℤ → ℤ → AnyAnswer → Type 0
+abbrev pub IsHardest : List ℕ → List ℕ → ℤ → ℤ → List ℤ → ℤ → Result (List ℤ) Refused → Type 0
 IsHardest book pack a b log width r = reply_is r ≡ said (hardest book pack a b log width)
 
 -- the first lent numbers are

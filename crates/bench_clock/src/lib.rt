@@ -6,35 +6,31 @@
 ghost use Rattle.std.specs.Prelude.{◌≡◌, ◌+◌, ◌≤◌, length};
 ghost use Rattle.rule.specs.Rules.{ScheduleFits};
 ghost use Rattle.laws_base.specs.Mapped.{Mapped};
-ghost use Rattle.bench_clock.specs.Asked.{reply_is, written_at, limit_of, IsAnswer, IsTime, IsMove, IsPeriod, AnsweredAt, AllAnswered, BookAnswered, ListsOften, ListsOf};
+ghost use Rattle.bench_clock.specs.Asked.{reply_is, written_at, limit_of, IsTime, IsMove, IsPeriod, AnsweredAt, AllAnswered, BookAnswered, ListsOften, ListsOf};
 ghost use Rattle.bench_clock.specs.Asked.{IsHardest, HardestWritten};
 
+use refusal::Refused;
 use rule::Schedule;
-use schedule::{MoveAnswer, TimeAnswer};
-use schedule_hardest::HardestAnswer;
-use schedule_periods::MarkedPeriodAnswer;
 
 // The numbers of a question, and the most of an answer.
 const GROUP_SIZE: usize = 4;
 
-// An answer: two numbers, four, or a refusal's number and place.
-#[derive(Clone, Copy)]
-pub enum AnyAnswer {
-    Two(i64, i64),
-    Four(i64, i64, i64, i64),
-    Refused(u32, usize),
-}
-
 // ---- answers
 
-fn time(book: &[u8], pack: &[u8], s: Schedule, a: i64, b: i64, c: i64, d: i64) -> AnyAnswer
+fn time(
+    book: &[u8],
+    pack: &[u8],
+    s: Schedule,
+    a: i64,
+    b: i64,
+    c: i64,
+    d: i64,
+) -> Result<[i64; 2], Refused>
     requires { ScheduleFits book.now pack.now s }
     ensures { IsTime book.now pack.now s a b c d result }
 {
-    match schedule::between_in(book, pack, s, a, b, c, d) {
-        TimeAnswer::Is(sec, ns, _) => AnyAnswer::Two(sec, ns),
-        TimeAnswer::Refused(number, place) => AnyAnswer::Refused(number, place),
-    }
+    let x = schedule::between_in(book, pack, s, a, b, c, d)?;
+    Ok([x.secs, x.nanos])
 }
 
 fn moved(
@@ -46,87 +42,60 @@ fn moved(
     b: i64,
     c: i64,
     d: i64,
-) -> AnyAnswer
+) -> Result<[i64; 2], Refused>
     requires { ScheduleFits book.now pack.now s }
     ensures { IsMove book.now pack.now s back a b c d result }
 {
-    match schedule::move_in(book, pack, s, back, a, b, c, d) {
-        MoveAnswer::At(sec, ns, _) => AnyAnswer::Two(sec, ns),
-        MoveAnswer::Refused(number, place) => AnyAnswer::Refused(number, place),
-    }
+    let x = schedule::move_in(book, pack, s, back, a, b, c, d)?;
+    Ok([x.secs, x.nanos])
 }
 
 // The marks of a period are looked for, as the calls do, and left out.
-fn period(book: &[u8], pack: &[u8], s: Schedule, back: bool, a: i64, b: i64) -> AnyAnswer
-    requires { ScheduleFits book.now pack.now s }
-    ensures { IsPeriod book.now pack.now s back a b result }
-{
-    match schedule_periods::marked_period_in(book, pack, s, back, a, b) {
-        MarkedPeriodAnswer::Is(p, q, x, y, _, _) => AnyAnswer::Four(p, q, x, y),
-        MarkedPeriodAnswer::Refused(number, place) => AnyAnswer::Refused(number, place),
-    }
-}
-
-// The answer to one question: kind 0 is between, 1 add, 2 sub, 3 the next period, any other the previous one. Periods do not look at c and d.
-fn answer(
+fn period(
     book: &[u8],
     pack: &[u8],
     s: Schedule,
-    kind: u8,
+    back: bool,
     a: i64,
     b: i64,
-    c: i64,
-    d: i64,
-) -> AnyAnswer
+) -> Result<[i64; 4], Refused>
     requires { ScheduleFits book.now pack.now s }
-    ensures { IsAnswer book.now pack.now s kind a b c d result }
+    ensures { IsPeriod book.now pack.now s back a b result }
 {
-    if kind == 0 {
-        return time(book, pack, s, a, b, c, d);
-    }
-    if kind < 3 {
-        return moved(book, pack, s, kind != 1, a, b, c, d);
-    }
-    period(book, pack, s, kind != 3, a, b)
+    let x = schedule_periods::marked_period_in(book, pack, s, back, a, b)?;
+    let p = x.period;
+    Ok([p.start.sec, p.start.ns, p.end.sec, p.end.ns])
 }
 
-// Writes an answer's two or four numbers from i on; of a refusal its number.
-fn put(xs: &mut [i64], i: usize, r: AnyAnswer)
-    requires { i + 4 ≤ length xs.old }
-    ensures { xs.new ≡ written_at i (reply_is r) xs.old }
+// Writes an answer's numbers from i on; of a refusal its number.
+fn put<const N: usize>(xs: &mut [i64], i: usize, r: Result<[i64; N], Refused>)
+    requires { (1 ≤ N) × (i + N ≤ length xs.old) }
+    ensures { xs.new ≡ written_at i (reply_is r.entry) xs.old }
 {
     match r {
-        AnyAnswer::Two(p, q) => {
-            let j = i + 1;
-            xs[i] = p;
-            xs[j] = q;
-            return;
-        }
-        AnyAnswer::Four(p, q, x, y) => {
-            let j = i + 1;
-            let k = j + 1;
-            let l = k + 1;
-            xs[i] = p;
-            xs[j] = q;
-            xs[k] = x;
-            xs[l] = y;
-            return;
-        }
-        AnyAnswer::Refused(number, _) => {
-            xs[i] = number as i64;
-        }
+        Ok(numbers) => answer_numbers::put(xs, i, numbers),
+        Err(refused) => xs[i] = i64::from(refused.refusal.number()),
     }
 }
 
-// Answers the question whose four numbers begin at i, in their place.
+// Answers the question whose four numbers begin at i, in their place: kind 0 is between, 1 add, 2 sub, 3 the next period, any other the previous one.
+// Periods do not look at the last two numbers.
 fn answer_one(book: &[u8], pack: &[u8], s: Schedule, kind: u8, xs: &mut [i64], i: usize)
     requires { ScheduleFits book.now pack.now s × (i + 4 ≤ length xs.old) }
     ensures { AnsweredAt book.now pack.now s kind i xs.old xs.new }
 {
     let j = i + 1;
-    let k = j + 1;
-    let l = k + 1;
-    let r = answer(book, pack, s, kind, xs[i], xs[j], xs[k], xs[l]);
+    let k = i + 2;
+    let l = i + 3;
+    if kind == 0 {
+        let r = time(book, pack, s, xs[i], xs[j], xs[k], xs[l]);
+        return put(xs, i, r);
+    }
+    if kind < 3 {
+        let r = moved(book, pack, s, kind != 1, xs[i], xs[j], xs[k], xs[l]);
+        return put(xs, i, r);
+    }
+    let r = period(book, pack, s, kind != 3, xs[i], xs[j]);
     put(xs, i, r);
 }
 
@@ -134,12 +103,8 @@ fn answer_all(book: &[u8], pack: &[u8], s: Schedule, kind: u8, xs: &mut [i64])
     requires { ScheduleFits book.now pack.now s }
     ensures { AllAnswered book.now pack.now s kind xs.old xs.new }
 {
-    let mut i: usize = 0;
-    let mut left = xs.len() / GROUP_SIZE;
-    while 0 < left {
-        answer_one(book, pack, s, kind, xs, i);
-        i += GROUP_SIZE;
-        left -= 1;
+    for k in 0..xs.len() / GROUP_SIZE {
+        answer_one(book, pack, s, kind, xs, GROUP_SIZE * k);
     }
 }
 
@@ -148,11 +113,9 @@ fn answer_all(book: &[u8], pack: &[u8], s: Schedule, kind: u8, xs: &mut [i64])
 pub extern "C" fn bench_clock_answers(book: &[u8], pack: &[u8], kind: u8, xs: &mut [i64])
     ensures { BookAnswered book.now pack.now kind xs.old xs.new }
 {
-    let b = build::build(book, pack);
-    if b.number != 0 {
+    let Ok(s) = build::build(book, pack) else {
         return;
-    }
-    let s = b.schedule;
+    };
     answer_all(book, pack, s, kind, xs);
 }
 
@@ -162,12 +125,10 @@ pub extern "C" fn bench_clock_answers(book: &[u8], pack: &[u8], kind: u8, xs: &m
 fn limit(book: &[u8], pack: &[u8], n: u64) -> u64
     ensures { result ≡ limit_of book.now pack.now n }
 {
-    let r = build::build(big_endian::part(book, 0, n as usize), pack);
-    if r.number != 0 {
-        return r.number as u64;
+    match build::build(big_endian::part(book, 0, n as usize), pack) {
+        Ok(s) => s.limit,
+        Err(r) => u64::from(r.refusal.number()),
     }
-    let s = r.schedule;
-    s.limit
 }
 
 // Builds once for each of the numbers, which are lengths of the book, and puts the search limits in their place.
@@ -175,10 +136,8 @@ fn limit(book: &[u8], pack: &[u8], n: u64) -> u64
 pub extern "C" fn bench_clock_builds(book: &[u8], pack: &[u8], xs: &mut [u64])
     ensures { Mapped (limit_of book.now pack.now) xs.old xs.new }
 {
-    let mut i: usize = 0;
-    while i < xs.len() {
-        xs[i] = limit(book, pack, xs[i]);
-        i += 1;
+    for x in xs.iter_mut() {
+        *x = limit(book, pack, *x);
     }
 }
 
@@ -198,10 +157,8 @@ fn lists(
     requires { ScheduleFits book.now pack.now s }
     ensures { ListsOften book.now pack.now s n a b c d out.old out.new }
 {
-    let mut left = n;
-    while 0 < left {
-        schedule_listing::list_in(book, pack, s, a, b, c, d, out);
-        left -= 1;
+    for k in 0..n {
+        let _ = schedule_listing::list_in(book, pack, s, a, b, c, d, out);
     }
 }
 
@@ -219,23 +176,26 @@ pub extern "C" fn bench_clock_lists(
 )
     ensures { ListsOf book.now pack.now times a b c d out.old out.new }
 {
-    let r = build::build(book, pack);
-    if r.number != 0 {
+    let Ok(s) = build::build(book, pack) else {
         return;
-    }
-    let s = r.schedule;
+    };
     lists(book, pack, s, times, a, b, c, d, out);
 }
 
 // ---- the hardest stretch of a log
 
-fn hardest(book: &[u8], pack: &[u8], a: i64, b: i64, log: &[i64], width: i64) -> AnyAnswer
+fn hardest(
+    book: &[u8],
+    pack: &[u8],
+    a: i64,
+    b: i64,
+    log: &[i64],
+    width: i64,
+) -> Result<[i64; 4], Refused>
     ensures { IsHardest book.now pack.now a b log.now width result }
 {
-    match schedule_hardest::hardest(book, pack, a, b, log, width) {
-        HardestAnswer::Is(p, q, x, y) => AnyAnswer::Four(p, q, x, y),
-        HardestAnswer::Refused(number, place) => AnyAnswer::Refused(number, place),
-    }
+    let x = schedule_hardest::hardest(book, pack, a, b, log, width)?;
+    Ok([x.time.secs, x.time.nanos, x.start.sec, x.start.ns])
 }
 
 // Writes the hardest stretch of a log to the first four lent numbers, or its refusal's number to the first. Fewer than four stay as they are.
@@ -255,6 +215,5 @@ pub extern "C" fn bench_clock_hardest(
     if out.len() < GROUP_SIZE {
         return;
     }
-    let r = hardest(book, pack, a, b, log, width);
-    put(out, 0, r);
+    put(out, 0, hardest(book, pack, a, b, log, width));
 }

@@ -12,9 +12,11 @@ use Rattle.model.specs.Answer.{Answer}
 use Rattle.model.specs.Blocks.{total}
 use Rattle.model.specs.Instant.{second, first_second, week_seconds}
 use Rattle.model.specs.Working.{Schedule, working}
-use Rattle.build.specs.Read.{answer_is}
-use Rattle.build.specs.declared.Built.{Built}
+use Rattle.std.specs.Prelude.{Ok, Err}
+use Rattle.refusal.specs.declared.Refused.{Refused}
+use Rattle.refusal.specs.Answered.{answer_of}
 use Rattle.rule.specs.Rules.{schedule_is}
+use Rattle.rule.specs.declared.Schedule.{Schedule as Code}
 use Rattle.bench_week.specs.Weeks.{last_week, week_in, weeks_of}
 use Rattle.laws_base.specs.Mapped.{Mapped, unchanged}
 
@@ -39,9 +41,9 @@ module _ (s : Schedule) {x : ℕ} where
 
 -- ---- the book
 
-module _ (book pack : List ℕ) (r : Built) {d : Answer Schedule} (e : answer_is book pack r ≡ d) where
-  pub weeks-all : {a b : List ℕ} → r.number ≡ 0 → Mapped (week_in (schedule_is book pack r.schedule)) a b → Mapped (weeks_of d) a b
-  weeks-all z q = rw (← e, eq-eqb r.number 0 z) q
+module _ (book pack : List ℕ) {d : Answer Schedule} where
+  pub weeks-all : (s : Code) → answer_of (schedule_is book pack) (Ok s) ≡ d → {a b : List ℕ} → Mapped (week_in (schedule_is book pack s)) a b → Mapped (weeks_of d) a b
+  weeks-all s e q = rw (← e) q
 
-  pub weeks-none : (a : List ℕ) → (r.number ≡ 0 → ⊥) → Mapped (weeks_of d) a a
-  weeks-none a z = rw (← e, ne_eqb r.number 0 z) (unchanged a)
+  pub weeks-none : (x : Refused) → answer_of (schedule_is book pack) (Err x) ≡ d → (a : List ℕ) → Mapped (weeks_of d) a a
+  weeks-none x e a = rw (← e) (unchanged a)

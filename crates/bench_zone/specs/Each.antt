@@ -1,5 +1,5 @@
 -- What the functions for C say: a number for each number, in its place.
-use Rattle.std.specs.Prelude.{◌≡◌, List, ℕ, ◌<◌, ltb, leb, length, get_or}
+use Rattle.std.specs.Prelude.{ℕ, ltb, leb}
 use Rattle.std.proofs.Math.Option.{Option, none, some}
 use Rattle.big_endian.specs.Walk.{pick_n}
 use Rattle.model.specs.Tzif.{Zone}

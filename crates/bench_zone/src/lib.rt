@@ -8,32 +8,30 @@ ghost use Rattle.zone.specs.Zones.{zone_is, ZoneOk};
 ghost use Rattle.bench_zone.specs.Each.{second_in, offset_asked, seconds_of, offsets_of};
 ghost use Rattle.laws_base.specs.Mapped.{Mapped};
 
-use zone::{Zone, ZoneRead};
+use zone::Zone;
 
 // The second of one local second, and 0 for one that cannot be asked for.
+#[tactic(auto, unfolding(crate::specs::Each::second_in))]
 fn second(f: &[u8], z: Zone, x: u64) -> u64
     requires { ZoneOk f.now z }
     ensures { result ≡ second_in (zone_is f.now z) x }
 {
-    if x < zone::FIRST_LOCAL {
-        return 0;
-    }
-    if x >= zone::YEARS_END {
+    if x < zone::FIRST_LOCAL || zone::YEARS_END <= x {
         return 0;
     }
     zone::second_of(f, z, x)
 }
 
 // The offset at one second, and 0 at one that cannot be asked for.
+#[tactic(auto, unfolding(crate::specs::Each::offset_asked))]
 fn offset(f: &[u8], z: Zone, u: u64) -> u64
     requires { ZoneOk f.now z }
     ensures { result ≡ offset_asked (zone_is f.now z) u }
 {
-    if u >= zone::YEARS_END {
+    if zone::YEARS_END <= u {
         return 0;
     }
-    let r = zone::run_at(f, z, u);
-    r.offset as u64
+    u64::from(zone::run_at(f, z, u).offset)
 }
 
 // Puts the second of each local second in its place.
@@ -41,10 +39,8 @@ fn seconds(f: &[u8], z: Zone, xs: &mut [u64])
     requires { ZoneOk f.now z }
     ensures { Mapped (second_in (zone_is f.now z)) xs.old xs.new }
 {
-    let mut i: usize = 0;
-    while i < xs.len() {
-        xs[i] = second(f, z, xs[i]);
-        i += 1;
+    for x in xs.iter_mut() {
+        *x = second(f, z, *x);
     }
 }
 
@@ -53,10 +49,8 @@ fn offsets(f: &[u8], z: Zone, us: &mut [u64])
     requires { ZoneOk f.now z }
     ensures { Mapped (offset_asked (zone_is f.now z)) us.old us.new }
 {
-    let mut i: usize = 0;
-    while i < us.len() {
-        us[i] = offset(f, z, us[i]);
-        i += 1;
+    for x in us.iter_mut() {
+        *x = offset(f, z, *x);
     }
 }
 
@@ -65,7 +59,7 @@ fn offsets(f: &[u8], z: Zone, us: &mut [u64])
 pub extern "C" fn bench_zone_seconds(f: &[u8], xs: &mut [u64])
     ensures { Mapped (seconds_of (zone_of f.now)) xs.old xs.new }
 {
-    let ZoneRead::Opened(z) = zone::open(f) else {
+    let Some(z) = zone::open(f) else {
         return;
     };
     seconds(f, z, xs);
@@ -76,7 +70,7 @@ pub extern "C" fn bench_zone_seconds(f: &[u8], xs: &mut [u64])
 pub extern "C" fn bench_zone_offsets(f: &[u8], us: &mut [u64])
     ensures { Mapped (offsets_of (zone_of f.now)) us.old us.new }
 {
-    let ZoneRead::Opened(z) = zone::open(f) else {
+    let Some(z) = zone::open(f) else {
         return;
     };
     offsets(f, z, us);

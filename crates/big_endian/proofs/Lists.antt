@@ -1,9 +1,8 @@
 -- The numbers of specs/Be.antt, which are read at an index, are those of the crate `model`, which are read from the front of what is left of a list.
-use Rattle.std.specs.Prelude.{if◌then◌else◌}
 use mathlib.Core.Path.{◌≡◌, refl, sym, ap, ◌∙◌}
-use mathlib.Core.Bool.{Bool, true, false}
+use mathlib.Core.Bool.{Bool}
 use mathlib.Core.List.{List, [], ◌∷◌, ◌++◌}
-use Prim.Native.Nat.{ℕ, zero, suc, suc-le-suc, ◌+◌, ◌*◌, ◌-◌, ◌≤◌, ◌<◌}
+use Prim.Native.Nat.{ℕ, zero, suc, suc-le-suc, ◌+◌, ◌*◌, ◌≤◌, ◌<◌}
 use native.Mathlib.Nat.{le_of_suc-le-suc, not-suc-le-zero, mul-zero, mul-suc, add_comm}
 use native.Mathlib.Numerals.{add-one}
 use native.Mathlib.Omega.{arith}
@@ -13,7 +12,7 @@ use Rattle.model.specs.Bytes.{number_from, be, words, pieces}
 use Rattle.model.specs.Basic.{all}
 use Rattle.laws_base.specs.Test.{by-test}
 use Rattle.big_endian.specs.Be.{be16, be32, be64}
-use Rattle.big_endian.specs.Walk.{both, all_from}
+use Rattle.big_endian.specs.Walk.{all_from}
 
 -- one byte more
 number_more : (s : List ℕ) (i v n : ℕ) → i < length s → number_from v (take (suc n) (drop i s)) ≡ number_from (v * 256 + get_or s i 0) (take n (drop (i + 1) s))

@@ -1,7 +1,8 @@
 -- Laws of the definitions of specs/Walk.antt: one step of a loop, and what a test of all indices says of one.
 use mathlib.Core.Path.{◌≡◌, refl, sym, subst}
-use mathlib.Core.Bool.{Bool, true, false}
-use mathlib.Core.Logic.{◌⊎◌, ⊎_elim}
+use mathlib.Core.Bool.{Bool, true, false, ◌&&◌}
+use Rattle.std.specs.List.{list_all, range_with_len}
+use mathlib.Core.Logic.{⊎_elim}
 use Prim.Native.Nat.{ℕ, zero, suc, ◌+◌, ◌-◌, ◌≤◌, ◌<◌}
 use native.Mathlib.Nat.{le_of_suc-le-suc, eq-or-lt_of_le, not-suc-le-zero, add-zero}
 use native.Mathlib.Numerals.{add-one}
@@ -141,3 +142,13 @@ unfolding span_from
 span-end t {i} {n} h inv =
     let e : n - i ≡ 0 = omega arith in
     (rw e at inv)
+
+-- a test of all numbers of a range is a test of all its indices
+pub all-range : (t : ℕ → Bool) (i n : ℕ) → list_all t (range_with_len i n) ≡ all_from t i n
+unfolding all_from
+all-range t i zero = refl
+all-range t i (suc n) = go (t i) (all-range t (i + 1) n)
+  where
+    go : (b : Bool) → list_all t (range_with_len (i + 1) n) ≡ all_from t (i + 1) n → (b && list_all t (range_with_len (i + 1) n)) ≡ both b (all_from t (i + 1) n)
+    go true e = e
+    go false e = refl

@@ -15,27 +15,22 @@ pub const FOUR_BYTES: u64 = 4294967296;
 pub fn byte_at(s: &[u8], i: usize) -> u8
     ensures { result ≡ get_or s.now i 0 }
 {
-    if i < s.len() { s[i] } else { 0 }
+    s.get(i).copied().unwrap_or(0)
 }
 
 // The byte at i as a size.
 pub fn small_at(s: &[u8], i: usize) -> usize
     ensures { (result ≡ get_or s.now i 0) × (result < 256) }
 {
-    number::byte_to_u32(byte_at(s, i)) as usize
+    usize::from(byte_at(s, i))
 }
 
 // At most n bytes from a on: what is there of them.
 pub fn part(s: &[u8], a: usize, n: usize) -> &[u8]
     ensures { result.now ≡ take n (drop a s.now) }
 {
-    if a > s.len() {
-        return &s[..0];
-    }
-    if n > s.len() - a {
-        return &s[a..];
-    }
-    &s[a..a + n]
+    let rest = s.get(a..).unwrap_or_default();
+    rest.get(..n).unwrap_or(rest)
 }
 
 // The number of two bytes at i.
@@ -45,7 +40,7 @@ pub fn be16_at(s: &[u8], i: usize) -> u32
     if i >= s.len() {
         return 0;
     }
-    number::byte_to_u32(byte_at(s, i)) * 256 + number::byte_to_u32(byte_at(s, i + 1))
+    u32::from(u16::from_be_bytes([byte_at(s, i), byte_at(s, i + 1)]))
 }
 
 // The number of four bytes at i, all of which are there.
@@ -53,10 +48,7 @@ pub fn four_at(s: &[u8], i: usize) -> u32
     requires { i + 4 ≤ length s.now }
     ensures { result ≡ be32 s.now i }
 {
-    ((number::byte_to_u32(s[i]) * 256 + number::byte_to_u32(s[i + 1])) * 256
-        + number::byte_to_u32(s[i + 2]))
-        * 256
-        + number::byte_to_u32(s[i + 3])
+    u32::from_be_bytes([s[i], s[i + 1], s[i + 2], s[i + 3]])
 }
 
 // The number of four bytes at i.
@@ -69,17 +61,19 @@ pub fn be32_at(s: &[u8], i: usize) -> u32
     if s.len() - i >= 4 {
         return four_at(s, i);
     }
-    ((number::byte_to_u32(byte_at(s, i)) * 256 + number::byte_to_u32(byte_at(s, i + 1))) * 256
-        + number::byte_to_u32(byte_at(s, i + 2)))
-        * 256
-        + number::byte_to_u32(byte_at(s, i + 3))
+    u32::from_be_bytes([
+        byte_at(s, i),
+        byte_at(s, i + 1),
+        byte_at(s, i + 2),
+        byte_at(s, i + 3),
+    ])
 }
 
 // The number of four bytes at i as a size.
 pub fn size_at(s: &[u8], i: usize) -> usize
     ensures { (result ≡ be32 s.now i) × (result < four_bytes) }
 {
-    number::u32_to_u64(be32_at(s, i)) as usize
+    be32_at(s, i) as usize
 }
 
 // The number of eight bytes at i, all of which are there.
@@ -87,7 +81,16 @@ pub fn eight_at(s: &[u8], i: usize) -> u64
     requires { i + 8 ≤ length s.now }
     ensures { result ≡ be64 s.now i }
 {
-    number::u32_to_u64(four_at(s, i)) * FOUR_BYTES + number::u32_to_u64(four_at(s, i + 4))
+    u64::from_be_bytes([
+        s[i],
+        s[i + 1],
+        s[i + 2],
+        s[i + 3],
+        s[i + 4],
+        s[i + 5],
+        s[i + 6],
+        s[i + 7],
+    ])
 }
 
 // The number of eight bytes at i.
@@ -100,5 +103,5 @@ pub fn be64_at(s: &[u8], i: usize) -> u64
     if s.len() - i >= 8 {
         return eight_at(s, i);
     }
-    number::u32_to_u64(be32_at(s, i)) * FOUR_BYTES + number::u32_to_u64(be32_at(s, i + 4))
+    u64::from(be32_at(s, i)) * FOUR_BYTES + u64::from(be32_at(s, i + 4))
 }

@@ -1,15 +1,18 @@
-// The list of the marked blocks of one rule: an array of blocks with its own count, by value. A block is its start and its end, the end excluded, each an instant
+// The list of the marked blocks of one rule: a vector of a fixed capacity, by value. A block is its start and its end, the end excluded, each an instant
 // with its mark. And what blocks show around an instant u: whether they hold it and the one before it, and which marks their starts and ends there have.
 #![tactic(auto)]
 
-ghost use Rattle.std.specs.Prelude.{◌≡◌, ◌||◌, [], ℕ, ◌≤◌, max, eqb, if◌then◌else◌};
+ghost use Rattle.std.specs.Prelude.{◌≡◌, [], ℕ, map, eqb, if◌then◌else◌};
 ghost use Rattle.model.specs.Marks.{plain};
 ghost use Rattle.laws_marks.specs.Around as marks;
 ghost use Rattle.laws_marks.specs.AroundLaws.{both_around, around_block};
 ghost use Rattle.instant.specs.Instant.{nanos};
-ghost use Rattle.block_marked.specs.Marked.{most_marked, marked_is, marked_list, around_is, SidesOf, BothSides};
+ghost use Rattle.mark.specs.Marks.{mark_number};
+ghost use Rattle.block_marked.specs.Marked.{marked_is, around_is, SidesOf, BothSides};
 
+use arrayvec::ArrayVec;
 use instant::Instant;
+use mark::Mark;
 
 // How many blocks a list holds: 14 days show a rule at most 21 dates.
 pub const CAPACITY: usize = 21;
@@ -19,16 +22,24 @@ pub const CAPACITY: usize = 21;
 pub struct MarkedBlock {
     pub start: Instant,
     pub end: Instant,
-    pub start_mark: u32,
-    pub end_mark: u32,
+    pub start_mark: Mark,
+    pub end_mark: Mark,
 }
 
-// The first `len` items are the list.
-#[derive(Clone, Copy)]
-pub struct MarkedBlocks {
-    pub items: [MarkedBlock; CAPACITY],
-    pub len: usize,
+// What stands in the places of a list that are not used.
+impl Default for MarkedBlock {
+    fn default() -> MarkedBlock {
+        let t = Instant { sec: 0, ns: 0 };
+        MarkedBlock {
+            start: t,
+            end: t,
+            start_mark: Mark::Plain,
+            end_mark: Mark::Plain,
+        }
+    }
 }
+
+pub type MarkedBlocks = ArrayVec<MarkedBlock, CAPACITY>;
 
 // What blocks show around an instant.
 #[derive(Clone, Copy)]
@@ -37,8 +48,8 @@ pub struct Around {
     pub before: bool,
     pub here: bool,
     // the greatest mark of the starts that lie there, and of the ends
-    pub starts: u32,
-    pub ends: u32,
+    pub starts: Mark,
+    pub ends: Mark,
 }
 
 // What blocks show around two instants: the start and the end of a period.
@@ -48,115 +59,56 @@ pub struct Sides {
     pub end: Around,
 }
 
-// No block: one block value repeated, of which none is used.
-pub fn empty_marked() -> MarkedBlocks
-    ensures { (marked_list result ≡ []) × (result.len ≡ 0) }
-{
-    let t = Instant { sec: 0, ns: 0 };
-    let x = MarkedBlock {
-        start: t,
-        end: t,
-        start_mark: mark::PLAIN,
-        end_mark: mark::PLAIN,
-    };
-    MarkedBlocks {
-        items: [x; CAPACITY],
-        len: 0,
-    }
-}
-
 // ---- one block
 
 // The instant before u lies in b.
 fn holds_before(b: MarkedBlock, u: Instant) -> bool
     ensures { result ≡ marks.holds_before (nanos u) (marked_is b) }
 {
-    let s = b.start;
-    let e = b.end;
-    if !instant::precedes(s, u) {
-        return false;
-    }
-    !instant::precedes(e, u)
+    instant::precedes(b.start, u) && !instant::precedes(b.end, u)
 }
 
 // The instant u lies in b.
 fn holds_at(b: MarkedBlock, u: Instant) -> bool
     ensures { result ≡ marks.holds_at (nanos u) (marked_is b) }
 {
-    let s = b.start;
-    let e = b.end;
-    if instant::precedes(u, s) {
-        return false;
-    }
-    instant::precedes(u, e)
+    !instant::precedes(u, b.start) && instant::precedes(u, b.end)
 }
 
 // The mark m of an end, if that is u.
-fn mark_there(end: Instant, m: u32, u: Instant) -> u32
-    ensures { result ≡ (if eqb (nanos end) (nanos u) then m else plain) }
+fn mark_there(end: Instant, m: Mark, u: Instant) -> Mark
+    ensures { mark_number result ≡ (if eqb (nanos end) (nanos u) then mark_number m else plain) }
 {
-    if instant::precedes(end, u) {
-        return mark::PLAIN;
+    if instant::precedes(end, u) || instant::precedes(u, end) {
+        Mark::Plain
+    } else {
+        m
     }
-    if instant::precedes(u, end) {
-        return mark::PLAIN;
-    }
-    m
 }
 
 // What the block shows around u.
 fn around_block(b: MarkedBlock, u: Instant) -> Around
     ensures { around_is result ≡ around_block (nanos u) (marked_is b) }
 {
-    let s = b.start;
-    let e = b.end;
-    let before = holds_before(b, u);
-    let here = holds_at(b, u);
-    let starts = mark_there(s, b.start_mark, u);
-    let ends = mark_there(e, b.end_mark, u);
     Around {
-        before,
-        here,
-        starts,
-        ends,
+        before: holds_before(b, u),
+        here: holds_at(b, u),
+        starts: mark_there(b.start, b.start_mark, u),
+        ends: mark_there(b.end, b.end_mark, u),
     }
 }
 
 // ---- more than one
 
-// One of the two, or both.
-fn either(a: bool, b: bool) -> bool
-    ensures { result ≡ (a || b) }
-{
-    if a {
-        return true;
-    }
-    b
-}
-
-// Of two marks the greater is kept.
-fn greater_mark(a: u32, b: u32) -> u32
-    ensures { result ≡ max a b }
-{
-    if a < b {
-        return b;
-    }
-    a
-}
-
-// What two lists show together.
+// What two lists show together. Of two marks the greater is kept.
 fn together(a: Around, b: Around) -> Around
     ensures { around_is result ≡ both_around (around_is a) (around_is b) }
 {
-    let before = either(a.before, b.before);
-    let here = either(a.here, b.here);
-    let starts = greater_mark(a.starts, b.starts);
-    let ends = greater_mark(a.ends, b.ends);
     Around {
-        before,
-        here,
-        starts,
-        ends,
+        before: a.before || b.before,
+        here: a.here || b.here,
+        starts: a.starts.max(b.starts),
+        ends: a.ends.max(b.ends),
     }
 }
 
@@ -167,23 +119,18 @@ fn nothing_shown() -> Around
     Around {
         before: false,
         here: false,
-        starts: mark::PLAIN,
-        ends: mark::PLAIN,
+        starts: Mark::Plain,
+        ends: Mark::Plain,
     }
 }
 
 // What the blocks of a list show around u.
-pub fn shown_around(b: MarkedBlocks, u: Instant) -> Around
-    requires { b.len ≤ most_marked }
-    ensures { around_is result ≡ marks.around_of (nanos u) (marked_list b) }
+pub fn shown_around(l: &[MarkedBlock], u: Instant) -> Around
+    ensures { around_is result ≡ marks.around_of (nanos u) (map marked_is l.now) }
 {
-    let n = b.len;
     let mut a = nothing_shown();
-    let mut i: usize = 0;
-    while i < n {
-        let x = b.items[i];
-        a = together(a, around_block(x, u));
-        i += 1;
+    for x in l {
+        a = together(a, around_block(*x, u));
     }
     a
 }
@@ -191,13 +138,13 @@ pub fn shown_around(b: MarkedBlocks, u: Instant) -> Around
 // ---- around two instants
 
 // What the blocks of a list show around a and around b.
-pub fn shown_at(l: MarkedBlocks, a: Instant, b: Instant) -> Sides
-    requires { l.len ≤ most_marked }
-    ensures { SidesOf (nanos a) (nanos b) (marked_list l) result }
+pub fn shown_at(l: &[MarkedBlock], a: Instant, b: Instant) -> Sides
+    ensures { SidesOf (nanos a) (nanos b) (map marked_is l.now) result }
 {
-    let start = shown_around(l, a);
-    let end = shown_around(l, b);
-    Sides { start, end }
+    Sides {
+        start: shown_around(l, a),
+        end: shown_around(l, b),
+    }
 }
 
 // What no block shows around any two instants.
@@ -213,51 +160,40 @@ pub fn no_sides() -> Sides
 pub fn both_sides(x: Sides, y: Sides) -> Sides
     ensures { BothSides x y result }
 {
-    let xs = x.start;
-    let ys = y.start;
-    let start = together(xs, ys);
-    let xe = x.end;
-    let ye = y.end;
-    let end = together(xe, ye);
-    Sides { start, end }
+    Sides {
+        start: together(x.start, y.start),
+        end: together(x.end, y.end),
+    }
 }
 
 // ---- the mark of a start or an end
 
 // The mark of a start at u, by what work and what breaks with holidays show around u.
-pub fn start_by(work: Around, off: Around) -> u32
-    ensures { result ≡ marks.start_by (around_is work) (around_is off) }
+pub fn start_by(work: Around, off: Around) -> Mark
+    ensures { mark_number result ≡ marks.start_by (around_is work) (around_is off) }
 {
-    if !work.here {
-        return mark::PLAIN;
+    if !work.here || off.here {
+        Mark::Plain
+    } else if !work.before {
+        work.starts
+    } else if off.before {
+        off.ends
+    } else {
+        Mark::Plain
     }
-    if off.here {
-        return mark::PLAIN;
-    }
-    if !work.before {
-        return work.starts;
-    }
-    if off.before {
-        return off.ends;
-    }
-    mark::PLAIN
 }
 
 // The mark of an end at u, its mirror image.
-pub fn end_by(work: Around, off: Around) -> u32
-    ensures { result ≡ marks.end_by (around_is work) (around_is off) }
+pub fn end_by(work: Around, off: Around) -> Mark
+    ensures { mark_number result ≡ marks.end_by (around_is work) (around_is off) }
 {
-    if !work.before {
-        return mark::PLAIN;
+    if !work.before || off.before {
+        Mark::Plain
+    } else if !work.here {
+        work.ends
+    } else if off.here {
+        off.starts
+    } else {
+        Mark::Plain
     }
-    if off.before {
-        return mark::PLAIN;
-    }
-    if !work.here {
-        return work.ends;
-    }
-    if off.here {
-        return off.starts;
-    }
-    mark::PLAIN
 }

@@ -1,13 +1,18 @@
 -- One block more for a list that is sorted and apart: what the places found say, and that the new list is the union. Assumes nothing.
+use Rattle.std.specs.List.Sorted.{IsNonDecreasingBy, IsPartitionPoint}
+use Rattle.std.proofs.lemmas.List.Sorted.{IsNonDecreasingBy-from_default}
+use mathlib.Core.Bool.{true, false}
 use mathlib.Core.Path.{◌≡◌, sym, ◌∙◌, ap, ap₂}
 use mathlib.Core.List.{List, [], ◌∷◌, ◌++◌, append_assoc, append-nil}
 use mathlib.Core.Logic.{◌⊎◌, inl, inr, ⊎_elim, ◌↔◌}
-use Prim.Native.Nat.{ℕ, suc, ◌+◌, ◌*◌, ◌-◌, ◌/◌, ◌≤◌, ◌<◌, min, max}
+use Prim.Native.Nat.{ℕ, zero, suc, ◌+◌, ◌*◌, ◌-◌, ◌≤◌, ◌<◌, min, max}
 use native.Mathlib.Omega.{arith}
-use borrow.Author.Tests.{lt-ltb, le-ltb}
-use lib.ListN.{length, get_or}
+use borrow.Author.Tests.{leb-true, leb-false, lt-ltb, le-ltb}
+use lib.Dec.{leb}
+use lib.Seq.{get_or-take, length-take-le}
+use lib.ListN.{length, get_or, take}
 use Rattle.model.specs.Blocks.{Block, block, put, union}
-use Rattle.laws_blocks.specs.Members.{InBlocks, NonEmpty, Chain, Normal, From, halves, append-in, append-nonempty, chain-weaken, chain-sorted, chain-nonempty, from_in, from-weaken, union-in, union-normal, normal-unique, union-again}
+use Rattle.laws_blocks.specs.Members.{InBlocks, NonEmpty, Chain, Normal, From, halves, append-in, append-nonempty, chain-weaken, chain-sorted, chain-nonempty, from_in, union-in, union-normal, normal-unique, union-again}
 use Rattle.block_pairs.specs.Pairs.{part, pairs, Reach, StartsTo, EndsFrom, Raised, Lowered, hull}
 use Rattle.block_pairs.proofs.Parts.{block_at, block_to, block_same, part_same, pairs-cut, from_cut, from_first, from_back, to_last, pairs-last, from-none, stored, stored_at, stored-front, stored-rest}
 
@@ -161,44 +166,72 @@ module _ (a b : List Block) (s e : ℕ) (h : s < e) (p : Before s a) (q : From (
 start-holds : (l : List ℕ) (n e : ℕ) → From (suc e) (part n (n - n) l)
 start-holds l n e = rw (from-none n l) tt
 
--- a block that starts behind e, and all behind it
-start-behind : (l : List ℕ) (n e i : ℕ) → Normal (pairs n l) → i < n → e < get_or l (2 * i) 0 → From (suc e) (part i (n - i) l)
-start-behind l n e i w h p =
-    let q : Chain 0 (pairs i l ++ (block_at l i ∷ part (i + 1) (n - (i + 1)) l)) = (rw (pairs-cut i n l (omega arith), from_first i n l h) at w) in
-    let a = chain-at 0 (pairs i l) (block_at l i) (part (i + 1) (n - (i + 1)) l) q in
-    let b = chain-after 0 (pairs i l) (block_at l i) (part (i + 1) (n - (i + 1)) l) q in
-    rw (from_first i n l h) (p, from-weaken (suc e) (suc (block_at l i).end) (part (i + 1) (n - (i + 1)) l) (omega (arith, a)) b)
+-- the starts and ends of blocks that are sorted and apart rise in turn
+all-from : (a n m : ℕ) (l : List ℕ) → Chain m (part a n l) → (x : ℕ) → x < 2 * n → m ≤ get_or l (2 * a + x) 0
+unfolding part
+all-from a zero m l c x h = absurd (omega arith)
+all-from a (suc n) m l c zero h = let p = c.0 in let e : get_or l (2 * a + 0) 0 ≡ get_or l (2 * a) 0 = ap (λ (i : ℕ). get_or l i 0) (omega arith) in omega arith
+all-from a (suc n) m l c (suc zero) h = let p = c.0 in let q = c.1 in omega arith
+all-from a (suc n) m l c (suc (suc x)) h =
+    let p = c.0 in let q = c.1 in
+    let r = all-from (suc a) n (suc (get_or l (2 * a + 1) 0)) l c.2 x (omega arith) in
+    let e : get_or l (2 * a + suc (suc x)) 0 ≡ get_or l (2 * suc a + x) 0 = ap (λ (i : ℕ). get_or l i 0) (omega arith) in
+    omega arith
+
+rise : (a n m : ℕ) (l : List ℕ) → Chain m (part a n l) → (x y : ℕ) → x ≤ y → y < 2 * n → get_or l (2 * a + x) 0 ≤ get_or l (2 * a + y) 0
+unfolding part
+rise a zero m l c x y h k = absurd (omega arith)
+rise a (suc n) m l c zero y h k =
+    let r = all-from a (suc n) (get_or l (2 * a) 0) l (omega arith, c.1, c.2) y k in
+    let e : get_or l (2 * a + 0) 0 ≡ get_or l (2 * a) 0 = ap (λ (i : ℕ). get_or l i 0) (omega arith) in
+    omega arith
+rise a (suc n) m l c (suc zero) zero h k = absurd (omega arith)
+rise a (suc n) m l c (suc zero) (suc zero) h k = omega arith
+rise a (suc n) m l c (suc zero) (suc (suc y)) h k =
+    let r = all-from (suc a) n (suc (get_or l (2 * a + 1) 0)) l c.2 y (omega arith) in
+    let e : get_or l (2 * a + suc (suc y)) 0 ≡ get_or l (2 * suc a + y) 0 = ap (λ (i : ℕ). get_or l i 0) (omega arith) in
+    omega arith
+rise a (suc n) m l c (suc (suc x)) zero h k = absurd (omega arith)
+rise a (suc n) m l c (suc (suc x)) (suc zero) h k = absurd (omega arith)
+rise a (suc n) m l c (suc (suc x)) (suc (suc y)) h k =
+    let r = rise (suc a) n (suc (get_or l (2 * a + 1) 0)) l c.2 x y (omega arith) (omega arith) in
+    let e : get_or l (2 * a + suc (suc x)) 0 ≡ get_or l (2 * suc a + x) 0 = ap (λ (i : ℕ). get_or l i 0) (omega arith) in
+    let f : get_or l (2 * a + suc (suc y)) 0 ≡ get_or l (2 * suc a + y) 0 = ap (λ (i : ℕ). get_or l i 0) (omega arith) in
+    omega arith
+
+-- blocks whose starts are behind e
+from-starts : (e a n : ℕ) (l : List ℕ) → ((k : ℕ) → a ≤ k → k < a + n → e < get_or l (2 * k) 0) → From (suc e) (part a n l)
+unfolding part
+from-starts e a zero l h = tt
+from-starts e a (suc n) l h = (h a (omega arith) (omega arith), from-starts e (suc a) n l (λ k p q. h k (omega arith) (omega arith)))
 
 -- all of them
 pub all-started : (l : List ℕ) (n e : ℕ) → get_or l (2 * n - 2) 0 ≤ e → StartsTo l n e n
 all-started l n e p = record { upto = omega arith; behind = start-holds l n e; last = λ _. p }
 
--- a search by halves: the blocks from hi on start behind e, and the one in front of lo does not
-pub record Halving (l : List ℕ) (n e lo hi : ℕ) : Type 0 where
-  pub order : lo ≤ hi
-  pub upto : hi ≤ n
-  pub behind : From (suc e) (part hi (n - hi) l)
-  pub last : 0 < lo → get_or l (2 * lo - 2) 0 ≤ e
+-- a search over starts and ends alike
+module _ (l : List ℕ) (n e : ℕ) (w : Normal (pairs n l)) (h : 2 * n ≤ length l) where
+  pub numbers-rise : IsNonDecreasingBy (λ (x : ℕ). x) (take (2 * n) l)
+  numbers-rise = IsNonDecreasingBy-from_default (λ (x : ℕ). x) (take (2 * n) l) 0
+      (λ i j o k.
+      let b = length-take-le (2 * n) l h in
+      let p = get_or-take (2 * n) l i 0 (omega arith) in
+      let q = get_or-take (2 * n) l j 0 (omega arith) in
+      let r = rise 0 n 0 l w i j o (omega arith) in
+      let f : get_or l (2 * 0 + i) 0 ≡ get_or l i 0 = ap (λ (x : ℕ). get_or l x 0) (omega arith) in
+      let g : get_or l (2 * 0 + j) 0 ≡ get_or l j 0 = ap (λ (x : ℕ). get_or l x 0) (omega arith) in
+      omega arith)
 
-pub half-starts : (l : List ℕ) (n e : ℕ) → Halving l n e 0 n
-half-starts l n e = record { order = omega arith; upto = omega arith; behind = start-holds l n e; last = λ h. absurd (omega arith) }
-
-module _ (l : List ℕ) (n e lo hi : ℕ) where
-  pub half-low : Halving l n e lo hi → lo < hi → get_or l (2 * (lo + (hi - lo) / 2)) 0 ≤ e → Halving l n e (lo + (hi - lo) / 2 + 1) hi
-  half-low m h p =
-      let q : 2 * (lo + (hi - lo) / 2 + 1) - 2 ≡ 2 * (lo + (hi - lo) / 2) = omega arith in
-      record { order = omega arith; upto = m.upto; behind = m.behind; last = λ _. rw q p }
-
-  pub half_high : Normal (pairs n l) → Halving l n e lo hi → lo < hi → e < get_or l (2 * (lo + (hi - lo) / 2)) 0 → Halving l n e lo (lo + (hi - lo) / 2)
-  half_high w m h p =
-      let u = m.upto in
-      record { order = omega arith; upto = omega arith; behind = start-behind l n e (lo + (hi - lo) / 2) w (omega arith) p; last = m.last }
-
-  pub half-done : Halving l n e lo hi → hi ≤ lo → StartsTo l n e lo
-  half-done m h =
-      let o = m.order in let u = m.upto in
-      let q : hi ≡ lo = omega arith in
-      record { upto = omega arith; behind = (rw q at m).behind; last = m.last }
+  pub half-started : (p i : ℕ) → p ≤ length (take (2 * n) l) → IsPartitionPoint (λ (y : ℕ). leb y e ≡ true) (λ (y : ℕ). leb y e ≡ false) (take (2 * n) l) p → (p ≤ i * 2) × (i * 2 < p + 2) → StartsTo l n e i
+  half-started p i k m u =
+      let b = length-take-le (2 * n) l h in
+      let v : i ≤ n = let y = u.1 in omega arith in
+      record {
+        upto = v;
+        behind = from-starts e i (n - i) l
+            (λ x q r. let y = u.0 in let z = leb-false _ _ (m.1 (2 * x) 0 (omega arith) (omega arith)) in let t = get_or-take (2 * n) l (2 * x) 0 (omega arith) in omega arith);
+        last = λ q. let y = u.1 in let z = leb-true _ _ (m.0 (2 * i - 2) 0 (omega arith) (omega arith)) in let t = get_or-take (2 * n) l (2 * i - 2) 0 (omega arith) in omega arith;
+      }
 
 pub end-holds : (l : List ℕ) (n s : ℕ) → Reach s (part n (n - n) l)
 end-holds l n s = rw (from-none n l) tt

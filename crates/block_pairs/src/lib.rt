@@ -9,27 +9,16 @@ ghost use Rattle.block_pairs.specs.Pairs.{pairs, Holds, word_end, Becomes, Start
 
 // ---- a block more
 
-// How many of the first n blocks, which are sorted and apart, do not start behind e. Most often that is all of them, so the last one is asked first.
+// How many of the first n blocks, which are sorted and apart, do not start behind e. Most often that is all of them, so the last one is asked first. Else
+// the search goes over starts and ends alike, since they rise in turn: every second number is a start, the first one too.
 fn started(l: &[u64], n: usize, e: u64) -> usize
     requires { Normal (pairs n l.now) × Holds n l.now }
     ensures { StartsTo l.now n e result }
 {
-    if 0 < n {
-        if l[2 * n - 2] <= e {
-            return n;
-        }
+    if 0 < n && l[2 * n - 2] <= e {
+        return n;
     }
-    let mut lo: usize = 0;
-    let mut hi = n;
-    while lo < hi {
-        let mid = lo + (hi - lo) / 2;
-        if l[2 * mid] <= e {
-            lo = mid + 1;
-        } else {
-            hi = mid;
-        }
-    }
-    lo
+    l[..2 * n].partition_point(|x| *x <= e).div_ceil(2)
 }
 
 // How many of the first n blocks end before s, counted from the end.
@@ -37,43 +26,12 @@ fn ended(l: &[u64], n: usize, s: u64) -> usize
     requires { Holds n l.now }
     ensures { EndsFrom l.now n s result }
 {
-    let mut i = n;
-    while 0 < i {
-        if l[2 * i - 1] < s {
-            return i;
+    for i in (0..n).rev() {
+        if l[2 * i + 1] < s {
+            return i + 1;
         }
-        i -= 1;
     }
-    i
-}
-
-// Moves the numbers from a to b two places on.
-fn raise(l: &mut [u64], a: usize, b: usize)
-    requires { (a ≤ b) × (b + 2 ≤ length l.old) }
-    ensures { Raised l.old l.new a b }
-{
-    let mut k = b;
-    while a < k {
-        k -= 1;
-        l[k + 2] = l[k];
-    }
-}
-
-// Moves the numbers from a to b to those from t on, which is not behind a.
-fn lower(l: &mut [u64], t: usize, a: usize, b: usize)
-    requires { (t ≤ a) × (a ≤ b) × (b ≤ length l.old) }
-    ensures { Lowered l.old l.new t a (b - a) }
-{
-    if t == a {
-        return;
-    }
-    let mut k = a;
-    let mut w = t;
-    while k < b {
-        l[w] = l[k];
-        k += 1;
-        w += 1;
-    }
+    0
 }
 
 // [s, e) between the first i blocks and the others.
@@ -81,7 +39,7 @@ fn insert(l: &mut [u64], n: usize, i: usize, s: u64, e: u64) -> usize
     requires { (i ≤ n) × (2 * n + 2 ≤ length l.old) }
     ensures { Becomes l.old l.new result (n + 1) (inserted n i s e l.old) }
 {
-    raise(l, 2 * i, 2 * n);
+    l.copy_within(2 * i..2 * n, 2 * i + 2);
     l[2 * i] = s;
     l[2 * i + 1] = e;
     n + 1
@@ -92,9 +50,11 @@ fn absorb(l: &mut [u64], n: usize, j: usize, i: usize, s: u64, e: u64) -> usize
     requires { (j < i) × (i ≤ n) × Holds n l.old }
     ensures { Becomes l.old l.new result (n + 1) (absorbed n j i s e l.old) }
 {
-    let from = number::minimum(s, l[2 * j]);
-    let to = number::maximum(e, l[2 * i - 1]);
-    lower(l, 2 * j + 2, 2 * i, 2 * n);
+    let from = s.min(l[2 * j]);
+    let to = e.max(l[2 * i - 1]);
+    if j + 1 < i {
+        l.copy_within(2 * i..2 * n, 2 * j + 2);
+    }
     l[2 * j] = from;
     l[2 * j + 1] = to;
     n - (i - j) + 1
@@ -125,10 +85,7 @@ fn emit(out: &mut [u64], w: usize, s: u64, e: u64) -> usize
 {
     out[2 * w] = s;
     out[2 * w + 1] = e;
-    if s < e {
-        return w + 1;
-    }
-    w
+    if s < e { w + 1 } else { w }
 }
 
 // How many blocks are written, and how many gaps are passed.
@@ -144,14 +101,11 @@ fn cut_into(off: &[u64], j: usize, m: usize, s: u64, e: u64, out: &mut [u64], w:
     ensures { CutTo off.now j m s e out.old w out.new result.w result.j }
 {
     let mut from = s;
-    let mut k = j;
     let mut n = w;
-    while k < m {
+    for k in j..m {
         let a = off[2 * k];
         let b = off[2 * k + 1];
-        if b <= from {
-            k += 1;
-        } else {
+        if from < b {
             if e <= a {
                 return Cut {
                     w: emit(out, n, from, e),
@@ -163,12 +117,11 @@ fn cut_into(off: &[u64], j: usize, m: usize, s: u64, e: u64, out: &mut [u64], w:
                 return Cut { w: n, j: k };
             }
             from = b;
-            k += 1;
         }
     }
     Cut {
         w: emit(out, n, from, e),
-        j: k,
+        j: m,
     }
 }
 
@@ -179,12 +132,10 @@ pub fn subtract(on: &[u64], n: usize, off: &[u64], m: usize, out: &mut [u64]) ->
 {
     let mut w: usize = 0;
     let mut j: usize = 0;
-    let mut i: usize = 0;
-    while i < n {
+    for i in 0..n {
         let c = cut_into(off, j, m, on[2 * i], on[2 * i + 1], out, w);
         w = c.w;
         j = c.j;
-        i += 1;
     }
     w
 }
@@ -197,10 +148,8 @@ pub fn total(l: &[u64], n: usize) -> u64
     ensures { result ≡ total (pairs n l.now) }
 {
     let mut sum: u64 = 0;
-    let mut i: usize = 0;
-    while i < n {
+    for i in 0..n {
         sum += l[2 * i + 1] - l[2 * i];
-        i += 1;
     }
     sum
 }

@@ -1,4 +1,3 @@
-pub mod Lending
 pub mod Placing
 pub mod Sorting
 pub mod Merging

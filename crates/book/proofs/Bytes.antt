@@ -187,6 +187,22 @@ pub body-says : (kind : ℕ) (l : List ℕ) (p : ℕ) {t : Bool} → p ≤ lengt
 unfolding is_body
 body-says kind l p h e = e ∙ sym (is-given (body_of kind (drop p l)) (body_test kind l p) (body_value kind l p) (body-given kind l p h)).0
 
+-- a body of kind 1 or 2, and one of no kind
+pub body-hours : (kind : ℕ) (l : List ℕ) (p : ℕ) {r : Bool} → p ≤ length l → 1 ≤ kind → kind ≤ 2 → r ≡ is_hours l p → r ≡ is_body kind l p
+unfolding body_test
+body-hours kind l p h a b e =
+    by-test (eqb kind 1)
+    (λ q. body-says kind l p h (rw (ne_eqb kind 0 (λ z. omega arith), q) e))
+    (λ q. let n : kind ≡ 1 → ⊥ = eqb-false kind 1 q in
+    let t : kind ≡ 2 = omega arith in
+    body-says kind l p h (rw (ne_eqb kind 0 (λ z. omega arith), q, eq-eqb kind 2 t) e))
+
+pub body-none : (kind : ℕ) (l : List ℕ) (p : ℕ) → p ≤ length l → 3 < kind → false ≡ is_body kind l p
+unfolding body_test
+body-none kind l p h a =
+    body-says kind l p h
+    (rw (ne_eqb kind 0 (λ z. omega arith), ne_eqb kind 1 (λ z. omega arith), ne_eqb kind 2 (λ z. omega arith), ne_eqb kind 3 (λ z. omega arith)))
+
 body_is : (kind : ℕ) (l : List ℕ) (p : ℕ) → p ≤ length l → body_of kind (drop p l) ≡ given (is_body kind l p) (body_value kind l p)
 unfolding is_body
 body_is kind l p h = (is-given (body_of kind (drop p l)) (body_test kind l p) (body_value kind l p) (body-given kind l p h)).1
@@ -216,6 +232,21 @@ entry-given o l =
 pub record-says : (l : List ℕ) {t : Bool} → t ≡ record_test l → t ≡ is_record l
 unfolding is_record
 record-says l e = e ∙ sym (is-given (entry_of (part_of 0 l)) (record_test l) (record_value 0 l) (entry-given 0 l)).0
+
+-- the answers of `record_ok`, from the bounds that its tests show
+module _ (l : List ℕ) {n : ℕ} (en : n ≡ get_or l 1 0) where
+  pub record-long : 64 < n → false ≡ is_record l
+  unfolding record_test
+  record-long h = record-says l (rw (← en, lt-leb n 64 h))
+
+  module _ (h : n ≤ 64) where
+    pub record-short : length l < 2 + n → false ≡ is_record l
+    unfolding record_test
+    record-short k = record-says l (rw (← en, le-leb n 64 h, lt-leb (2 + n) (length l) k))
+
+    pub record-body : 2 + n ≤ length l → {k : ℕ} {r : Bool} → k ≡ get_or l 0 0 → r ≡ is_body k l (2 + n) → r ≡ is_record l
+    unfolding record_test
+    record-body k ek er = record-says l (rw (← en, ← ek, le-leb n 64 h, le-leb (2 + n) (length l) k) er)
 
 pub entry-is : (o : ℕ) (l : List ℕ) → entry_of (part_of o l) ≡ given (is_record l) (record_value o l)
 entry-is o l = rw (sym (record-says l refl)) (entry-given o l)

@@ -80,10 +80,7 @@ fn time_ok(l: &[u8], p: usize) -> bool
     requires { p + 8 ≤ length l.now }
     ensures { result ≡ is_time l.now p }
 {
-    if big_endian::be32_at(l, p) >= DAY {
-        return false;
-    }
-    big_endian::be32_at(l, p + NANOS_AT) < SECOND
+    big_endian::be32_at(l, p) < DAY && big_endian::be32_at(l, p + NANOS_AT) < SECOND
 }
 
 // A set of weekdays and two times of day, and nothing behind them.
@@ -91,16 +88,10 @@ fn hours_ok(l: &[u8], p: usize) -> bool
     requires { p ≤ length l.now }
     ensures { result ≡ is_hours l.now p }
 {
-    if l.len() != p + HOURS {
-        return false;
-    }
-    if big_endian::byte_at(l, p) >= WEEKDAY_SETS {
-        return false;
-    }
-    if !time_ok(l, p + START_AT) {
-        return false;
-    }
-    time_ok(l, p + END_AT)
+    l.len() == p + HOURS
+        && big_endian::byte_at(l, p) < WEEKDAY_SETS
+        && time_ok(l, p + START_AT)
+        && time_ok(l, p + END_AT)
 }
 
 // A count and as many dates, and nothing behind them.
@@ -112,10 +103,8 @@ fn holidays_ok(l: &[u8], p: usize) -> bool
         return false;
     }
     let n = big_endian::be16_at(l, p) as usize;
-    if l.len() != p + COUNT_SIZE + book_dates::DATE_SIZE * n {
-        return false;
-    }
-    book_dates::dates_ok(l, p + COUNT_SIZE, n)
+    l.len() == p + COUNT_SIZE + book_dates::DATE_SIZE * n
+        && book_dates::dates_ok(l, p + COUNT_SIZE, n)
 }
 
 // What stands behind the name of a record of the given kind.
@@ -123,19 +112,12 @@ fn body_ok(kind: u8, l: &[u8], p: usize) -> bool
     requires { p ≤ length l.now }
     ensures { result ≡ is_body kind l.now p }
 {
-    if kind == DEFAULT_ZONE {
-        return l.len() == p;
+    match kind {
+        DEFAULT_ZONE => l.len() == p,
+        WORK | BREAK => hours_ok(l, p),
+        HOLIDAYS => holidays_ok(l, p),
+        _ => false,
     }
-    if kind == WORK {
-        return hours_ok(l, p);
-    }
-    if kind == BREAK {
-        return hours_ok(l, p);
-    }
-    if kind == HOLIDAYS {
-        return holidays_ok(l, p);
-    }
-    false
 }
 
 // A whole record: kind, name length, name, body, nothing more.
@@ -143,13 +125,9 @@ fn record_ok(l: &[u8]) -> bool
     ensures { result ≡ is_record l.now }
 {
     let n = big_endian::small_at(l, 1);
-    if n > directory::LONGEST_NAME {
-        return false;
-    }
-    if l.len() < NAME_AT + n {
-        return false;
-    }
-    body_ok(big_endian::byte_at(l, 0), l, NAME_AT + n)
+    n <= directory::LONGEST_NAME
+        && NAME_AT + n <= l.len()
+        && body_ok(big_endian::byte_at(l, 0), l, NAME_AT + n)
 }
 
 // ---- the book's records
@@ -171,24 +149,14 @@ fn records_ok(book: &[u8], n: usize) -> bool
     requires { n < four_bytes }
     ensures { result ≡ all_from (is_record_at book.now) 0 n }
 {
-    let mut i: usize = 0;
-    while i < n {
-        if !record_ok(record_at(book, i)) {
-            return false;
-        }
-        i += 1;
-    }
-    true
+    (0..n).all(|i| record_ok(record_at(book, i)))
 }
 
 // Does the book keep its layout? Refusal 1 where not.
 pub fn book_ok(book: &[u8]) -> bool
     ensures { result ≡ is_book book.now }
 {
-    if !directory::dir_ok(book) {
-        return false;
-    }
-    records_ok(book, directory::count_of(book))
+    directory::dir_ok(book) && records_ok(book, directory::count_of(book))
 }
 
 // How many records the book has.
@@ -279,18 +247,15 @@ fn tallies_of(book: &[u8], n: usize) -> Tallies
     let mut breaks: usize = 0;
     let mut holidays: usize = 0;
     let mut dates: usize = 0;
-    let mut i: usize = 0;
-    while i < n {
-        let at = i;
-        let kind = kind_at(book, at);
-        i += 1;
-        if kind == WORK {
-            work += 1;
-        } else if kind == BREAK {
-            breaks += 1;
-        } else if kind == HOLIDAYS {
-            holidays += 1;
-            dates += dates_in(book, at);
+    for i in 0..n {
+        match kind_at(book, i) {
+            WORK => work += 1,
+            BREAK => breaks += 1,
+            HOLIDAYS => {
+                holidays += 1;
+                dates += dates_in(book, i);
+            }
+            _ => {}
         }
     }
     Tallies {
@@ -311,16 +276,10 @@ pub fn limits_ok(book: &[u8]) -> bool
         return false;
     }
     let t = tallies_of(book, n);
-    if t.work > MOST_WORK {
-        return false;
-    }
-    if t.breaks > MOST_BREAKS {
-        return false;
-    }
-    if t.holidays > MOST_HOLIDAYS {
-        return false;
-    }
-    t.dates <= MOST_DATES
+    t.work <= MOST_WORK
+        && t.breaks <= MOST_BREAKS
+        && t.holidays <= MOST_HOLIDAYS
+        && t.dates <= MOST_DATES
 }
 
 // The record whose default zone wins, the last of that kind; the number of records where there is none.
@@ -330,12 +289,9 @@ pub fn last_default(book: &[u8]) -> usize
 {
     let n = count(book);
     let mut found = n;
-    let mut i: usize = 0;
-    while i < n {
-        let at = i;
-        i += 1;
-        if kind_at(book, at) == DEFAULT_ZONE {
-            found = at;
+    for i in 0..n {
+        if kind_at(book, i) == DEFAULT_ZONE {
+            found = i;
         }
     }
     found

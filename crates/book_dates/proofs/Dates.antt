@@ -1,15 +1,15 @@
--- The number of a date, and the loop over dates: one step, and its end.
+-- The number of a date, and the test of dates one behind the other.
 use mathlib.Core.Path.{◌≡◌, refl, sym, ap, ◌∙◌}
-use mathlib.Core.Bool.{Bool, true, false, ◌&&◌}
+use mathlib.Core.Bool.{Bool, ◌&&◌}
 use mathlib.Core.List.{List}
-use Prim.Native.Nat.{ℕ, zero, suc, ◌+◌, ◌*◌, ◌-◌, ◌≤◌, ◌<◌}
+use Prim.Native.Nat.{ℕ, zero, suc, ◌+◌, ◌*◌, ◌≤◌}
 use native.Mathlib.Omega.{arith}
-use lib.ListN.{length, get_or}
+use lib.ListN.{length}
+use Rattle.std.specs.List.{list_all, range_with_len}
 use Rattle.big_endian.specs.Be.{be16}
 use lib.IntN.{ℤ}
 use Rattle.civil.specs.declared.Date.{Date}
-use Rattle.civil.specs.declared.DayRead.{DayRead}
-use Rattle.civil.specs.declared.DayRead.TheVariants.{Day, NoDate}
+use Rattle.std.specs.Prelude.{Option, Some, None}
 use Rattle.civil.specs.Dates.{day_read}
 use Rattle.civil.specs.DateLaws.{read-day, read_none, read-day-in, read_number}
 use Rattle.laws_calendar.specs.Numbers.{IsDayNumber, day-given}
@@ -21,9 +21,9 @@ use Rattle.book_dates.proofs.Reading.{date_test, dates_test}
 -- ---- a date
 
 -- the year, from its two bytes
-pub year-is : (b : List ℕ) (p : ℕ) {x y r : ℕ} → r ≡ year_in_bytes (x * 256 + y) → x ≡ get_or b p 0 → y ≡ get_or b (p + 1) 0 → r ≡ written_year b p
-unfolding written_year be16
-year-is b p e ex ey = e ∙ rw (ex, ey)
+pub year-is : (b : List ℕ) (p : ℕ) {n r : ℕ} → r ≡ year_in_bytes n → n ≡ be16 b p → r ≡ written_year b p
+unfolding written_year
+year-is b p e en = e ∙ ap year_in_bytes en
 
 module _ (b : List ℕ) (p : ℕ) {d : Date} {r : Bool} (w : IsWritten b p d) (er : r ≡ is_date d.year d.month d.day) where
   pub date-told : r ≡ date_test b p
@@ -31,7 +31,7 @@ module _ (b : List ℕ) (p : ℕ) {d : Date} {r : Bool} (w : IsWritten b p d) (e
   date-told = er ∙ rw (w.year, w.month, w.day)
 
 -- its day
-pub day-told : (b : List ℕ) (p : ℕ) {d : Date} {r : DayRead} → IsWritten b p d → r ≡ day_read d → r ≡ date_at b p
+pub day-told : (b : List ℕ) (p : ℕ) {d : Date} {r : Option ℤ} → IsWritten b p d → r ≡ day_read d → r ≡ date_at b p
 unfolding date_at
 day-told b p w er = er ∙ (λ i. day_read (record { year = w.year i; month = w.month i; day = w.day i }))
 
@@ -42,13 +42,13 @@ pub record IsDayAt (b : List ℕ) (p : ℕ) (z : ℤ) : Type 0 where
   pub low : first_day ≤ day_of z
   pub high : day_of z ≤ last_day
 
-pub day-there : (b : List ℕ) (p : ℕ) (z : ℤ) → date_at b p ≡ Day z → IsDayAt b p z
+pub day-there : (b : List ℕ) (p : ℕ) (z : ℤ) → date_at b p ≡ Some z → IsDayAt b p z
 unfolding date_at day_at
 day-there b p z e =
     let q = read-day _ z e in let i = read-day-in _ z e in
     record { day = rw q.0 (sym (day-given q.1)); number = read_number _ z e; low = i.0; high = i.1 }
 
-pub no-day-there : (b : List ℕ) (p : ℕ) → date_at b p ≡ NoDate → day_at b p ≡ 0
+pub no-day-there : (b : List ℕ) (p : ℕ) → date_at b p ≡ None → day_at b p ≡ 0
 unfolding date_at day_at
 no-day-there b p e = rw (read_none _ e)
 
@@ -59,18 +59,13 @@ unfolding dates_at
 length-dates l p zero = refl
 length-dates l p (suc n) = ap suc (length-dates l (p + 4) n)
 
-days-more : (l : List ℕ) (p n : ℕ) → 0 < n → dates_test l p n ≡ (is_day l p && dates_test l (p + 4) (n - 1))
+-- a test of n places, four bytes apart
+days-range : (l : List ℕ) (p n i : ℕ) → list_all (λ k. is_day l (p + 4 * k)) (range_with_len i n) ≡ dates_test l (p + 4 * i) n
 unfolding dates_test
-days-more l p zero h = absurd (omega arith)
-days-more l p (suc n) h = let e : suc n - 1 ≡ n = omega arith in rw e
+days-range l p zero i = refl
+days-range l p (suc n) i =
+    let e : p + 4 * (i + 1) ≡ p + 4 * i + 4 = omega arith in
+    ap (λ (t : Bool). is_day l (p + 4 * i) && t) (days-range l p n (i + 1) ∙ ap (λ (m : ℕ). dates_test l m n) e)
 
-pub days-end : (l : List ℕ) (p : ℕ) {n : ℕ} {d : Bool} → n ≤ 0 → dates_test l p n ≡ d → true ≡ d
-unfolding dates_test
-days-end l p {n} h inv = let e : n ≡ 0 = omega arith in (rw e at inv)
-
-module _ (l : List ℕ) (p : ℕ) {n : ℕ} {r d : Bool} (h : 0 < n) (inv : dates_test l p n ≡ d) (er : r ≡ is_day l p) where
-  pub days-no : r ≡ false → false ≡ d
-  days-no q = cc (days-more l p n h)
-
-  pub days-yes : r ≡ true → dates_test l (p + 4) (n - 1) ≡ d
-  days-yes q = cc (days-more l p n h)
+pub days-all : (l : List ℕ) (p n : ℕ) → list_all (λ k. is_day l (p + 4 * k)) (range_with_len 0 n) ≡ dates_test l p n
+days-all l p n = let e : p + 4 * 0 ≡ p = omega arith in days-range l p n 0 ∙ ap (λ (m : ℕ). dates_test l m n) e

@@ -7,8 +7,9 @@ use Prim.Native.Nat.{ℕ, zero, suc, ◌+◌, ◌*◌, ◌-◌, ◌≤◌, ◌<�
 use native.Mathlib.Omega.{arith}
 use lib.Dec.{ltb, eqb}
 use lib.ListN.{length, get_or, set, length-set}
+use Rattle.std.specs.List.{list_any, range_with_len}
 use lib.Seq.{get_or-set_same, get_or-set_other}
-use borrow.Author.Tests.{lt-ltb, le-ltb, ltb-true, eq-eqb, ne_eqb, eqb-true, eqb-false, not-true, not-false}
+use borrow.Author.Tests.{lt-ltb, le-ltb, ltb-true, ne_eqb, eqb-true, eqb-false, not-true, not-false}
 use Rattle.big_endian.specs.Be.{be32}
 use Rattle.laws_base.specs.Test.{by-test, clash}
 use Rattle.model.specs.Basic.{any, among, distinct}
@@ -30,19 +31,28 @@ rises-cons : (m x : ℕ) (l : List ℕ) → rises m (x ∷ l) ≡ (if ltb m x th
 unfolding rises
 rises-cons m x l = refl
 
-module _ (b : List ℕ) (p m : ℕ) {n x : ℕ} {r : Bool} (h : 0 < n) (inv : rises m (words_at b p n) ≡ r) (ex : x ≡ be32 b p) where
-  rises-more : (if ltb m x then rises x (words_at b (p + 4) (n - 1)) else false) ≡ r
-  rises-more = rw ex (sym (rises-cons m (be32 b p) (words_at b (p + 4) (n - 1))) ∙ ap (λ (l : List ℕ). rises m l) (sym (words_more b p n h)) ∙ inv)
+-- the numbers from the i-th on
+words-from : (b : List ℕ) (p : ℕ) {i n : ℕ} → i < n → words_at b (p + 4 * i) (n - i) ≡ be32 b (p + 4 * i) ∷ words_at b (p + 4 * (i + 1)) (n - (i + 1))
+words-from b p {i} {n} h =
+    let e : p + 4 * i + 4 ≡ p + 4 * (i + 1) = omega arith in
+    let f : n - i - 1 ≡ n - (i + 1) = omega arith in
+    words_more b (p + 4 * i) (n - i) (omega arith) ∙ rw (e, f)
+
+module _ (b : List ℕ) (p m : ℕ) {i n x : ℕ} {r : Bool} (h : i < n) (inv : rises m (words_at b (p + 4 * i) (n - i)) ≡ r) (ex : x ≡ be32 b (p + 4 * i)) where
+  rises-more : (if ltb m x then rises x (words_at b (p + 4 * (i + 1)) (n - (i + 1))) else false) ≡ r
+  rises-more =
+      rw ex
+      (sym (rises-cons m (be32 b (p + 4 * i)) (words_at b (p + 4 * (i + 1)) (n - (i + 1)))) ∙ ap (λ (l : List ℕ). rises m l) (sym (words-from b p h)) ∙ inv)
 
   pub rises-no : x ≤ m → false ≡ r
   rises-no q = rw (le-ltb m x q) at rises-more
 
-  pub rises-yes : m < x → rises x (words_at b (p + 4) (n - 1)) ≡ r
+  pub rises-yes : m < x → rises x (words_at b (p + 4 * (i + 1)) (n - (i + 1))) ≡ r
   rises-yes q = rw (lt-ltb m x q) at rises-more
 
-pub rises-end : (b : List ℕ) (p m : ℕ) {n : ℕ} {r : Bool} → n ≤ 0 → rises m (words_at b p n) ≡ r → true ≡ r
+pub rises-end : (b : List ℕ) (p m : ℕ) {i n : ℕ} {r : Bool} → n ≤ i → rises m (words_at b (p + 4 * i) (n - i)) ≡ r → true ≡ r
 unfolding words_at rises
-rises-end b p m {n} h inv = let e : n ≡ 0 = omega arith in (rw e at inv)
+rises-end b p m {i} {n} h inv = let e : n - i ≡ 0 = omega arith in (rw e at inv)
 
 -- what lies below them all is not among them
 below_all : (m x : ℕ) (l : List ℕ) → rises m l ≡ true → x ≤ m → among l x ≡ false
@@ -73,38 +83,33 @@ any-cons : (d x : ℕ) (l : List ℕ) → among (x ∷ l) d ≡ (if eqb d x then
 unfolding any
 any-cons d x l = refl
 
-module _ (b : List ℕ) (p d : ℕ) {n x : ℕ} {r : Bool} (h : 0 < n) (inv : among (words_at b p n) d ≡ r) (ex : x ≡ be32 b p) where
-  among-more : (if eqb d x then true else among (words_at b (p + 4) (n - 1)) d) ≡ r
-  among-more = rw ex (sym (any-cons d (be32 b p) (words_at b (p + 4) (n - 1))) ∙ ap (λ (l : List ℕ). among l d) (sym (words_more b p n h)) ∙ inv)
-
-  pub among-yes : d ≡ x → true ≡ r
-  among-yes q = rw (eq-eqb d x q) at among-more
-
-  pub among-no : (d ≡ x → ⊥) → among (words_at b (p + 4) (n - 1)) d ≡ r
-  among-no q = rw (ne_eqb d x q) at among-more
-
-pub among-end : (b : List ℕ) (p d : ℕ) {n : ℕ} {r : Bool} → n ≤ 0 → among (words_at b p n) d ≡ r → false ≡ r
+among-range : (b : List ℕ) (p d n i : ℕ) → list_any (λ k. eqb d (be32 b (p + 4 * k))) (range_with_len i n) ≡ among (words_at b (p + 4 * i) n) d
 unfolding words_at any
-among-end b p d {n} h inv = let e : n ≡ 0 = omega arith in (rw e at inv)
+among-range b p d zero i = refl
+among-range b p d (suc n) i =
+    let e : p + 4 * (i + 1) ≡ p + 4 * i + 4 = omega arith in
+    let r : list_any (λ k. eqb d (be32 b (p + 4 * k))) (range_with_len (i + 1) n) ≡ among (words_at b (p + 4 * i + 4) n) d =
+    among-range b p d n (i + 1) ∙ ap (λ (m : ℕ). among (words_at b m n) d) e in
+    by-test (eqb d (be32 b (p + 4 * i))) (λ q. rw q) (λ q. rw (q, r))
 
--- what has no mark is new
-pub unmarked : (t : Bool) {mark : ℕ} → mark ≡ 0 → (t ≡ true → mark ≡ 1) → true ≡ not t
-unmarked false z h = refl
-unmarked true z h = absurd (omega (arith, h refl))
+pub among-any : (b : List ℕ) (p d n : ℕ) → list_any (λ k. eqb d (be32 b (p + 4 * k))) (range_with_len 0 n) ≡ among (words_at b p n) d
+among-any b p d n = let e : p + 4 * 0 ≡ p = omega arith in among-range b p d n 0 ∙ ap (λ (m : ℕ). among (words_at b m n) d) e
 
 -- ---- marks
 
--- `left` numbers are still to be looked at. The `done` behind them are marked, and `count` different ones
-pub record Marking (b : List ℕ) (p n : ℕ) (marks : List ℕ) (left done count : ℕ) : Type 0 where
-  pub all : left + done ≡ n
-  pub few : count ≤ done
+-- `left` of the n numbers are still to be looked at. Those behind them are marked, and `count` different ones
+pub record Marking (b : List ℕ) (p n : ℕ) (marks : List ℕ) (left count : ℕ) : Type 0 where
+  pub all : left ≤ n
+  pub few : count ≤ n - left
   pub long : length marks ≡ mark_count
-  pub counted : count ≡ length (distinct (words_at b (p + 4 * left) done))
-  pub marked : (w : ℕ) → among (words_at b (p + 4 * left) done) w ≡ true → get_or marks (slot_of w) 0 ≡ 1
+  pub counted : count ≡ length (distinct (words_at b (p + 4 * left) (n - left)))
+  pub marked : (w : ℕ) → among (words_at b (p + 4 * left) (n - left)) w ≡ true → get_or marks (slot_of w) 0 ≡ 1
 
-pub marking-start : (b : List ℕ) (p n : ℕ) (marks : List ℕ) → length marks ≡ mark_count → Marking b p n marks n 0 0
+pub marking-start : (b : List ℕ) (p n : ℕ) (marks : List ℕ) → length marks ≡ mark_count → Marking b p n marks n 0
 unfolding words_at distinct any
-marking-start b p n marks h = record { all = omega arith; few = omega arith; long = h; counted = refl; marked = λ w e. clash false e refl }
+marking-start b p n marks h =
+    let z : n - n ≡ 0 = omega arith in
+    record { all = omega arith; few = omega arith; long = h; counted = rw z; marked = λ w e. clash false (rw z at e) refl }
 
 distinct_cons : (x : ℕ) (l : List ℕ) → length (distinct (x ∷ l)) ≡ (if among l x then 0 else 1) + length (distinct l)
 unfolding distinct
@@ -117,57 +122,57 @@ set-marked l k j h e =
     (λ q. let z : j ≡ k = eqb-true j k q in rw z (get_or-set_same l k 1 0 h))
     (λ q. get_or-set_other l k j 1 0 (λ z. eqb-false j k q z) ∙ e)
 
-module _ (b : List ℕ) (p n : ℕ) (marks : List ℕ) {left done count x k : ℕ} (m : Marking b p n marks left done count) (h : 0 < left) (ex : x ≡ be32 b (p + 4 * (left - 1))) (ek : k ≡ slot_of x) where
+module _ (b : List ℕ) (p n : ℕ) (marks : List ℕ) {left count x k : ℕ} (m : Marking b p n marks left count) (h : 0 < left) (ex : x ≡ be32 b (p + 4 * (left - 1))) (ek : k ≡ slot_of x) where
   abbrev rest : List ℕ
-  rest = words_at b (p + 4 * left) done
+  rest = words_at b (p + 4 * left) (n - left)
 
-  next_place : p + 4 * (left - 1) + 4 ≡ p + 4 * left
-  next_place = omega arith
+  words-one : words_at b (p + 4 * (left - 1)) (n - (left - 1)) ≡ x ∷ rest
+  words-one =
+      let e : left - 1 + 1 ≡ left = omega arith in
+      let l : left - 1 < n = omega (arith, m.all) in
+      words-from b p l ∙ rw (ex, e)
 
-  pub mark-told : among (words_at b (p + 4 * (left - 1) + 4) done) x ≡ true → get_or marks k 0 ≡ 1
-  mark-told e = rw ek (m.marked x (rw next_place at e))
-
-  words-one : words_at b (p + 4 * (left - 1)) (done + 1) ≡ x ∷ rest
-  words-one = let e : done + 1 - 1 ≡ done = omega arith in words_more b (p + 4 * (left - 1)) (done + 1) (omega arith) ∙ rw (ex, e, next_place)
-
-  module _ {r : Bool} (hk : k < mark_count) (er : r ≡ not (among (words_at b (p + 4 * (left - 1) + 4) done) x)) where
+  module _ {r : Bool} (hk : k < mark_count) (er : r ≡ not (among (words_at b (p + 4 * (left - 1) + 4) (n - 1 - (left - 1))) x)) where
     told : r ≡ not (among rest x)
-    told = er ∙ rw next_place
+    told =
+        let e : p + 4 * (left - 1) + 4 ≡ p + 4 * left = omega arith in
+        let f : n - 1 - (left - 1) ≡ n - left = omega arith in
+        er ∙ rw (e, f)
 
-    marked_more : (w : ℕ) → among (words_at b (p + 4 * (left - 1)) (done + 1)) w ≡ true → get_or (set marks k 1) (slot_of w) 0 ≡ 1
+    marked_more : (w : ℕ) → among (words_at b (p + 4 * (left - 1)) (n - (left - 1))) w ≡ true → get_or (set marks k 1) (slot_of w) 0 ≡ 1
     marked_more w e =
         by-test (eqb w x)
         (λ q. let z : w ≡ x = eqb-true w x q in rw (z, ← ek) (get_or-set_same marks k 1 0 (omega (arith, m.long))))
         (λ q. let f : among rest w ≡ true = rw q at (sym (any-cons w x rest) ∙ rw words-one at e) in
         set-marked marks k (slot_of w) (omega (arith, m.long)) (m.marked w f))
 
-    one_more : length (distinct (words_at b (p + 4 * (left - 1)) (done + 1))) ≡ (if among rest x then 0 else 1) + length (distinct rest)
+    one_more : length (distinct (words_at b (p + 4 * (left - 1)) (n - (left - 1)))) ≡ (if among rest x then 0 else 1) + length (distinct rest)
     one_more = rw words-one (distinct_cons x rest)
 
-    pub marking-new : r ≡ true → Marking b p n (set marks k 1) (left - 1) (done + 1) (count + 1)
+    pub marking-new : r ≡ true → Marking b p n (set marks k 1) (left - 1) (count + 1)
     marking-new q =
         let f : among rest x ≡ false = not-true (among rest x) (sym told ∙ q) in
         record {
           all = omega (arith, m.all);
-          few = omega (arith, m.few);
+          few = omega (arith, m.few, m.all);
           long = length-set marks k 1 ∙ m.long;
           counted = omega (arith, m.counted, rw f at one_more);
           marked = marked_more;
         }
 
-    pub marking-again : r ≡ false → Marking b p n (set marks k 1) (left - 1) (done + 1) count
+    pub marking-again : r ≡ false → Marking b p n (set marks k 1) (left - 1) count
     marking-again q =
         let f : among rest x ≡ true = not-false (among rest x) (sym told ∙ q) in
         record {
           all = omega (arith, m.all);
-          few = omega (arith, m.few);
+          few = omega (arith, m.few, m.all);
           long = length-set marks k 1 ∙ m.long;
           counted = omega (arith, m.counted, rw f at one_more);
           marked = marked_more;
         }
 
-pub marking-end : (b : List ℕ) (p n : ℕ) (marks : List ℕ) {left done count : ℕ} → Marking b p n marks left done count → left ≤ 0 → (count ≡ length (distinct (words_at b p n))) × (count ≤ n)
-marking-end b p n marks {left} {done} {count} m h =
+pub marking-end : (b : List ℕ) (p n : ℕ) (marks : List ℕ) {left count : ℕ} → Marking b p n marks left count → left ≤ 0 → (count ≡ length (distinct (words_at b p n))) × (count ≤ n)
+marking-end b p n marks {left} m h =
     let a : p + 4 * left ≡ p = omega arith in
-    let d : done ≡ n = omega (arith, m.all) in
+    let d : n - left ≡ n = omega arith in
     (m.counted ∙ rw (a, d), omega (arith, m.few))

@@ -8,7 +8,7 @@ use Rattle.model.specs.Book.{date_in}
 use Rattle.model.specs.Bytes.{pieces}
 use Rattle.model.specs.Calendar.{is_date, day_number}
 use Rattle.civil.specs.Dates.{year_bias, day_read}
-use Rattle.civil.specs.declared.DayRead.{DayRead}
+use Rattle.std.specs.Prelude.{Option, Some, None, ℤ}
 
 -- of the numbers that two bytes can hold, how many are negative where they have a sign
 abbrev pub negatives : ℕ
@@ -29,7 +29,7 @@ pub record IsWritten (b : List ℕ) (p : ℕ) (d : Date) : Type 0 where
   pub day : d.day ≡ get_or b (p + 3) 0
 
 -- the number of the day of the date written at p
-unfoldable pub date_at : List ℕ → ℕ → DayRead
+unfoldable pub date_at : List ℕ → ℕ → Option ℤ
 date_at b p = day_read (record { year = written_year b p; month = get_or b (p + 2) 0; day = get_or b (p + 3) 0 })
 
 -- that day as the definitions count it, 0 where it is no date

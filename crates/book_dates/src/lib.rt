@@ -8,7 +8,7 @@ ghost use Rattle.big_endian.specs.Be.{two_bytes};
 ghost use Rattle.book_dates.specs.Days.{year_in_bytes, IsWritten, date_at, dates_at, is_day, are_days, HasDates};
 ghost use Rattle.book_dates.specs.Words.{words_at, rises, mark_count, slot_of};
 
-use civil::{Date, DayRead};
+use civil::Date;
 
 // The bytes of a date.
 pub const DATE_SIZE: usize = 4;
@@ -28,11 +28,7 @@ fn year_of(n: u32) -> u32
     requires { n < two_bytes }
     ensures { result ≡ year_in_bytes n }
 {
-    let y = (n + NEGATIVES) % big_endian::TWO_BYTES;
-    if y < civil::YEAR_BIAS {
-        return 0;
-    }
-    y - civil::YEAR_BIAS
+    ((n + NEGATIVES) % big_endian::TWO_BYTES).saturating_sub(civil::YEAR_BIAS)
 }
 
 // The year, month and day that are written at p, whether or not they are a date.
@@ -40,9 +36,9 @@ fn written_at(b: &[u8], p: usize) -> Date
     requires { p + 4 ≤ length b.now }
     ensures { IsWritten b.now p result }
 {
-    let year = year_of(number::byte_to_u32(b[p]) * 256 + number::byte_to_u32(b[p + 1]));
-    let month = number::byte_to_u32(b[p + 2]);
-    let day = number::byte_to_u32(b[p + 3]);
+    let year = year_of(big_endian::be16_at(b, p));
+    let month = u32::from(b[p + 2]);
+    let day = u32::from(b[p + 3]);
     Date { year, month, day }
 }
 
@@ -56,7 +52,7 @@ fn date_ok(l: &[u8], p: usize) -> bool
 }
 
 // The day that is written at p.
-pub fn date_at(b: &[u8], p: usize) -> DayRead
+pub fn date_at(b: &[u8], p: usize) -> Option<i32>
     requires { p + 4 ≤ length b.now }
     ensures { result ≡ date_at b.now p }
 {
@@ -70,16 +66,7 @@ pub fn dates_ok(l: &[u8], p: usize, n: usize) -> bool
     requires { p + 4 * n ≤ length l.now }
     ensures { result ≡ are_days l.now p n }
 {
-    let mut at = p;
-    let mut left = n;
-    while 0 < left {
-        if !date_ok(l, at) {
-            return false;
-        }
-        at += DATE_SIZE;
-        left -= 1;
-    }
-    true
+    (0..n).all(|i| date_ok(l, p + DATE_SIZE * i))
 }
 
 // ---- how many are different: the four bytes of each date as a number
@@ -90,16 +77,12 @@ fn ascend(b: &[u8], p: usize, n: usize) -> bool
     ensures { result ≡ rises 0 (words_at b.now p n) }
 {
     let mut last: u32 = 0;
-    let mut at = p;
-    let mut left = n;
-    while 0 < left {
-        let w = big_endian::four_at(b, at);
+    for i in 0..n {
+        let w = big_endian::four_at(b, p + DATE_SIZE * i);
         if w <= last {
             return false;
         }
         last = w;
-        at += DATE_SIZE;
-        left -= 1;
     }
     true
 }
@@ -109,16 +92,7 @@ fn has_word(b: &[u8], p: usize, n: usize, w: u32) -> bool
     requires { p + 4 * n ≤ length b.now }
     ensures { result ≡ among (words_at b.now p n) w }
 {
-    let mut at = p;
-    let mut left = n;
-    while 0 < left {
-        if w == big_endian::four_at(b, at) {
-            return true;
-        }
-        at += DATE_SIZE;
-        left -= 1;
-    }
-    false
+    (0..n).any(|i| w == big_endian::four_at(b, p + DATE_SIZE * i))
 }
 
 // Is w not among the n numbers from p on? Where one of them is w, the mark is not 0.
@@ -126,13 +100,11 @@ fn is_new(b: &[u8], p: usize, n: usize, w: u32, mark: u8) -> bool
     requires { (p + 4 * n ≤ length b.now) × (among (words_at b.now p n) w ≡ true → mark ≡ 1) }
     ensures { result ≡ not (among (words_at b.now p n) w) }
 {
-    if mark == 0 {
-        return true;
-    }
-    !has_word(b, p, n, w)
+    mark == 0 || !has_word(b, p, n, w)
 }
 
 // The mark of a number. The dates of 22 years in a row, each written as year, month and day, have marks of their own.
+#[tactic(auto, unfolding(crate::specs::Words::slot_of))]
 fn slot(w: u32) -> usize
     ensures { (result ≡ slot_of w) × (result < mark_count) }
 {
@@ -146,19 +118,14 @@ fn marked_count(b: &[u8], p: usize, n: usize) -> usize
     ensures { (result ≡ length (distinct (words_at b.now p n))) × (result ≤ n) }
 {
     let mut marks: [u8; MARKS] = [0; MARKS];
-    let mut left = n;
-    let mut done: usize = 0;
     let mut count: usize = 0;
-    while 0 < left {
-        left -= 1;
-        let at = p + DATE_SIZE * left;
+    for i in (0..n).rev() {
+        let at = p + DATE_SIZE * i;
         let w = big_endian::four_at(b, at);
         let k = slot(w);
         let mark = marks[k];
         marks[k] = 1;
-        let new = is_new(b, at + DATE_SIZE, done, w, mark);
-        done += 1;
-        if new {
+        if is_new(b, at + DATE_SIZE, n - 1 - i, w, mark) {
             count += 1;
         }
     }
@@ -171,7 +138,8 @@ pub fn distinct_dates(b: &[u8], p: usize, n: usize) -> usize
     ensures { (result ≡ length (distinct (dates_at b.now p n))) × (result ≤ n) }
 {
     if ascend(b, p, n) {
-        return n;
+        n
+    } else {
+        marked_count(b, p, n)
     }
-    marked_count(b, p, n)
 }

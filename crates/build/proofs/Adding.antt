@@ -8,7 +8,6 @@ use lib.ListN.{length, take, set, length-set}
 use lib.Seq.{take-suc-set}
 use Rattle.model.specs.Basic.{distinct}
 use Rattle.model.specs.Instant.{second, day}
-use Rattle.model.specs.Book.{work, holidays}
 use Rattle.model.specs.Working as model
 use Rattle.laws_base.specs.Front.{front-push}
 use Rattle.book.specs.declared.Entry.{Entry}

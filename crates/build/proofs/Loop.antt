@@ -3,12 +3,16 @@ use mathlib.Core.Path.{◌≡◌, refl, sym, ap, ◌∙◌}
 use mathlib.Core.Bool.{true, ◌&&◌}
 use mathlib.Core.List.{List, [], ◌∷◌, ◌++◌, append-nil, append_assoc}
 use Prim.Native.Nat.{ℕ, ◌+◌, ◌*◌, ◌-◌, ◌≤◌, ◌<◌}
+use Rattle.std.specs.Prelude.{Ok, Err}
+use Rattle.std.specs.Prelude as std
+use Rattle.refusal.specs.declared.Refused.{Refused}
+use Rattle.refusal.specs.Refused.{number_of}
 use native.Mathlib.Omega.{arith}
 use native.Mathlib.Numerals.{add-one}
 use lib.Dec.{leb}
 use lib.ListN.{length, drop, get_or, drop_of_length-le}
 use lib.Seq.{drop-cons}
-use borrow.Author.Tests.{leb-true, ne_eqb}
+use borrow.Author.Tests.{leb-true}
 use Rattle.laws_base.specs.Test.{and_both}
 use Rattle.model.specs.Basic.{distinct}
 use Rattle.model.specs.Instant.{day}
@@ -26,12 +30,9 @@ use Rattle.book.specs.Meaning.{records_of, body_in, meaning, no_entry, IsEntry}
 use Rattle.rule.specs.declared.Schedule.{Schedule}
 use Rattle.rule.specs.Rules.{schedule_is, most_limit}
 use Rattle.build.specs.declared.Opened.{Opened}
-use Rattle.build.specs.declared.ZoneLookup.{ZoneLookup}
-use Rattle.build.specs.declared.ZoneLookup.TheVariants.{Found, Refused}
-use Rattle.build.specs.declared.Built.{Built}
 use Rattle.build.specs.declared.LastLookup.{LastLookup}
 use Rattle.build.proofs.Lookups.{knows_after}
-use Rattle.build.specs.Read.{LooksUp, lookup_after, files_of, zone_meant, OpenedWell, zone_lookup_is, ZoneLookupFits, found, refused, first_limit, date_limit, Sized, with_record, RulesFit, RecordRoom, Adds, Refuses, ReadsBook, Answers}
+use Rattle.build.specs.Read.{LooksUp, lookup_after, files_of, zone_meant, AnswersUsed, first_limit, date_limit, Sized, with_record, RulesFit, RecordRoom, Adds, ReadsBook}
 
 -- ---- records that were read, and those that are left
 
@@ -123,17 +124,6 @@ limits_of l e =
 pub no-rules : (b p : List ℕ) {s : Schedule} → Sized s 0 0 0 first_limit → schedule_is b p s ≡ no_rules
 no-rules b p h = rw (h.works, h.pauses, h.closings, h.limit)
 
--- a refusal of the definitions, answered as such
-pub refused-is : (b p : List ℕ) (t : Built) {n k : ℕ} {a : Answer model.Schedule} → 0 < n → Refuses t n k → refuses n k ≡ a → Answers b p t a
-refused-is b p t h v e =
-    let x : (t.number ≡ 0 → ⊥) = λ y. omega (arith, v.number) in
-    record {
-      means = rw (ne_eqb t.number 0 x, v.number, v.place) e;
-      fits = λ y. absurd (x y);
-      place = λ y. absurd (x y);
-      empty = λ _. no-rules b p v.empty;
-    }
-
 module _ (b p : List ℕ) (z : Zone) where
   pub reading-start : within_limits (records_of b) ≡ true → {s : Schedule} → Sized s 0 0 0 first_limit → Reading b p z 0 s
   reading-start w {s} h =
@@ -149,16 +139,16 @@ module _ (b p : List ℕ) (z : Zone) where
       }
 
   -- the loop's end
-  pub reading-end : (i : ℕ) (s : Schedule) → Reading b p z i s → length (records_of b) ≤ i → ReadsBook b p (record { number = 0; place = 0; schedule = s }) (rules_of (files_of p) z (records_of b))
+  pub reading-end : (i : ℕ) (s : Schedule) → Reading b p z i s → length (records_of b) ≤ i → ReadsBook b p (Ok s) (rules_of (files_of p) z (records_of b))
   reading-end i s r h = record {
     means = sym (rest_end (files_of p) z (schedule_is b p s)) ∙ rw (drop_of_length-le (records_of b) h) at r.rest;
-    kept = λ _. r.kept;
-    works = λ _. omega (arith, r.works);
-    pauses = λ _. omega (arith, r.pauses);
-    closings = λ _. omega (arith, r.closings);
-    limit = λ _. omega (arith, r.limit);
-    place = λ _. refl;
-    empty = λ n. absurd (n refl);
+    fits = record {
+      kept = r.kept;
+      works = omega (arith, r.works);
+      pauses = omega (arith, r.pauses);
+      closings = omega (arith, r.closings);
+      limit = omega (arith, r.limit);
+    };
   }
 
   module _ (i : ℕ) (s : Schedule) (r : Reading b p z i s) (h : i < length (records_of b)) (e : code.Entry) (is : IsEntry b i e) where
@@ -183,48 +173,28 @@ module _ (b p : List ℕ) (z : Zone) where
       dates = is.dates;
     }
 
-    module _ (q : ZoneLookup) (eq : zone_lookup_is p q ≡ zone_used (files_of p) z (meaning b e) (body_in b e)) (w : ZoneLookupFits p q) where
-      sought-is : zone_used (files_of p) z (meaning b e) (meaning b e).body ≡ zone_lookup_is p q
+    module _ (d : Opened) (ed : z ≡ zone_meant p d) where
+      -- the record's zone was found, and the schedule t has the record
+      pub step-more : {o : Opened} {t : Schedule} → AnswersUsed b p e d (Ok o) → Adds b p s e o t → Reading b p z (i + 1) t
       unfolding meaning
-      sought-is = sym eq
-
-      pub step-more : {o : Opened} {t : Schedule} → q ≡ Found o → Adds b p s e o t → Reading b p z (i + 1) t
-      unfolding meaning
-      step-more {o} {t} f g =
-          let a : zone_used (files_of p) z (meaning b e) (meaning b e).body ≡ gives (zone_meant p o) = sought-is ∙ rw f in
+      step-more {o} {t} w g =
+          let a : zone_used (files_of p) z (meaning b e) (meaning b e).body ≡ gives (zone_meant p o) = rw ed (sym w.means) in
           record {
             rest = rw g.means (sym (rest_more (files_of p) z (schedule_is b p s) (meaning b e) (drop (i + 1) (records_of b)) a) ∙ rest-next);
-            kept = g.kept (open_is (rw f at w)) r.kept;
+            kept = g.kept w.fits r.kept;
             works = omega (arith, r.works, g.works, tally-next books.works);
             pauses = omega (arith, r.pauses, g.pauses, tally-next books.pauses);
             closings = omega (arith, r.closings, g.closings, tally-next books.holiday_records);
             limit = omega (arith, r.limit, g.limit, tally-next books.dates);
           }
-        where
-          open_is : ZoneLookupFits p (Found o) → OpenedWell p o
-          open_is (found k) = k
 
       -- the zone that is known behind the record
-      pub step-knows : {o : Opened} → q ≡ Found o → {k r : LastLookup} → LooksUp b p k → r ≡ lookup_after e o k → LooksUp b p r
-      step-knows {o} f {k} v er = rw er (knows_after b p e k v z o is.name (sym (ap (zone_lookup_is p) f) ∙ eq) (open_is (rw f at w)))
-        where
-          open_is : ZoneLookupFits p (Found o) → OpenedWell p o
-          open_is (found j) = j
+      pub step-knows : {o : Opened} → AnswersUsed b p e d (Ok o) → (k : std.Option LastLookup) {r : std.Option LastLookup} → LooksUp b p k → r ≡ lookup_after e o k → LooksUp b p r
+      step-knows {o} w k v er = rw er (knows_after b p e k v (zone_meant p d) o is.name w.means w.fits)
 
-      pub step-refused : {n k : ℕ} {t : Built} → q ≡ Refused n k → Refuses t n k → ReadsBook b p t (rules_of (files_of p) z (records_of b))
-      step-refused {n} {k} {t} f v =
-          let a : zone_used (files_of p) z (meaning b e) (meaning b e).body ≡ refuses n k = sought-is ∙ rw f in
-          let x : (t.number ≡ 0 → ⊥) = λ y. omega (arith, some_number (rw f at w), v.number) in
-          record {
-            means = rw (ne_eqb t.number 0 x, v.number, v.place) (sym (rest-refused (files_of p) z (schedule_is b p s) (meaning b e) (drop (i + 1) (records_of b)) a) ∙ rest-next);
-            kept = λ y. absurd (x y);
-            works = λ y. absurd (x y);
-            pauses = λ y. absurd (x y);
-            closings = λ y. absurd (x y);
-            limit = λ y. absurd (x y);
-            place = λ y. absurd (x y);
-            empty = λ _. no-rules b p v.empty;
-          }
-        where
-          some_number : ZoneLookupFits p (Refused n k) → 0 < n
-          some_number (refused j) = j
+      -- its zone was not found
+      pub step-refused : {x : Refused} → AnswersUsed b p e d (Err x) → ReadsBook b p (Err x) (rules_of (files_of p) z (records_of b))
+      unfolding meaning
+      step-refused {x} w =
+          let a : zone_used (files_of p) z (meaning b e) (meaning b e).body ≡ refuses (number_of x.refusal) x.place = rw ed (sym w.means) in
+          record { means = sym (rest-refused (files_of p) z (schedule_is b p s) (meaning b e) (drop (i + 1) (records_of b)) a) ∙ rest-next; fits = tt }

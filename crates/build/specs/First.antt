@@ -1,23 +1,17 @@
 -- A call that builds the schedule first: what `build` refuses is its answer, and else it asks the schedule.
-use Rattle.std.specs.Prelude.{◌≡◌, List, ℕ}
-use Rattle.std.proofs.Common.{eq-eqb, ne_eqb}
-use Rattle.model.specs.Answer.{Answer, gives, refuses, ◌>>=◌}
+use Rattle.std.specs.Prelude.{◌≡◌, List, ℕ, Ok, Err}
+use Rattle.model.specs.Answer.{Answer, refuses, ◌>>=◌}
 use Rattle.model.specs.Build.{build}
 use Rattle.model.specs.Working as model
+use Rattle.refusal.specs.declared.Refused.{Refused}
+use Rattle.refusal.specs.Refused.{number_of}
+use Rattle.rule.specs.declared.Schedule.{Schedule}
 use Rattle.rule.specs.Rules.{schedule_is}
-use Rattle.build.specs.declared.Built.{Built}
-use Rattle.build.specs.Read.{answer_is}
+use Rattle.build.specs.Read.{Builds}
 
-module _ (b p : List ℕ) (r : Built) (e : answer_is b p r ≡ build b p) where
-  pub build-gives : r.number ≡ 0 → gives (schedule_is b p r.schedule) ≡ build b p
-  build-gives n = rw (eq-eqb r.number 0 n) at e
+module _ {A : Type 0} (b p : List ℕ) (f : model.Schedule → Answer A) where
+  pub not-built : {x : Refused} → Builds b p (Err x) → refuses (number_of x.refusal) x.place ≡ (build b p >>= f)
+  not-built e = rw (← e.means)
 
-  pub build-refuses : (r.number ≡ 0 → ⊥) → refuses r.number r.place ≡ build b p
-  build-refuses n = rw (ne_eqb r.number 0 n) at e
-
-module _ {A : Type 0} (b p : List ℕ) (r : Built) (f : model.Schedule → Answer A) (e : answer_is b p r ≡ build b p) where
-  pub not-built : (r.number ≡ 0 → ⊥) → refuses r.number r.place ≡ (build b p >>= f)
-  not-built n = rw (← build-refuses b p r e n)
-
-  pub is-built : r.number ≡ 0 → {a : Answer A} → a ≡ f (schedule_is b p r.schedule) → a ≡ (build b p >>= f)
-  is-built n q = rw (← build-gives b p r e n) q
+  pub is-built : {s : Schedule} → Builds b p (Ok s) → {a : Answer A} → a ≡ f (schedule_is b p s) → a ≡ (build b p >>= f)
+  is-built e q = rw (← e.means) q

@@ -1,2 +1,4 @@
 pub mod Read
 pub mod First
+pub mod BuiltLaws
+pub mod NameLaws

@@ -1,5 +1,6 @@
 -- What the code answers, in terms of the definitions: the zone of a record, a schedule with one record more, and the answer of `build`.
-use Rattle.std.specs.Prelude.{◌≡◌, refl, List, [], ◌∷◌, ◌++◌, ℕ, ◌+◌, ◌*◌, ◌≤◌, ◌<◌, eqb, length, take, drop, set, get_or, Bool, true, if◌then◌else◌}
+use Rattle.std.specs.Prelude.{◌≡◌, refl, List, [], ◌∷◌, ◌++◌, ℕ, ◌+◌, ◌*◌, ◌≤◌, eqb, length, take, drop, set, Bool, true, if◌then◌else◌, Some, None, Result, IfOk}
+use Rattle.std.specs.Prelude as std
 use Rattle.std.proofs.Common.{sym}
 use Rattle.std.proofs.Math.Option.{Option, none, some}
 use Rattle.laws_base.specs.Test.{by-test}
@@ -12,8 +13,10 @@ use Rattle.model.specs.Zone as zones
 use Rattle.model.specs.Book as books
 use Rattle.model.specs.Book.{Body, default, work, pause, holidays, entries_of, within_limits, last_default}
 use Rattle.model.specs.Working as model
-use Rattle.model.specs.Build.{lookup, default_zone, zone_used, no_rules, rules_of, works_in_2001, build}
+use Rattle.model.specs.Build.{lookup, default_zone, zone_used, rules_of, works_in_2001, build}
 use Rattle.big_endian.specs.Maybe.{or_empty}
+use Rattle.refusal.specs.declared.Refused.{Refused}
+use Rattle.refusal.specs.Answered.{answer_of}
 use Rattle.book.specs.declared.Entry.{Entry}
 use Rattle.zone_pack.specs.Pack.{is_pack}
 use Rattle.book_dates.specs.Days.{HasDates}
@@ -27,11 +30,7 @@ use Rattle.rule.specs.declared.Schedule.{Schedule}
 use Rattle.rule.specs.Rules.{file_at, schedule_is, RuleFits, HolidaysFit, ScheduleFits, most_limit}
 use Rattle.laws_base.specs.Every.{Every}
 use Rattle.build.specs.declared.Opened.{Opened}
-use Rattle.build.specs.declared.ZoneLookup.{ZoneLookup}
-use Rattle.build.specs.declared.ZoneLookup.TheVariants.{Found, Refused}
 use Rattle.build.specs.declared.LastLookup.{LastLookup}
-use Rattle.build.specs.declared.LastLookup.TheVariants.{Last, Nothing}
-use Rattle.build.specs.declared.Built.{Built}
 
 -- ---- the definitions' `build` without its last step, the search for work
 
@@ -68,59 +67,43 @@ pub record IsUtc (p : List ℕ) (o : Opened) : Type 0 where
   pub means : zone_meant p o ≡ zones.utc
   pub opened : OpenedWell p o
 
--- the answer of a search for a zone
-abbrev pub zone_lookup_is : List ℕ → ZoneLookup → Answer Zone
-zone_lookup_is p (Found o) = gives (zone_meant p o)
-zone_lookup_is p (Refused n k) = refuses n k
-
--- a zone that was found is open, and a refusal has a number
-pub data ZoneLookupFits (p : List ℕ) : ZoneLookup → Type 0 where
-  found : {o : Opened} → OpenedWell p o → ZoneLookupFits p (Found o)
-  refused : {n k : ℕ} → 0 < n → ZoneLookupFits p (Refused n k)
-
 -- r stands for the answer a, and what it found is open
-abbrev pub ZoneAnswers : List ℕ → ZoneLookup → Answer Zone → Type 0
-ZoneAnswers p r a = (zone_lookup_is p r ≡ a) × ZoneLookupFits p r
+pub record ZoneAnswers (p : List ℕ) (r : Result Opened Refused) (a : Answer Zone) : Type 0 where
+  pub means : answer_of (zone_meant p) r ≡ a
+  pub fits : IfOk r (OpenedWell p)
 
 -- so it is for the zone that a record names, the default zone, and the zone that a record uses where d is the default zone
-abbrev pub AnswersNamed : List ℕ → List ℕ → Entry → ZoneLookup → Type 0
+abbrev pub AnswersNamed : List ℕ → List ℕ → Entry → Result Opened Refused → Type 0
 AnswersNamed b p e r = ZoneAnswers p r (lookup (files_of p) (meaning b e))
 
-abbrev pub AnswersDefault : List ℕ → List ℕ → ZoneLookup → Type 0
+abbrev pub AnswersDefault : List ℕ → List ℕ → Result Opened Refused → Type 0
 AnswersDefault b p r = ZoneAnswers p r (default_zone (files_of p) (last_default none (records_of b)))
 
-abbrev pub AnswersUsed : List ℕ → List ℕ → Entry → Opened → ZoneLookup → Type 0
+abbrev pub AnswersUsed : List ℕ → List ℕ → Entry → Opened → Result Opened Refused → Type 0
 AnswersUsed b p e d r = ZoneAnswers p r (zone_used (files_of p) (zone_meant p d) (meaning b e) (body_in b e))
 
 -- ---- a zone that is known
 
--- the n bytes from i on are those from j on
-abbrev pub SameBytes : List ℕ → ℕ → ℕ → ℕ → Type 0
-SameBytes b i j n = (x : ℕ) → x < n → get_or b (i + x) 0 ≡ get_or b (j + x) 0
-
--- the record's name is that of n letters at i
-pub record SameName (b : List ℕ) (e : Entry) (i n : ℕ) : Type 0 where
-  pub letters : e.letters ≡ n
-  pub bytes : SameBytes b e.name i e.letters
+-- the record's name is that which was found last
+abbrev pub SameName : List ℕ → Entry → LastLookup → Type 0
+SameName b e k = take e.letters (drop e.name b) ≡ take k.letters (drop k.name b)
 
 -- every record with the name gets the zone
-pub record Names (b p : List ℕ) (name letters : ℕ) (o : Opened) : Type 0 where
-  pub inside : name + letters ≤ length b
-  pub means : (e : books.Entry) → e.name ≡ take letters (drop name b) → lookup (files_of p) e ≡ gives (zone_meant p o)
-  pub opened : OpenedWell p o
+pub record Names (b p : List ℕ) (k : LastLookup) : Type 0 where
+  pub means : (e : books.Entry) → e.name ≡ take k.letters (drop k.name b) → lookup (files_of p) e ≡ gives (zone_meant p k.zone)
+  pub opened : OpenedWell p k.zone
 
 -- what is known is so
-pub data LooksUp (b p : List ℕ) : LastLookup → Type 0 where
-  last : {name letters : ℕ} {o : Opened} → Names b p name letters o → LooksUp b p (Last name letters o)
-  nothing : LooksUp b p Nothing
+abbrev pub LooksUp : List ℕ → List ℕ → std.Option LastLookup → Type 0
+LooksUp b p k = std.MatchOption k (Unit {0}) (Names b p)
 
 -- the zone of the record e can be sought where k is known
-abbrev pub Searchable : List ℕ → List ℕ → Entry → LastLookup → Type 0
+abbrev pub Searchable : List ℕ → List ℕ → Entry → std.Option LastLookup → Type 0
 Searchable b p e k = (is_pack p ≡ true) × NameIn b e × LooksUp b p k
 
 -- what is known behind a record that uses o
-abbrev pub lookup_after : Entry → Opened → LastLookup → LastLookup
-lookup_after e o k = if eqb e.kind default_kind then k else if eqb e.letters 0 then k else Last e.name e.letters o
+abbrev pub lookup_after : Entry → Opened → std.Option LastLookup → std.Option LastLookup
+lookup_after e o k = if eqb e.kind default_kind then k else if eqb e.letters 0 then k else Some (record { name = e.name; letters = e.letters; zone = o })
 
 -- ---- rules
 
@@ -221,43 +204,32 @@ pub record Adds (b p : List ℕ) (s : Schedule) (e : Entry) (o : Opened) (r : Sc
 
 -- ---- the answer of `build`
 
--- the definitions' answer that r stands for
-abbrev pub answer_is : List ℕ → List ℕ → Built → Answer model.Schedule
-answer_is b p r = if eqb r.number 0 then gives (schedule_is b p r.schedule) else refuses r.number r.place
-
--- the refusal of number n and place k; its schedule has no rules
-pub record Refuses (r : Built) (n k : ℕ) : Type 0 where
-  pub number : r.number ≡ n
-  pub place : r.place ≡ k
-  pub empty : Sized r.schedule 0 0 0 first_limit
+-- the rules of a schedule fit, and there are no more than it has places for
+pub record RulesRead (b p : List ℕ) (s : Schedule) : Type 0 where
+  pub kept : RulesFit b p s
+  pub works : s.works ≤ most_work
+  pub pauses : s.pauses ≤ most_breaks
+  pub closings : s.closings ≤ most_holidays
+  pub limit : s.limit ≤ most_limit
 
 -- r stands for the answer a, and its rules fit
-pub record ReadsBook (b p : List ℕ) (r : Built) (a : Answer model.Schedule) : Type 0 where
-  pub means : answer_is b p r ≡ a
-  pub kept : r.number ≡ 0 → RulesFit b p r.schedule
-  pub works : r.number ≡ 0 → r.schedule.works ≤ most_work
-  pub pauses : r.number ≡ 0 → r.schedule.pauses ≤ most_breaks
-  pub closings : r.number ≡ 0 → r.schedule.closings ≤ most_holidays
-  pub limit : r.number ≡ 0 → r.schedule.limit ≤ most_limit
-  pub place : r.number ≡ 0 → r.place ≡ 0
-  pub empty : (r.number ≡ 0 → ⊥) → schedule_is b p r.schedule ≡ no_rules
+pub record ReadsBook (b p : List ℕ) (r : Result Schedule Refused) (a : Answer model.Schedule) : Type 0 where
+  pub means : answer_of (schedule_is b p) r ≡ a
+  pub fits : IfOk r (RulesRead b p)
 
--- what an answer r is where the definitions answer a. With number 0 it is a schedule, which fits, and the place is 0; any other number is a refusal, and
--- the schedule that comes with it has no rules.
-pub record Answers (b p : List ℕ) (r : Built) (a : Answer model.Schedule) : Type 0 where
-  pub means : answer_is b p r ≡ a
-  pub fits : r.number ≡ 0 → ScheduleFits b p r.schedule
-  pub place : r.number ≡ 0 → r.place ≡ 0
-  pub empty : (r.number ≡ 0 → ⊥) → schedule_is b p r.schedule ≡ no_rules
+-- what an answer r is where the definitions answer a: r stands for it, and a schedule fits
+pub record Answers (b p : List ℕ) (r : Result Schedule Refused) (a : Answer model.Schedule) : Type 0 where
+  pub means : answer_of (schedule_is b p) r ≡ a
+  pub fits : IfOk r (ScheduleFits b p)
 
 -- what the loop over the records answers where d is the default zone, what is answered before the search for work, and what `build` answers
-abbrev pub ReadsRules : List ℕ → List ℕ → Opened → Built → Type 0
+abbrev pub ReadsRules : List ℕ → List ℕ → Opened → Result Schedule Refused → Type 0
 ReadsRules b p d r = ReadsBook b p r (rules_of (files_of p) (zone_meant p d) (records_of b))
 
-abbrev pub AnswersRules : List ℕ → List ℕ → Built → Type 0
+abbrev pub AnswersRules : List ℕ → List ℕ → Result Schedule Refused → Type 0
 AnswersRules b p r = Answers b p r (rules_read b p)
 
-abbrev pub Builds : List ℕ → List ℕ → Built → Type 0
+abbrev pub Builds : List ℕ → List ℕ → Result Schedule Refused → Type 0
 Builds b p r = Answers b p r (build b p)
 
 -- ---- the definitions' `build`

@@ -1,16 +1,17 @@
-// From the bytes of a rule book and a zone pack to a schedule, or to a refusal: its number and a place in the book.
+// From the bytes of a rule book and a zone pack to a schedule, or to a refusal and its place in the book.
 #![tactic(auto)]
 
 ghost use Rattle.std.specs.Prelude.{◌≡◌, true, List, ℕ, ◌+◌, ◌≤◌, length};
 ghost use Rattle.zone_pack.specs.Pack.{is_pack};
 ghost use Rattle.book.specs.Meaning.{NameIn};
-ghost use Rattle.build.specs.Read.{Checked, OpenedWell, IsUtc, AnswersNamed, AnswersDefault, AnswersUsed, SameBytes, SameName, Searchable};
-ghost use Rattle.build.specs.Read.{lookup_after, rule_from, holidays_from, first_limit, Sized, Long, Refuses, ReadsRules, AnswersRules, Builds};
+ghost use Rattle.build.specs.Read.{Checked, OpenedWell, IsUtc, AnswersNamed, AnswersDefault, AnswersUsed, SameName, Searchable};
+ghost use Rattle.build.specs.Read.{lookup_after, rule_from, holidays_from, first_limit, Sized, Long, RecordRoom, Adds, ReadsRules, AnswersRules, Builds};
 
 use book::Entry;
 use civil::Time;
+use refusal::{Refusal, Refused};
 use rule::{HolidayDates, Rule, Schedule};
-use zone::{Zone, ZoneRead};
+use zone::Zone;
 
 // The search limit without holidays: 366 days in seconds.
 const FIRST_LIMIT: u64 = 366 * instant::DAY;
@@ -23,51 +24,39 @@ pub struct Opened {
     pub zone: Zone,
 }
 
-// A zone that was sought: it, or a refusal's number and place.
+// The zone that was found last by a record's name: where the name stands in the book, how many letters it has, and the zone.
 #[derive(Clone, Copy)]
-pub enum ZoneLookup {
-    Found(Opened),
-    Refused(u32, usize),
-}
-
-// The zone that was found last by a record's name: where the name stands in the book, how many letters it has, and the zone; or none was found yet.
-#[derive(Clone, Copy)]
-pub enum LastLookup {
-    Last(usize, usize, Opened),
-    Nothing,
-}
-
-// What building answers: number 0, place 0 and the schedule, or a refusal's number and place with a schedule that has no rules.
-#[derive(Clone, Copy)]
-pub struct Built {
-    pub number: u32,
-    pub place: usize,
-    pub schedule: Schedule,
+pub struct LastLookup {
+    pub name: usize,
+    pub letters: usize,
+    pub zone: Opened,
 }
 
 // ---- the zone of a record
 
-// The zone of a record's name: 4 where the pack has not got it, 5 where its file is not usable.
-fn look_up(book: &[u8], pack: &[u8], e: Entry) -> ZoneLookup
+// The zone of a record's name, where the pack has got it and its file is usable.
+fn look_up(book: &[u8], pack: &[u8], e: Entry) -> Result<Opened, Refused>
     requires { is_pack pack.now ≡ true }
     ensures { AnswersNamed book.now pack.now e result }
 {
-    let mut found = false;
-    let mut at: usize = 0;
-    let file = zone_pack::look_in(
-        pack,
-        big_endian::part(book, e.name, e.letters),
-        &mut found,
-        &mut at,
-    );
-    if !found {
-        return ZoneLookup::Refused(refusal::UNKNOWN_ZONE, e.place);
-    }
-    let len = file.len();
-    let ZoneRead::Opened(zone) = zone::open(file) else {
-        return ZoneLookup::Refused(refusal::ZONE_UNUSABLE, e.place);
+    let name = big_endian::part(book, e.name, e.letters);
+    let Some(found) = zone_pack::look_in(pack, name) else {
+        return Err(Refused {
+            refusal: Refusal::UnknownZone,
+            place: e.place,
+        });
     };
-    ZoneLookup::Found(Opened { at, len, zone })
+    let Some(zone) = zone::open(found.file) else {
+        return Err(Refused {
+            refusal: Refusal::ZoneUnusable,
+            place: e.place,
+        });
+    };
+    Ok(Opened {
+        at: found.at,
+        len: found.file.len(),
+        zone,
+    })
 }
 
 // UTC, as a zone without a file.
@@ -83,7 +72,7 @@ fn utc() -> Opened
 }
 
 // The zone of the last default record, or UTC.
-fn default_zone(book: &[u8], pack: &[u8]) -> ZoneLookup
+fn default_zone(book: &[u8], pack: &[u8]) -> Result<Opened, Refused>
     requires { Checked book.now pack.now }
     ensures { AnswersDefault book.now pack.now result }
 {
@@ -91,74 +80,56 @@ fn default_zone(book: &[u8], pack: &[u8]) -> ZoneLookup
     if i < book::count(book) {
         return look_up(book, pack, book::entry_at(book, i));
     }
-    ZoneLookup::Found(utc())
+    Ok(utc())
 }
 
-// Are the n bytes from p on those from q on?
-fn same_bytes(b: &[u8], p: usize, q: usize, n: usize) -> bool
-    requires { (p + n ≤ length b.now) × (q + n ≤ length b.now) }
-    ensures { result ≡ true → SameBytes b.now p q n }
+// Is the record's name that which was found last?
+fn is_named(book: &[u8], e: Entry, last: LastLookup) -> bool
+    ensures { result ≡ true → SameName book.now e last }
 {
-    let mut i = 0;
-    while i < n {
-        if b[p + i] != b[q + i] {
-            return false;
-        }
-        i += 1;
-    }
-    true
-}
-
-// Is the record's name that of `letters` letters which stands at `name`?
-fn is_named(book: &[u8], e: Entry, name: usize, letters: usize) -> bool
-    requires { NameIn book.now e × (name + letters ≤ length book.now) }
-    ensures { result ≡ true → SameName book.now e name letters }
-{
-    if e.letters != letters {
-        return false;
-    }
-    same_bytes(book, e.name, name, e.letters)
+    big_endian::part(book, e.name, e.letters) == big_endian::part(book, last.name, last.letters)
 }
 
 // The zone of a record's name where k is known. A name's zone is opened once, where records that name it follow one another.
-fn zone_named(book: &[u8], pack: &[u8], e: Entry, k: LastLookup) -> ZoneLookup
+fn zone_named(book: &[u8], pack: &[u8], e: Entry, k: Option<LastLookup>) -> Result<Opened, Refused>
     requires { Searchable book.now pack.now e k }
     ensures { AnswersNamed book.now pack.now e result }
 {
-    let LastLookup::Last(name, letters, zone) = k else {
-        return look_up(book, pack, e);
-    };
-    if is_named(book, e, name, letters) {
-        return ZoneLookup::Found(zone);
+    match k {
+        Some(last) if is_named(book, e, last) => Ok(last.zone),
+        _ => look_up(book, pack, e),
     }
-    look_up(book, pack, e)
 }
 
 // The zone that a record uses where d is the default zone and k is known.
-fn zone_used(book: &[u8], pack: &[u8], e: Entry, d: Opened, k: LastLookup) -> ZoneLookup
+fn zone_used(
+    book: &[u8],
+    pack: &[u8],
+    e: Entry,
+    d: Opened,
+    k: Option<LastLookup>,
+) -> Result<Opened, Refused>
     requires { OpenedWell pack.now d × Searchable book.now pack.now e k }
     ensures { AnswersUsed book.now pack.now e d result }
 {
-    if e.kind == book::DEFAULT_ZONE {
-        return ZoneLookup::Found(d);
-    }
-    if e.letters == 0 {
-        return ZoneLookup::Found(d);
+    if e.kind == book::DEFAULT_ZONE || e.letters == 0 {
+        return Ok(d);
     }
     zone_named(book, pack, e, k)
 }
 
 // What is known behind a record that uses o.
-fn lookup_after(e: Entry, o: Opened, k: LastLookup) -> LastLookup
+fn lookup_after(e: Entry, o: Opened, k: Option<LastLookup>) -> Option<LastLookup>
     ensures { result ≡ lookup_after e o k }
 {
-    if e.kind == book::DEFAULT_ZONE {
+    if e.kind == book::DEFAULT_ZONE || e.letters == 0 {
         return k;
     }
-    if e.letters < 1 {
-        return k;
-    }
-    LastLookup::Last(e.name, e.letters, o)
+    Some(LastLookup {
+        name: e.name,
+        letters: e.letters,
+        zone: o,
+    })
 }
 
 // ---- the rules of the records
@@ -231,89 +202,64 @@ fn no_rules() -> Schedule
 
 // ---- from book and pack to an answer
 
-// A refusal: no rules come with it.
-fn refused(number: u32, place: usize) -> Built
-    ensures { Refuses result number place }
+// The rules of a schedule and one record more, where o is the zone that the record uses. The schedule is changed in its place: it is not copied.
+fn add_record(book: &[u8], s: &mut Schedule, e: Entry, o: Opened)
+    requires { RecordRoom book.now s.old e × Long s.old }
+    ensures { ((p : List ℕ) → Adds book.now p s.old e o s.new) × Long s.new }
 {
-    let schedule = no_rules();
-    Built {
-        number,
-        place,
-        schedule,
+    if e.kind == book::WORK {
+        s.work[s.works] = rule_of(e, o);
+        s.works += 1;
+    } else if e.kind == book::BREAK {
+        s.breaks[s.pauses] = rule_of(e, o);
+        s.pauses += 1;
+    } else if e.kind == book::HOLIDAYS {
+        let days = book_dates::distinct_dates(book, e.dates, e.count);
+        s.closed[s.closings] = holidays_of(e, o);
+        s.closings += 1;
+        s.limit += instant::WEEK * (days as u64);
     }
 }
 
-// The rules of the book's records, where d is the default zone. They are put in their places one by one: a call with a schedule would copy it.
-fn read_rules(book: &[u8], pack: &[u8], d: Opened) -> Built
+// The rules of the book's records, where d is the default zone.
+fn read_rules(book: &[u8], pack: &[u8], d: Opened) -> Result<Schedule, Refused>
     requires { Checked book.now pack.now × OpenedWell pack.now d }
     ensures { ReadsRules book.now pack.now d result }
 {
-    let n = book::count(book);
     let mut s = no_rules();
-    let mut k = LastLookup::Nothing;
-    let mut i: usize = 0;
-    while i < n {
+    let mut k = None;
+    for i in 0..book::count(book) {
         let e = book::entry_at(book, i);
-        i += 1;
-        match zone_used(book, pack, e, d, k) {
-            ZoneLookup::Found(o) => {
-                k = lookup_after(e, o, k);
-                if e.kind == book::WORK {
-                    let at = s.works;
-                    s.work[at] = rule_of(e, o);
-                    s.works = at + 1;
-                } else if e.kind == book::BREAK {
-                    let at = s.pauses;
-                    s.breaks[at] = rule_of(e, o);
-                    s.pauses = at + 1;
-                } else if e.kind == book::HOLIDAYS {
-                    let at = s.closings;
-                    let days = book_dates::distinct_dates(book, e.dates, e.count);
-                    s.closed[at] = holidays_of(e, o);
-                    s.closings = at + 1;
-                    s.limit += instant::WEEK * (days as u64);
-                }
-            }
-            ZoneLookup::Refused(number, place) => return refused(number, place),
-        }
+        let o = zone_used(book, pack, e, d, k)?;
+        k = lookup_after(e, o, k);
+        add_record(book, &mut s, e, o);
     }
-    Built {
-        number: 0,
-        place: 0,
-        schedule: s,
-    }
+    Ok(s)
 }
 
 // The schedule of a book and a pack, whether or not there is work in it: refusals 1 to 5, in this order.
-fn rules_of(book: &[u8], pack: &[u8]) -> Built
+fn rules_of(book: &[u8], pack: &[u8]) -> Result<Schedule, Refused>
     ensures { AnswersRules book.now pack.now result }
 {
     if !book::book_ok(book) {
-        return refused(refusal::BOOK_LAYOUT, 0);
+        return Err(Refusal::BookLayout.into());
     }
     if !book::limits_ok(book) {
-        return refused(refusal::BOOK_LIMIT, 0);
+        return Err(Refusal::BookLimit.into());
     }
     if !zone_pack::pack_ok(pack) {
-        return refused(refusal::PACK_LAYOUT, 0);
+        return Err(Refusal::PackLayout.into());
     }
-    match default_zone(book, pack) {
-        ZoneLookup::Found(d) => return read_rules(book, pack, d),
-        ZoneLookup::Refused(number, place) => return refused(number, place),
-    }
+    read_rules(book, pack, default_zone(book, pack)?)
 }
 
 // The schedule of a book and a pack, or its first refusal.
-pub fn build(book: &[u8], pack: &[u8]) -> Built
+pub fn build(book: &[u8], pack: &[u8]) -> Result<Schedule, Refused>
     ensures { Builds book.now pack.now result }
 {
-    let r = rules_of(book, pack);
-    if r.number != 0 {
-        return r;
-    }
-    let s = r.schedule;
+    let s = rules_of(book, pack)?;
     if build_check::has_work(book, pack, s) {
-        return r;
+        return Ok(s);
     }
-    refused(refusal::NO_WORKING_TIME, 0)
+    Err(Refusal::NoWorkingTime.into())
 }

@@ -1,10 +1,11 @@
 -- Whether there is a block: what a turn of either loop keeps. Assumes nothing.
 use mathlib.Core.Path.{◌≡◌, refl, sym, ◌∙◌, ap}
-use mathlib.Core.Bool.{true, false, ◌&&◌, ◌||◌}
+use Rattle.std.specs.Prelude.{Option, None, Some, if◌then◌else◌}
+use Rattle.std.specs.Option.{is_some}
+use mathlib.Core.Bool.{Bool, true, false, ◌&&◌, ◌||◌}
 use mathlib.Core.List.{List, [], ◌∷◌, ◌++◌, map}
 use Prim.Native.Nat.{ℕ, ◌+◌, ◌-◌, ◌≤◌, ◌<◌}
 use native.Mathlib.Omega.{arith}
-use lib.Dec.{ltb}
 use lib.ListN.{length, take, get_or}
 use Rattle.model.specs.Basic.{run}
 use Rattle.model.specs.Blocks.{Block as Block'}
@@ -32,18 +33,18 @@ any-onward t [] = refl
 any-onward t (b ∷ l) = refl
 
 -- where there is none
-none : (l : List Block') → any_block l ≡ false → l ≡ []
+pub none : (l : List Block') → any_block l ≡ false → l ≡ []
 unfolding any_block
 none [] e = refl
 none (b ∷ l) e = clash true refl e
 
--- a block of the code holds something where something is shown
-pub held_any : (x : Block) (t : ℕ) (l : List Block') → held_block x ≡ onward t l → ltb x.start x.end ≡ any_block l
-unfolding held_block any_block
-held_any x t l e =
-    by-test (ltb x.start x.end)
-    (λ h. rw h (ap any_block (rw h at e) ∙ any-onward t l))
-    (λ h. rw h (ap any_block (rw h at e) ∙ any-onward t l))
+-- a block of the code is there where the rule takes the date and something is shown of it
+pub some_any : (x : Option Block) (t : ℕ) (on : Bool) (l : List Block') → held_block x ≡ onward t (if on then l else []) → is_some x ≡ (on && any_block l)
+unfolding any_block onward
+some_any None t false l e = refl
+some_any (Some x) t false l e = ap any_block e
+some_any None t true l e = ap any_block e ∙ any-onward t l
+some_any (Some x) t true l e = ap any_block e ∙ any-onward t l
 
 -- ---- the dates of a rule
 

@@ -1,35 +1,36 @@
 -- What the functions that fill a block list are asked and answer.
-use Rattle.std.specs.Prelude.{◌≡◌, Bool, not, ◌&&◌, List, [], map, ℕ, ◌≤◌, ◌<◌, take}
-use Rattle.model.specs.Blocks.{Block as Block', put}
+use Rattle.std.specs.Prelude.{◌≡◌, Bool, not, Option, None, Some, List, [], ◌∷◌, ◌++◌, map, ℕ, ◌+◌, ◌≤◌, ◌<◌, take, if◌then◌else◌}
+use Rattle.arrayvec.specs.ArrayVec.{ArrayVec, array_vec_len}
+use Rattle.model.specs.Blocks.{Block as Block'}
 use Rattle.model.specs.Build.{is_none}
 use Rattle.model.specs.Instant.{day}
 use Rattle.model.specs.Walk.{onward}
 use Rattle.model.specs.Working.{blocks_of_all}
 use Rattle.instant.specs.Instant.{nanos}
 use Rattle.instant.specs.declared.Instant.{Instant}
-use Rattle.block_list.specs.Listed.{list_of}
+use Rattle.block_list.specs.Listed.{block_is, list_of}
 use Rattle.block_list.specs.declared.Block.{Block}
-use Rattle.block_list.specs.declared.Blocks.{Blocks}
 use Rattle.civil.specs.Dates.{time_in}
 use Rattle.rule.specs.Rules.{rule_is, RuleFits}
 use Rattle.laws_base.specs.Every.{Every}
 use Rattle.rule.specs.declared.Rule.{Rule}
 use Rattle.zone_local.specs.Dates.{till_time}
-use Rattle.window_dates.specs.Windows.{Window, IsLocalDates, from_day, upto_day, rule_piece}
+use Rattle.window_dates.specs.Windows.{Window, IsLocalDates, from_day, upto_day, most_window_dates, rule_piece, rule_blocks}
 use Rattle.window_piece.specs.Filled.{two_days, IsFrame}
 use Rattle.build_blocks.specs.declared.Shifts.{Shifts}
 
--- a block of a list, if it holds anything
-unfoldable pub held_block : Block → List Block'
-held_block b = put b.start b.end []
+-- the block that is there, if any
+abbrev pub held_block : Option Block → List Block'
+held_block None = []
+held_block (Some b) = block_is b ∷ []
 
 -- there is a block
 unfoldable pub any_block : List Block' → Bool
 any_block l = not (is_none l)
 
--- a rule is on at the date d, and shows something of it in the window [lo, hi)
-abbrev pub shows_at : List ℕ → Rule → Instant → Instant → ℕ → Bool
-shows_at pack r lo hi d = (rule_is pack r).on d && any_block (rule_piece pack r lo hi d)
+-- what a rule shows of the date d in the window [lo, hi), if it is on there
+abbrev pub date_shows : List ℕ → Rule → Instant → Instant → ℕ → List Block'
+date_shows pack r lo hi d = if (rule_is pack r).on d then rule_piece pack r lo hi d else []
 
 -- what the first n rules have in the window [lo, hi)
 abbrev pub blocks_shown : List ℕ → List Rule → ℕ → Instant → Instant → List Block'
@@ -56,7 +57,12 @@ RulesIn pack rules n lo hi = (n ≤ 16) × Every (RuleFits pack) (take n rules) 
 abbrev pub most_shown : ℕ
 most_shown = 336
 
+-- the blocks that a rule has in the window [lo, hi), from lo, stand behind those of a list; a rule shows at most 21 dates
+pub record RuleAdded (pack : List ℕ) (r : Rule) (lo hi : Instant) (old new : ArrayVec Block) : Type 0 where
+  pub same : list_of new ≡ list_of old ++ onward (nanos lo) (rule_blocks pack r lo hi)
+  pub few : array_vec_len new ≤ array_vec_len old + most_window_dates
+
 -- the blocks of the first n rules in the window [lo, hi), from lo; a rule shows at most 21 dates
-pub record Listed (pack : List ℕ) (rules : List Rule) (n : ℕ) (lo hi : Instant) (b : Blocks) : Type 0 where
+pub record Listed (pack : List ℕ) (rules : List Rule) (n : ℕ) (lo hi : Instant) (b : ArrayVec Block) : Type 0 where
   pub same : list_of b ≡ onward (nanos lo) (blocks_shown pack rules n lo hi)
-  pub few : b.len ≤ most_shown
+  pub few : array_vec_len b ≤ most_shown

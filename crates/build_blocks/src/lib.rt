@@ -2,7 +2,8 @@
 // borders are nanoseconds from the window's start. And whether there is any, for which no list is made.
 #![tactic(auto)]
 
-ghost use Rattle.std.specs.Prelude.{◌≡◌, ◌+◌, ◌<◌, ltb, if◌then◌else◌};
+ghost use Rattle.std.specs.Prelude.{◌≡◌, ◌+◌, ◌≤◌, ◌<◌};
+ghost use Rattle.arrayvec.specs.ArrayVec.{array_vec_len};
 ghost use Rattle.model.specs.Blocks.{clipped};
 ghost use Rattle.model.specs.DayNumber.{day_of};
 ghost use Rattle.model.specs.Walk.{onward};
@@ -10,9 +11,9 @@ ghost use Rattle.instant.specs.Instant.{nanos};
 ghost use Rattle.block_list.specs.Listed.{capacity};
 ghost use Rattle.rule.specs.Rules.{RuleFits};
 ghost use Rattle.zone_local.specs.Dates as date;
-ghost use Rattle.window_dates.specs.Windows.{Window, rule_piece, rule_blocks};
+ghost use Rattle.window_dates.specs.Windows.{Window, most_window_dates, rule_piece, rule_blocks};
 ghost use Rattle.window_piece.specs.Filled.{InFortnight};
-ghost use Rattle.build_blocks.specs.Shown.{held_block, any_block, shows_at, blocks_shown, IsShifts, ShiftsDate, RulesIn, Listed};
+ghost use Rattle.build_blocks.specs.Shown.{held_block, any_block, date_shows, blocks_shown, IsShifts, ShiftsDate, RulesIn, RuleAdded, Listed};
 
 use block_list::{Block, Blocks};
 use instant::Instant;
@@ -22,42 +23,35 @@ use window_piece::Frame;
 
 // ---- one date
 
-// A block that holds nothing.
-fn nothing() -> Block
-    ensures { (result.start ≡ 0) × (result.end ≡ 0) }
-{
-    Block { start: 0, end: 0 }
-}
-
-// The part of [s, e) in [lo, hi), from lo.
-fn clipped(s: u64, e: u64, lo: u64, hi: u64) -> Block
+// The part of [s, e) in [lo, hi), from lo, if it holds anything.
+fn clipped(s: u64, e: u64, lo: u64, hi: u64) -> Option<Block>
     ensures { held_block result ≡ onward lo (clipped lo hi s e) }
 {
-    let from = number::maximum(s, lo);
-    let to = number::minimum(e, hi);
+    let from = s.max(lo);
+    let to = e.min(hi);
     if from < to {
-        return Block {
+        Some(Block {
             start: from - lo,
             end: to - lo,
-        };
+        })
+    } else {
+        None
     }
-    nothing()
 }
 
 // x from lo, if it holds anything.
-fn away(x: block::Block, lo: Instant) -> Block
+fn away(x: block::Block, lo: Instant) -> Option<Block>
     requires { InFortnight lo x }
     ensures { held_block result ≡ onward (nanos lo) (date.held x) }
 {
-    let s = x.start;
-    let e = x.end;
-    if instant::precedes(s, e) {
-        return Block {
-            start: window_piece::since(lo, s),
-            end: window_piece::since(lo, e),
-        };
+    if instant::precedes(x.start, x.end) {
+        Some(Block {
+            start: window_piece::since(lo, x.start),
+            end: window_piece::since(lo, x.end),
+        })
+    } else {
+        None
     }
-    nothing()
 }
 
 // A rule in a window: its dates, their frame, and the times of day of start and end, from a date's midnight.
@@ -90,7 +84,7 @@ fn shifts_of(pack: &[u8], r: Rule, lo: Instant, hi: Instant) -> Shifts
 }
 
 // What the rule shows of a date in the window: by the frame, where one offset holds around the window; else each end is looked up.
-fn piece_at(pack: &[u8], r: Rule, x: Shifts, day: i32, lo: Instant, hi: Instant) -> Block
+fn piece_at(pack: &[u8], r: Rule, x: Shifts, day: i32, lo: Instant, hi: Instant) -> Option<Block>
     requires { ShiftsDate pack.now r x (day_of day) lo hi }
     ensures { held_block result ≡ onward (nanos lo) (rule_piece pack.now r lo hi (day_of day)) }
 {
@@ -103,19 +97,19 @@ fn piece_at(pack: &[u8], r: Rule, x: Shifts, day: i32, lo: Instant, hi: Instant)
     clipped(k + x.from, k + x.to, f.lo, f.hi)
 }
 
-// ---- whether there is a block
-
-// Does the rule show anything of the date in the window?
-fn shows_at(pack: &[u8], r: Rule, x: Shifts, day: i32, lo: Instant, hi: Instant) -> bool
+// The same where the rule takes the date; of another date it shows nothing.
+fn piece_on(pack: &[u8], r: Rule, x: Shifts, day: i32, lo: Instant, hi: Instant) -> Option<Block>
     requires { ShiftsDate pack.now r x (day_of day) lo hi }
-    ensures { result ≡ shows_at pack.now r lo hi (day_of day) }
+    ensures { held_block result ≡ onward (nanos lo) (date_shows pack.now r lo hi (day_of day)) }
 {
-    if !rule::applies(r.days, day) {
-        return false;
+    if rule::applies(r.days, day) {
+        piece_at(pack, r, x, day, lo, hi)
+    } else {
+        None
     }
-    let y = piece_at(pack, r, x, day, lo, hi);
-    y.start < y.end
 }
+
+// ---- whether there is a block
 
 // Does the rule show anything in the window? Its dates are gone through up to the first of which it does.
 fn shows(pack: &[u8], r: Rule, lo: Instant, hi: Instant) -> bool
@@ -126,12 +120,10 @@ fn shows(pack: &[u8], r: Rule, lo: Instant, hi: Instant) -> bool
     let days = x.days;
     let first = days.first;
     let count = civil::day_count(first, days.last);
-    let mut k: u32 = 0;
-    while k < count {
-        if shows_at(pack, r, x, civil::later(first, k), lo, hi) {
+    for k in 0..count {
+        if piece_on(pack, r, x, civil::later(first, k), lo, hi).is_some() {
             return true;
         }
-        k += 1;
     }
     false
 }
@@ -147,31 +139,33 @@ pub fn any_shows(
     requires { RulesIn pack.now rules n lo hi }
     ensures { result ≡ any_block (blocks_shown pack.now rules n lo hi) }
 {
-    let mut i: usize = 0;
-    while i < n {
-        let r = rules[i];
-        if shows(pack, r, lo, hi) {
+    for i in 0..n {
+        if shows(pack, rules[i], lo, hi) {
             return true;
         }
-        i += 1;
     }
     false
 }
 
 // ---- a list
 
-// The place behind a block x that is stored at w: one further if it holds anything.
-fn past(w: usize, x: Block) -> usize
-    requires { w < capacity }
-    ensures { result ≡ (if ltb x.start x.end then w + 1 else w) }
+// Adds the blocks of a rule, of which it shows at most one on each of 21 dates.
+fn rule_into(pack: &[u8], r: Rule, lo: Instant, hi: Instant, out: &mut Blocks)
+    requires { RuleFits pack.now r × Window 14 lo hi × (array_vec_len out.old + most_window_dates ≤ capacity) }
+    ensures { RuleAdded pack.now r lo hi out.old out.new }
 {
-    if x.start < x.end {
-        return w + 1;
+    let x = shifts_of(pack, r, lo, hi);
+    let days = x.days;
+    let first = days.first;
+    let count = civil::day_count(first, days.last);
+    for k in 0..count {
+        if let Some(y) = piece_on(pack, r, x, civil::later(first, k), lo, hi) {
+            out.push(y);
+        }
     }
-    w
 }
 
-// The blocks of the first n rules, in a list that starts as one block value repeated. A rule shows at most 21 dates of 14 days, so 16 rules have at most 336.
+// The blocks of the first n rules. A rule shows at most 21 dates of 14 days, so 16 rules have at most 336.
 pub fn shift_blocks(
     rules: [Rule; book::MOST_WORK],
     n: usize,
@@ -182,29 +176,9 @@ pub fn shift_blocks(
     requires { RulesIn pack.now rules n lo hi }
     ensures { Listed pack.now rules n lo hi result }
 {
-    let mut out = block_list::empty();
-    let mut w: usize = 0;
-    let mut i: usize = 0;
-    while i < n {
-        let r = rules[i];
-        let x = shifts_of(pack, r, lo, hi);
-        let days = x.days;
-        let first = days.first;
-        let count = civil::day_count(first, days.last);
-        let mut k: u32 = 0;
-        while k < count {
-            let d = civil::later(first, k);
-            if rule::applies(r.days, d) {
-                let y = piece_at(pack, r, x, d, lo, hi);
-                out.items[w] = y;
-                w = past(w, y);
-                k += 1;
-            } else {
-                k += 1;
-            }
-        }
-        i += 1;
+    let mut out = Blocks::new();
+    for i in 0..n {
+        rule_into(pack, rules[i], lo, hi, &mut out);
     }
-    out.len = w;
     out
 }

@@ -1,29 +1,31 @@
 -- What is left of blocks, found block by block: what a turn of the loop keeps. Assumes nothing.
 use mathlib.Core.Path.{◌≡◌, refl, sym, ◌∙◌, ap, ap₂}
-use mathlib.Core.Bool.{Bool, true, false}
+use mathlib.Core.Bool.{Bool, true, false, not, ◌&&◌}
 use mathlib.Core.List.{List, [], ◌∷◌, ◌++◌, map, append-nil}
 use Prim.Native.Nat.{ℕ, zero, suc, ◌+◌, ◌≤◌, ◌<◌, max}
 use native.Mathlib.Omega.{arith}
-use borrow.Author.Tests.{lt-ltb, le-ltb, le-leb, lt-leb, leb-false}
+use borrow.Author.Tests.{lt-ltb, le-ltb, le-leb, lt-leb, leb-true, leb-false}
 use lib.Dec.{leb}
-use lib.ListN.{length, get_or, take, drop}
+use lib.Seq.{drop-cons}
+use native.Mathlib.Numerals.{add-one}
+use lib.ListN.{length, get_or, take, drop, drop_of_length-le}
 use Rattle.model.specs.Basic.{joined}
 use Rattle.model.specs.Blocks.{Block as Block', block, insert, sorted, merged_from, merged, union, cut, subtract}
 use Rattle.model.specs.Build.{works_in_2001}
 use Rattle.model.specs.Walk.{onward}
 use Rattle.model.specs.Working.{Schedule, blocks_of_all, working}
 use Rattle.laws_base.specs.Test.{by-test}
-use Rattle.laws_blocks.specs.Members.{NonEmpty, Chain, Normal, From, chain-weaken, chain-sorted, chain-nonempty, union-normal}
+use Rattle.laws_blocks.specs.Members.{NonEmpty, Chain, Normal, chain-weaken, chain-nonempty, union-normal}
 use Rattle.instant.specs.Instant.{nanos}
 use Rattle.instant.specs.declared.Instant.{Instant}
 use Rattle.block_list.specs.declared.Block.{Block}
-use Rattle.block_list.specs.declared.Blocks.{Blocks}
-use Rattle.block_list.specs.Listed.{block_is, first_blocks, list_of, nil}
-use Rattle.laws_base.specs.Front.{rest-cons, rest-none}
+use Rattle.arrayvec.specs.ArrayVec.{ArrayVec}
+use Rattle.block_list.specs.Listed.{block_is, list_of, nil}
+use Rattle.std.specs.List.Sorted.{IsNonDecreasingBy, IsPartitionPoint}
 use Rattle.rule.specs.Rules.{rule_is}
 use Rattle.rule.specs.declared.Rule.{Rule as Rule'}
 use Rattle.build_blocks.specs.Shown.{Listed, any_block}
-use Rattle.build_blocks.proofs.Any.{any_append, any-onward}
+use Rattle.build_blocks.proofs.Any.{any_append, any-onward, none}
 use Rattle.window_piece.proofs.Laws.{Apart, apart-onward, union-onward, subtract-onward}
 use Rattle.window_week.proofs.Whole.{rules-apart, union-apart}
 use Rattle.build_check.specs.Left.{leaves, UnionOf}
@@ -42,12 +44,6 @@ cut-none s e (g ∷ off) h =
     (λ q.
     let a = leb-false g.end s p in let b = leb-false e g.start q in
     rw (p, q, le-ltb s g.start (omega arith)) (cut-none g.end e off (omega arith))))
-
--- blocks from the end of g on are left by g as they are
-subtract-past : (g : Block') (off l : List Block') → From g.end l → subtract l (g ∷ off) ≡ subtract l off
-unfolding subtract cut
-subtract-past g off [] f = refl
-subtract-past g off (b ∷ l) f = rw (le-leb g.end b.start f.0) (ap (λ (x : List Block'). cut b.start b.end off ++ x) (subtract-past g off l f.1))
 
 module _ (b : Block') (n : b.start < b.end) (g : Block') (off : List Block') where
   -- g begins behind the block's start
@@ -96,100 +92,91 @@ unfolding leaves subtract cut any_block
 leaves_all [] n = refl
 leaves_all (b ∷ l) n = rw (lt-ltb b.start b.end n.0)
 
-normal-drop : (m i : ℕ) (l : List Block') → Chain m l → Normal (drop i l)
-normal-drop m zero l c = chain-weaken 0 m l (omega arith) c
-normal-drop m (suc i) [] c = tt
-normal-drop m (suc i) (b ∷ l) c = normal-drop (suc b.end) i l c.2
+-- ---- the block that covers another
 
--- the blocks from i on are to come, and those of off in front of j take nothing of them
-pub record Passing (on : List Block) (n : ℕ) (off : List Block) (m i j : ℕ) : Type 0 where
-  pub same : leaves (drop i (first_blocks n on)) (drop j (first_blocks m off)) ≡ leaves (first_blocks n on) (first_blocks m off)
-  pub upto : i ≤ n
-  pub past : j ≤ m
-  pub on_fits : n ≤ length on
-  pub off-fits : m ≤ length off
+-- the blocks that end at s or before take nothing of [s, e)
+cut-behind : (s e j : ℕ) (off : List Block) → ((k : ℕ) (d : Block) → k < j → (get_or off k d).end ≤ s) → cut s e (map block_is off) ≡ cut s e (map block_is (drop j off))
+unfolding cut
+cut-behind s e zero off h = refl
+cut-behind s e (suc j) [] h = refl
+cut-behind s e (suc j) (g ∷ off) h = rw (le-leb g.end s (h zero g (omega arith))) (cut-behind s e j off (λ k d p. h (suc k) d (omega arith)))
 
-pub passing-starts : (on : List Block) (n : ℕ) (off : List Block) (m : ℕ) → n ≤ length on → m ≤ length off → Passing on n off m 0 0
-passing-starts on n off m a b = record { same = refl; upto = omega arith; past = omega arith; on_fits = a; off-fits = b }
+-- a part of blocks that are apart is apart
+normal-drop : (m j : ℕ) (l : List Block) → Chain m (map block_is l) → Chain 0 (map block_is (drop j l))
+normal-drop m zero l c = chain-weaken 0 m (map block_is l) (omega arith) c
+normal-drop m (suc j) [] c = tt
+normal-drop m (suc j) (b ∷ l) c = normal-drop (suc b.end) j l c.2
 
-module _ (on : List Block) (n : ℕ) (off : List Block) (m i j : ℕ) (c : Passing on n off m i j) where
-  pub passing-done : n ≤ i → false ≡ leaves (first_blocks n on) (first_blocks m off)
+-- what is left of x without blocks that are apart, of which the first ends behind its start
+covers : (x : Block') → x.start < x.end → (g : Block) (l : List Block) → Normal (map block_is (g ∷ l)) → x.start < g.end
+    → any_block (cut x.start x.end (map block_is (g ∷ l))) ≡ not (leb g.start x.start && leb x.end g.end)
+unfolding cut any_block
+covers x n g l c p =
+    by-test (leb g.start x.start)
+    (λ a. by-test (leb x.end g.end)
+    (λ b. rw (a, b) (ap any_block (covered x n (block_is g) (map block_is l) p (leb-true g.start x.start a) (leb-true x.end g.end b))))
+    (λ b. rw (a, b) (at-end x n (block_is g) (map block_is l) p (leb-true g.start x.start a) (leb-false x.end g.end b) c.2)))
+    (λ a. rw a (in-front x n (block_is g) (map block_is l) c.1 (leb-false g.start x.start a)))
+
+-- ---- the blocks of a list
+
+-- the ends of blocks that are apart rise
+ends-from : (m : ℕ) (l : List Block) → Chain m (map block_is l) → (i : ℕ) (d : Block) → i < length l → m ≤ (get_or l i d).end
+ends-from m [] c i d h = absurd (omega arith)
+ends-from m (b ∷ l) c zero d h = let p = c.0 in let q = c.1 in omega arith
+ends-from m (b ∷ l) c (suc i) d h = let p = c.0 in let q = c.1 in let r = ends-from (suc b.end) l c.2 i d (omega arith) in omega arith
+
+pub ends-rise : (m : ℕ) (l : List Block) → Chain m (map block_is l) → IsNonDecreasingBy (λ (b : Block). b.end) l
+ends-rise m [] c i j d o h = absurd (omega arith)
+ends-rise m (b ∷ l) c zero zero d o h = omega arith
+ends-rise m (b ∷ l) c zero (suc j) d o h = let r = ends-from (suc b.end) l c.2 j d (omega arith) in omega arith
+ends-rise m (b ∷ l) c (suc i) zero d o h = absurd (omega arith)
+ends-rise m (b ∷ l) c (suc i) (suc j) d o h = ends-rise (suc b.end) l c.2 i j d (omega arith) (omega arith)
+
+-- of the blocks of `off`, those in front of j end at the start of x or before
+module _ (x : Block) (n : x.start < x.end) (off : List Block) (c : Normal (map block_is off)) (j : ℕ)
+    (p : IsPartitionPoint (λ (y : Block). leb y.end x.start ≡ true) (λ (y : Block). leb y.end x.start ≡ false) off j) where
+  behind-j : cut x.start x.end (map block_is off) ≡ cut x.start x.end (map block_is (drop j off))
+  behind-j = cut-behind x.start x.end j off (λ k d h. leb-true _ _ (p.0 k d (omega arith) h))
+
+  pub covered-by : j < length off → any_block (cut x.start x.end (map block_is off)) ≡ not (leb (get_or off j nil).start x.start && leb x.end (get_or off j nil).end)
+  covered-by h =
+      let e : drop j off ≡ get_or off j nil ∷ drop (suc j) off = drop-cons off j nil h in
+      let q : Normal (map block_is (get_or off j nil ∷ drop (suc j) off)) = rw e at (normal-drop 0 j off c) in
+      ap any_block behind-j ∙ ap (λ (l : List Block). any_block (cut x.start x.end (map block_is l))) e
+      ∙ covers (block_is x) n (get_or off j nil) (drop (suc j) off) q (leb-false _ _ (p.1 j nil (omega arith) h))
+
+  pub covered-by-none : length off ≤ j → any_block (cut x.start x.end (map block_is off)) ≡ true
+  unfolding cut any_block
+  covered-by-none h = ap any_block behind-j ∙ ap (λ (l : List Block). any_block (cut x.start x.end (map block_is l))) (drop_of_length-le off h) ∙ rw (lt-ltb x.start x.end n) refl
+
+-- a block of a list that is apart holds something
+pub holds-some : (m : ℕ) (l : List Block) → Chain m (map block_is l) → (i : ℕ) (d : Block) → i < length l → (get_or l i d).start < (get_or l i d).end
+holds-some m [] c i d h = absurd (omega arith)
+holds-some m (b ∷ l) c zero d h = c.1
+holds-some m (b ∷ l) c (suc i) d h = holds-some (suc b.end) l c.2 i d (omega arith)
+
+-- the blocks from i on are to come, and those in front are taken whole
+pub record Passing (on off : List Block) (i : ℕ) : Type 0 where
+  pub same : leaves (map block_is (drop i on)) (map block_is off) ≡ leaves (map block_is on) (map block_is off)
+
+pub passing-starts : (on off : List Block) → Passing on off 0
+passing-starts on off = record { same = refl }
+
+module _ (on off : List Block) (i : ℕ) (m : Passing on off i) where
+  step : i < length on → (d : Block) → map block_is (drop i on) ≡ block_is (get_or on i d) ∷ map block_is (drop (i + 1) on)
+  step h d = ap (map block_is) (drop-cons on i d h ∙ ap (λ (k : ℕ). get_or on i d ∷ drop k on) (sym (add-one i)))
+
+  pub passing-left : i < length on → (d : Block) → any_block (cut (get_or on i d).start (get_or on i d).end (map block_is off)) ≡ true → true ≡ leaves (map block_is on) (map block_is off)
+  passing-left h d t = sym (left-first (block_is (get_or on i d)) (map block_is (drop (i + 1) on)) (map block_is off) t) ∙ sym (ap (λ (l : List Block'). leaves l (map block_is off)) (step h d)) ∙ m.same
+
+  pub passing-gone : i < length on → (d : Block) → any_block (cut (get_or on i d).start (get_or on i d).end (map block_is off)) ≡ false → Passing on off (i + 1)
+  passing-gone h d t =
+      record { same = sym (gone-first (block_is (get_or on i d)) (map block_is (drop (i + 1) on)) (map block_is off) (none (cut (get_or on i d).start (get_or on i d).end (map block_is off)) t)) ∙ sym (ap (λ (l : List Block'). leaves l (map block_is off)) (step h d)) ∙ m.same }
+
+  pub passing-done : length on ≤ i → false ≡ leaves (map block_is on) (map block_is off)
   unfolding leaves subtract any_block
-  passing-done h =
-      let u = c.upto in let z : i ≡ n = omega arith in
-      sym (ap (λ (l : List Block'). leaves l (drop j (first_blocks m off))) (ap (λ (k : ℕ). drop k (first_blocks n on)) z ∙ rest-none block_is n on c.on_fits)) ∙ c.same
-
-  module _ (h : i < n) (a : Normal (first_blocks n on)) where
-    -- the block at i, and those behind it
-    x : Block'
-    x = block_is (get_or on i nil)
-
-    xs : List Block'
-    xs = drop (i + 1) (first_blocks n on)
-
-    first : drop i (first_blocks n on) ≡ x ∷ xs
-    unfolding x xs
-    first = rest-cons block_is n on i nil h c.on_fits
-
-    chain : Normal (x ∷ xs)
-    chain = rw first at (normal-drop 0 i (first_blocks n on) a)
-
-    -- nothing of off is to come
-    pub passing-free : m ≤ j → true ≡ leaves (first_blocks n on) (first_blocks m off)
-    unfolding cut any_block
-    passing-free k =
-        let u = c.past in let z : j ≡ m = omega arith in
-        let e : drop j (first_blocks m off) ≡ [] = ap (λ (q : ℕ). drop q (first_blocks m off)) z ∙ rest-none block_is m off c.off-fits in
-        sym (left-first x xs [] (rw (lt-ltb x.start x.end chain.1))) ∙ sym (ap₂ leaves first e) ∙ c.same
-
-    module _ (k : j < m) (b : Normal (first_blocks m off)) where
-      y : Block'
-      y = block_is (get_or off j nil)
-
-      ys : List Block'
-      ys = drop (j + 1) (first_blocks m off)
-
-      first_off : drop j (first_blocks m off) ≡ y ∷ ys
-      unfolding y ys
-      first_off = rest-cons block_is m off j nil k c.off-fits
-
-      chain-off : Normal (y ∷ ys)
-      chain-off = rw first_off at (normal-drop 0 j (first_blocks m off) b)
-
-      now-first : leaves (x ∷ xs) (y ∷ ys) ≡ leaves (first_blocks n on) (first_blocks m off)
-      now-first = sym (ap₂ leaves first first_off) ∙ c.same
-
-      pub passing-past : (get_or off j nil).end ≤ (get_or on i nil).start → Passing on n off m i (j + 1)
-      unfolding x xs y ys leaves
-      passing-past p =
-          let q : Chain y.end (x ∷ xs) = (p, chain.1, chain.2) in
-          record {
-            same = ap (λ (l : List Block'). leaves l ys) first ∙ sym (ap any_block (subtract-past y ys (x ∷ xs) (chain-sorted y.end (x ∷ xs) q).1)) ∙ now-first;
-            upto = omega arith;
-            past = omega arith;
-            on_fits = c.on_fits;
-            off-fits = c.off-fits;
-          }
-
-      module _ (p : (get_or on i nil).start < (get_or off j nil).end) where
-        pub passing-front : (get_or on i nil).start < (get_or off j nil).start → true ≡ leaves (first_blocks n on) (first_blocks m off)
-        unfolding x xs y ys
-        passing-front q = sym (left-first x xs (y ∷ ys) (in-front x chain.1 y ys chain-off.1 q)) ∙ now-first
-
-        module _ (q : (get_or off j nil).start ≤ (get_or on i nil).start) where
-          pub passing-end : (get_or off j nil).end < (get_or on i nil).end → true ≡ leaves (first_blocks n on) (first_blocks m off)
-          unfolding x xs y ys
-          passing-end r = sym (left-first x xs (y ∷ ys) (at-end x chain.1 y ys p q r chain-off.2)) ∙ now-first
-
-          pub passing-gone : (get_or on i nil).end ≤ (get_or off j nil).end → Passing on n off m (i + 1) j
-          unfolding x xs y ys
-          passing-gone r = record {
-            same = ap (λ (l : List Block'). leaves xs l) first_off ∙ sym (gone-first x xs (y ∷ ys) (covered x chain.1 y ys p q r)) ∙ now-first;
-            upto = omega arith;
-            past = omega arith;
-            on_fits = c.on_fits;
-            off-fits = c.off-fits;
-          }
+  passing-done h = sym (ap (λ (l : List Block). leaves (map block_is l) (map block_is off)) (drop_of_length-le on h)) ∙ m.same
 
 -- ---- the whole
 
@@ -222,14 +209,14 @@ abbrev end : ℕ → ℕ
 end t = t + 1209600000000000
 
 -- the union of a filled list
-pub union-is : (p : List ℕ) (rules : List Rule') (n : ℕ) (lo hi : Instant) (b r : Blocks) → Listed p rules n lo hi b → list_of r ≡ union (list_of b) → r.len ≤ b.len → UnionOf p rules n lo hi r
-union-is p rules n lo hi b r f e k =
+pub union-is : (p : List ℕ) (rules : List Rule') (n : ℕ) (lo hi : Instant) (b r : ArrayVec Block) → Listed p rules n lo hi b → list_of r ≡ union (list_of b) → UnionOf p rules n lo hi r
+union-is p rules n lo hi b r f e =
     let t : ℕ = nanos lo in
     let o : List Block' = blocks_of_all t (nanos hi) (map (rule_is p) (take n rules)) in
     let q : list_of r ≡ union (onward t o) = e ∙ ap union f.same in
     record {
       same = q;
-      merged = record { few = omega (arith, f.few); normal = rw q (union-normal (onward t o) (apart-onward t o (rules-apart t (nanos hi) (map (rule_is p) (take n rules))))) };
+      normal = rw q (union-normal (onward t o) (apart-onward t o (rules-apart t (nanos hi) (map (rule_is p) (take n rules)))));
     }
 
 module _ (s : Schedule) (t : ℕ) (z : t ≡ 391337827200000000000) where

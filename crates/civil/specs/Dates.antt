@@ -1,5 +1,5 @@
 -- What the code's dates mean: the definitions' dates, with an answer where there is none.
-use Rattle.std.specs.Prelude.{◌&&◌, ℕ, ◌+◌, ◌*◌, ◌<◌, ltb, ℤ, if◌then◌else◌}
+use Rattle.std.specs.Prelude.{◌&&◌, ℕ, ◌+◌, ◌*◌, ◌<◌, ltb, ℤ, if◌then◌else◌, Option, Some, None}
 use Rattle.model.specs.DayNumber.{signed_day, day_of}
 use Rattle.laws_calendar.specs.Numbers.{IsDayNumber}
 use Rattle.model.specs.Calendar as M
@@ -7,10 +7,6 @@ use Rattle.model.specs.Calendar.{is_date, day_number}
 use Rattle.model.specs.Instant.{second, day_seconds}
 use Rattle.civil.specs.declared.Date.{Date}
 use Rattle.civil.specs.declared.Time.{Time}
-use Rattle.civil.specs.declared.DayRead.{DayRead}
-use Rattle.civil.specs.declared.DayRead.TheVariants.{Day, NoDate}
-use Rattle.civil.specs.declared.TimeRead.{TimeRead}
-use Rattle.civil.specs.declared.TimeRead.TheVariants.{Nanoseconds, NoTime}
 
 -- the calendar's years are those below this one: fifty-two times 400 years, from -10400 on
 abbrev pub calendar_years : ℕ
@@ -34,12 +30,12 @@ abbrev pub dated : M.Date → Date
 dated d = record { year = d.year; month = d.month; day = d.day }
 
 -- the day of a date
-unfoldable pub day_read : Date → DayRead
-day_read d = if is_date d.year d.month d.day then Day (signed_day (day_number d.year d.month d.day)) else NoDate
+unfoldable pub day_read : Date → Option ℤ
+day_read d = if is_date d.year d.month d.day then Some (signed_day (day_number d.year d.month d.day)) else None
 
 -- a time of day in nanoseconds. Document 01: "Time of day: second 0 to 86,399 and nanoseconds."
-unfoldable pub time_read : ℕ → ℕ → TimeRead
-time_read s n = if ltb s day_seconds && ltb n second then Nanoseconds (s * second + n) else NoTime
+unfoldable pub time_read : ℕ → ℕ → Option ℕ
+time_read s n = if ltb s day_seconds && ltb n second then Some (s * second + n) else None
 
 -- a time of day in nanoseconds
 abbrev pub time_in : Time → ℕ

@@ -41,8 +41,8 @@ const FIRST_WEEKDAY: u32 = 5;
 // The days that every month has.
 const SHORTEST_MONTH: u32 = 28;
 
-// A time of day.
-#[derive(Clone, Copy)]
+// A time of day. Seconds come first, so that the derived order is that of the times.
+#[derive(Clone, Copy, PartialEq, Eq, PartialOrd, Ord)]
 pub struct Time {
     pub seconds: u32,
     pub nanos: u32,
@@ -117,16 +117,11 @@ pub fn day_at(sec: u64) -> i32
 // ---- years and months
 
 // The year is a leap year.
+#[tactic(auto, unfolding(model::specs::Calendar::is_leap))]
 pub fn is_leap(year: u32) -> bool
     ensures { result ≡ is_leap year }
 {
-    if year % 4 != 0 {
-        return false;
-    }
-    if year % 100 != 0 {
-        return true;
-    }
-    year % 400 == 0
+    year % 4 == 0 && (year % 100 != 0 || year % 400 == 0)
 }
 
 // The first day of a year.
@@ -246,65 +241,32 @@ pub fn date_of(day: i32) -> Date
 pub fn is_date(year: u32, month: u32, day: u32) -> bool
     ensures { result ≡ is_date year month day }
 {
-    if year < FIRST_YEAR {
+    if year < FIRST_YEAR || LAST_YEAR < year || month < 1 || 12 < month || day < 1 {
         return false;
     }
-    if LAST_YEAR < year {
-        return false;
-    }
-    if month < 1 {
-        return false;
-    }
-    if 12 < month {
-        return false;
-    }
-    if day < 1 {
-        return false;
-    }
-    if day <= SHORTEST_MONTH {
-        return true;
-    }
-    if days_in_month(is_leap(year), month) < day {
-        return false;
-    }
-    true
+    day <= SHORTEST_MONTH || day <= days_in_month(is_leap(year), month)
 }
 
-// The number of a day, or none: the numbers are no date.
-#[derive(Clone, Copy)]
-pub enum DayRead {
-    Day(i32),
-    NoDate,
-}
-
-// The number of a date's day.
-pub fn day_of(date: Date) -> DayRead
+// The number of a date's day, or none: the numbers are no date.
+pub fn day_of(date: Date) -> Option<i32>
     ensures { result ≡ day_read date }
 {
     if is_date(date.year, date.month, date.day) {
-        return DayRead::Day(day_number(date.year, date.month, date.day));
+        return Some(day_number(date.year, date.month, date.day));
     }
-    DayRead::NoDate
+    None
 }
 
 // A time of day as nanoseconds from midnight, or none: the numbers are no time of day.
-#[derive(Clone, Copy)]
-pub enum TimeRead {
-    Nanoseconds(u64),
-    NoTime,
-}
-
-// A time of day as nanoseconds from midnight.
-pub fn time_of(sec: u32, ns: u32) -> TimeRead
+#[tactic(auto, unfolding(crate::specs::Dates::time_read))]
+pub fn time_of(sec: u32, ns: u32) -> Option<u64>
     ensures { result ≡ time_read sec ns }
 {
-    if DAY <= sec as u64 {
-        return TimeRead::NoTime;
+    let (seconds, nanos) = (u64::from(sec), u64::from(ns));
+    if seconds < DAY && nanos < SECOND {
+        return Some(seconds * SECOND + nanos);
     }
-    if SECOND <= ns as u64 {
-        return TimeRead::NoTime;
-    }
-    TimeRead::Nanoseconds(sec as u64 * SECOND + ns as u64)
+    None
 }
 
 // The number of the weekday Monday.
@@ -322,8 +284,5 @@ fn bit(day: u32) -> u8
 pub fn contains(set: u8, day: u32) -> bool
     ensures { result ≡ contains set day }
 {
-    if 7 < day {
-        return false;
-    }
-    set & bit(day) != 0
+    day <= 7 && set & bit(day) != 0
 }

@@ -1,5 +1,5 @@
 -- A piece of the input is read, and its answers are written as often as the memory for them is full.
-use Rattle.std.proofs.Common.{◌≡◌, refl, sym, ap, ◌∙◌, subst, ℕ, suc, ◌≤◌, ◌<◌, List, [], ◌∷◌, ◌++◌, Option, Result, Ok, Err, IfErr, arith, length, take, drop, get_or, append_assoc, drop_of_length-le, take-append-drop}
+use Rattle.std.proofs.Common.{◌≡◌, sym, ap, ◌∙◌, subst, ℕ, suc, ◌≤◌, ◌<◌, List, [], ◌∷◌, ◌++◌, Option, Result, Ok, Err, IfErr, arith, length, take, drop, get_or, append_assoc, drop_of_length-le, take-append-drop}
 use Rattle.std.proofs.Math.Seq.{take-append_seam}
 use Rattle.std.specs.Io.KnownBytes.{Appends}
 use Rattle.std.proofs.KnownBytes.{Appends-nil, Appends-trans}
@@ -36,8 +36,16 @@ pub record Passing (a : Answer Schedule) (input : List ℕ) (old new : Option (L
   pub inside : i ≤ length input
 
 module _ (a : Answer Schedule) (input : List ℕ) (old : Option (List ℕ)) (p : Progress) where
-  pub passing-first : Bytes input → Passing a input old old p p 0
-  passing-first b = record { bytes = b; text = []; written = Appends-nil old; same = λ t h. refl; inside = omega arith }
+  -- r is p with another place to read
+  pub passing-first : (r : Progress) → r.line ≡ p.line → r.begun ≡ p.begun → Bytes input → Passing a input old old p r 0
+  passing-first r line begun b =
+      record {
+        bytes = b;
+        text = [];
+        written = Appends-nil old;
+        same = λ t h. let lines = lines_of (input ++ t) in ap (λ l. out_yet a l r.begun lines) line ∙ ap (λ x. out_yet a p.line x lines) begun;
+        inside = omega arith;
+      }
 
   -- q is r with another place to read and to write
   module _ (mid new : Option (List ℕ)) (r q s : Progress) (i : ℕ) (from to : List ℕ) (line : q.line ≡ r.line) (begun : q.begun ≡ r.begun) (next : q.next ≡ i) (used : q.used ≡ 0)

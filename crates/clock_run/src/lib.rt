@@ -12,8 +12,9 @@ ghost use Rattle.build.specs.Read.{Builds};
 ghost use Rattle.model.specs.Build.{build};
 ghost use Rattle.clock_run.specs.Runs.{Passes, PassFails, AnswersAll, AnswersFront};
 
-use build::Built;
 use query_stream::Progress;
+use refusal::Refused;
+use rule::Schedule;
 use std::io::{ErrorKind, Input, Read, Write};
 use std::process::ExitCode;
 use std::rt::Files;
@@ -89,7 +90,7 @@ fn load<R: Files + Eprint>(rt: &R, path: &str, buf: &mut [u8]) -> usize
 fn pass<W: Write>(
     book: &[u8],
     pack: &[u8],
-    b: Built,
+    b: Result<Schedule, Refused>,
     p: Progress,
     input: &[u8],
     out: &mut [u8],
@@ -100,14 +101,11 @@ fn pass<W: Write>(
     ensures err { IfErr result (λ _. PassFails (build book.now pack.now) input.now (W.contents output.old) (W.contents output.new) p) }
 {
     let mut r = p;
-    let mut i: usize = 0;
-    while i < input.len() {
-        r.next = i;
+    r.next = 0;
+    while r.next < input.len() {
         r.used = 0;
         r = query_stream::feed(book, pack, b, r, input, out);
-        let n = r.used;
-        pieces::write_all(output, &out[..n])?;
-        i = r.next;
+        pieces::write_all(output, &out[..r.used])?;
     }
     Ok(r)
 }

@@ -18,6 +18,7 @@ const ENTRY_SIZE: usize = 8;
 const LENGTH_AT: usize = 8;
 
 // How many records the directory says to have.
+#[tactic(auto, unfolding(crate::specs::Directory::entry_count))]
 pub fn count_of(s: &[u8]) -> usize
     ensures { (result ≡ entry_count s.now) × (result < four_bytes) }
 {
@@ -25,6 +26,7 @@ pub fn count_of(s: &[u8]) -> usize
 }
 
 // Where the record of entry i starts.
+#[tactic(auto, unfolding(crate::specs::Directory::start_at))]
 pub fn start_at(s: &[u8], i: usize) -> usize
     requires { i < four_bytes }
     ensures { (result ≡ start_at s.now i) × (result < four_bytes) }
@@ -33,6 +35,7 @@ pub fn start_at(s: &[u8], i: usize) -> usize
 }
 
 // How long it is.
+#[tactic(auto, unfolding(crate::specs::Directory::len_at))]
 pub fn len_at(s: &[u8], i: usize) -> usize
     requires { i < four_bytes }
     ensures { (result ≡ len_at s.now i) × (result < four_bytes) }
@@ -41,14 +44,12 @@ pub fn len_at(s: &[u8], i: usize) -> usize
 }
 
 // Does a record of len bytes at start begin at lo or later, and end inside?
+#[tactic(auto, unfolding(crate::specs::Directory::record_ok))]
 fn record_ok(s: &[u8], lo: usize, start: usize, len: usize) -> bool
     requires { (start < four_bytes) × (len < four_bytes) }
     ensures { result ≡ record_ok s.now lo start len }
 {
-    if lo > start {
-        return false;
-    }
-    start + len <= s.len()
+    lo <= start && start + len <= s.len()
 }
 
 // Are the records of the n entries in order, behind the directory and inside?
@@ -57,15 +58,13 @@ fn entries_ok(s: &[u8], n: usize) -> bool
     ensures { result ≡ entries_ok s.now (4 + 8 * n) 0 n }
 {
     let mut lo = COUNT_SIZE + ENTRY_SIZE * n;
-    let mut i: usize = 0;
-    while i < n {
+    for i in 0..n {
         let start = start_at(s, i);
         let len = len_at(s, i);
         if !record_ok(s, lo, start, len) {
             return false;
         }
         lo = start + len;
-        i += 1;
     }
     true
 }
@@ -78,8 +77,5 @@ pub fn dir_ok(s: &[u8]) -> bool
         return false;
     }
     let n = count_of(s);
-    if s.len() < COUNT_SIZE + ENTRY_SIZE * n {
-        return false;
-    }
-    entries_ok(s, n)
+    COUNT_SIZE + ENTRY_SIZE * n <= s.len() && entries_ok(s, n)
 }

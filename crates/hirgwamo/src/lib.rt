@@ -11,12 +11,6 @@ ghost use Rattle.model.specs.Marks as marks;
 ghost use Rattle.model.specs.ZoneCalls as zones;
 ghost use Rattle.hirgwamo.specs.Part.{version, Tells, TellsList, verdict, with_count, one_number, when_changed, verdict_size, between_size, instant_size, period_size, marked_period_size, stretch_size, offset_size, change_size, resolved_size, marked_instant_size};
 
-use schedule::{MoveAnswer, TimeAnswer};
-use schedule_hardest::HardestAnswer;
-use schedule_listing::Listing;
-use schedule_periods::MarkedPeriodAnswer;
-use zone_calls::{ChangeAnswer, OffsetAnswer, ResolveAnswer};
-
 // Major times 1,000,000, minor times 1,000, patch.
 pub const VERSION: u32 = 1001000;
 
@@ -46,6 +40,7 @@ pub const MARKED_INSTANT_SIZE: usize = 3;
 // ---- books
 
 // Whether a book builds.
+#[tactic(auto, unfolding(answer_numbers::specs::Outcomes::outcome))]
 #[unsafe(no_mangle)]
 pub extern "C" fn hirgwamo_build(book: &[u8], pack: &[u8], answer: &mut [i64]) -> u32
     ensures { Tells verdict_size (verdict (books.build book.now pack.now)) result answer.old answer.new }
@@ -53,14 +48,14 @@ pub extern "C" fn hirgwamo_build(book: &[u8], pack: &[u8], answer: &mut [i64]) -
     if answer.len() < VERDICT_SIZE {
         return answer_numbers::TOO_SHORT;
     }
-    let b = build::build(book, pack);
-    if b.number != 0 {
-        return answer_numbers::refuse(answer, b.number, b.place);
+    match build::build(book, pack) {
+        Ok(_) => answer_numbers::give(answer, [0]),
+        Err(refused) => answer_numbers::refuse(answer, refused),
     }
-    answer_numbers::give_one(answer, 0)
 }
 
 // The working time from the instant a to the instant b.
+#[tactic(auto, unfolding(answer_numbers::specs::Outcomes::outcome))]
 #[unsafe(no_mangle)]
 pub extern "C" fn hirgwamo_between(
     book: &[u8],
@@ -78,17 +73,13 @@ pub extern "C" fn hirgwamo_between(
         return answer_numbers::TOO_SHORT;
     }
     match schedule::between(book, pack, a_sec, a_ns, b_sec, b_ns) {
-        TimeAnswer::Is(sec, ns, windows) => answer_numbers::give_three(
-            answer,
-            sec,
-            ns,
-            windows as i64,
-        ),
-        TimeAnswer::Refused(number, place) => answer_numbers::refuse(answer, number, place),
+        Ok(x) => answer_numbers::give(answer, [x.secs, x.nanos, x.windows as i64]),
+        Err(r) => answer_numbers::refuse(answer, r),
     }
 }
 
 // The instant that is a duration of working time after the instant t.
+#[tactic(auto, unfolding(answer_numbers::specs::Outcomes::outcome))]
 #[unsafe(no_mangle)]
 pub extern "C" fn hirgwamo_add(
     book: &[u8],
@@ -106,17 +97,13 @@ pub extern "C" fn hirgwamo_add(
         return answer_numbers::TOO_SHORT;
     }
     match schedule::add(book, pack, t_sec, t_ns, d_sec, d_ns) {
-        MoveAnswer::At(sec, ns, windows) => answer_numbers::give_three(
-            answer,
-            sec,
-            ns,
-            windows as i64,
-        ),
-        MoveAnswer::Refused(number, place) => answer_numbers::refuse(answer, number, place),
+        Ok(x) => answer_numbers::give(answer, [x.secs, x.nanos, x.windows as i64]),
+        Err(r) => answer_numbers::refuse(answer, r),
     }
 }
 
 // The instant that is a duration of working time before the instant t.
+#[tactic(auto, unfolding(answer_numbers::specs::Outcomes::outcome))]
 #[unsafe(no_mangle)]
 pub extern "C" fn hirgwamo_sub(
     book: &[u8],
@@ -134,17 +121,13 @@ pub extern "C" fn hirgwamo_sub(
         return answer_numbers::TOO_SHORT;
     }
     match schedule::sub(book, pack, t_sec, t_ns, d_sec, d_ns) {
-        MoveAnswer::At(sec, ns, windows) => answer_numbers::give_three(
-            answer,
-            sec,
-            ns,
-            windows as i64,
-        ),
-        MoveAnswer::Refused(number, place) => answer_numbers::refuse(answer, number, place),
+        Ok(x) => answer_numbers::give(answer, [x.secs, x.nanos, x.windows as i64]),
+        Err(r) => answer_numbers::refuse(answer, r),
     }
 }
 
 // The period at an instant or the first one after it.
+#[tactic(auto, unfolding(answer_numbers::specs::Outcomes::outcome))]
 #[unsafe(no_mangle)]
 pub extern "C" fn hirgwamo_next_period(
     book: &[u8],
@@ -160,12 +143,16 @@ pub extern "C" fn hirgwamo_next_period(
         return answer_numbers::TOO_SHORT;
     }
     match schedule_periods::next_period(book, pack, sec, ns) {
-        MarkedPeriodAnswer::Is(a, b, c, d, _, _) => answer_numbers::give_four(answer, a, b, c, d),
-        MarkedPeriodAnswer::Refused(number, place) => answer_numbers::refuse(answer, number, place),
+        Ok(x) => {
+            let p = x.period;
+            answer_numbers::give(answer, [p.start.sec, p.start.ns, p.end.sec, p.end.ns])
+        }
+        Err(r) => answer_numbers::refuse(answer, r),
     }
 }
 
 // The last period that begins before an instant.
+#[tactic(auto, unfolding(answer_numbers::specs::Outcomes::outcome))]
 #[unsafe(no_mangle)]
 pub extern "C" fn hirgwamo_previous_period(
     book: &[u8],
@@ -181,12 +168,16 @@ pub extern "C" fn hirgwamo_previous_period(
         return answer_numbers::TOO_SHORT;
     }
     match schedule_periods::previous_period(book, pack, sec, ns) {
-        MarkedPeriodAnswer::Is(a, b, c, d, _, _) => answer_numbers::give_four(answer, a, b, c, d),
-        MarkedPeriodAnswer::Refused(number, place) => answer_numbers::refuse(answer, number, place),
+        Ok(x) => {
+            let p = x.period;
+            answer_numbers::give(answer, [p.start.sec, p.start.ns, p.end.sec, p.end.ns])
+        }
+        Err(r) => answer_numbers::refuse(answer, r),
     }
 }
 
 // The period at an instant or the first one after it, with the marks of both ends.
+#[tactic(auto, unfolding(answer_numbers::specs::Outcomes::outcome))]
 #[unsafe(no_mangle)]
 pub extern "C" fn hirgwamo_next_period_marked(
     book: &[u8],
@@ -201,14 +192,27 @@ pub extern "C" fn hirgwamo_next_period_marked(
         return answer_numbers::TOO_SHORT;
     }
     match schedule_periods::next_period(book, pack, sec, ns) {
-        MarkedPeriodAnswer::Is(a, b, c, d, m, n) => answer_numbers::give_six(
-            answer, a, b, c, d, m as i64, n as i64,
-        ),
-        MarkedPeriodAnswer::Refused(number, place) => answer_numbers::refuse(answer, number, place),
+        Ok(x) => {
+            let p = x.period;
+            let m = x.marks;
+            answer_numbers::give(
+                answer,
+                [
+                    p.start.sec,
+                    p.start.ns,
+                    p.end.sec,
+                    p.end.ns,
+                    i64::from(m.start.number()),
+                    i64::from(m.end.number()),
+                ],
+            )
+        }
+        Err(r) => answer_numbers::refuse(answer, r),
     }
 }
 
 // The last period that begins before an instant, with the marks of both ends.
+#[tactic(auto, unfolding(answer_numbers::specs::Outcomes::outcome))]
 #[unsafe(no_mangle)]
 pub extern "C" fn hirgwamo_previous_period_marked(
     book: &[u8],
@@ -223,14 +227,27 @@ pub extern "C" fn hirgwamo_previous_period_marked(
         return answer_numbers::TOO_SHORT;
     }
     match schedule_periods::previous_period(book, pack, sec, ns) {
-        MarkedPeriodAnswer::Is(a, b, c, d, m, n) => answer_numbers::give_six(
-            answer, a, b, c, d, m as i64, n as i64,
-        ),
-        MarkedPeriodAnswer::Refused(number, place) => answer_numbers::refuse(answer, number, place),
+        Ok(x) => {
+            let p = x.period;
+            let m = x.marks;
+            answer_numbers::give(
+                answer,
+                [
+                    p.start.sec,
+                    p.start.ns,
+                    p.end.sec,
+                    p.end.ns,
+                    i64::from(m.start.number()),
+                    i64::from(m.end.number()),
+                ],
+            )
+        }
+        Err(r) => answer_numbers::refuse(answer, r),
     }
 }
 
 // All stretches of working time from the instant a to the instant b, in the numbers lent as `stretches`.
+#[tactic(auto, unfolding(answer_numbers::specs::Outcomes::outcome))]
 #[unsafe(no_mangle)]
 pub extern "C" fn hirgwamo_list(
     book: &[u8],
@@ -249,12 +266,13 @@ pub extern "C" fn hirgwamo_list(
         return answer_numbers::TOO_SHORT;
     }
     match schedule_listing::list(book, pack, a_sec, a_ns, b_sec, b_ns, stretches) {
-        Listing::Count(n) => answer_numbers::give_one(answer, n as i64),
-        Listing::Refused(number, place) => answer_numbers::refuse(answer, number, place),
+        Ok(n) => answer_numbers::give(answer, [n as i64]),
+        Err(r) => answer_numbers::refuse(answer, r),
     }
 }
 
 // The hardest stretch of a log of runs.
+#[tactic(auto, unfolding(answer_numbers::specs::Outcomes::outcome))]
 #[unsafe(no_mangle)]
 pub extern "C" fn hirgwamo_hardest(
     book: &[u8],
@@ -272,14 +290,15 @@ pub extern "C" fn hirgwamo_hardest(
         return answer_numbers::TOO_SHORT;
     }
     match schedule_hardest::hardest(book, pack, t_sec, t_ns, log, width) {
-        HardestAnswer::Is(a, b, c, d) => answer_numbers::give_four(answer, a, b, c, d),
-        HardestAnswer::Refused(number, place) => answer_numbers::refuse(answer, number, place),
+        Ok(x) => answer_numbers::give(answer, [x.time.secs, x.time.nanos, x.start.sec, x.start.ns]),
+        Err(r) => answer_numbers::refuse(answer, r),
     }
 }
 
 // ---- zone files
 
 // The offset of a zone at an instant.
+#[tactic(auto, unfolding(answer_numbers::specs::Outcomes::outcome))]
 #[unsafe(no_mangle)]
 pub extern "C" fn hirgwamo_offset(file: &[u8], sec: i64, ns: i64, answer: &mut [i64]) -> u32
     ensures { Tells offset_size (one_number (zones.offset_call file.now «sec» «ns»)) result answer.old answer.new }
@@ -288,12 +307,13 @@ pub extern "C" fn hirgwamo_offset(file: &[u8], sec: i64, ns: i64, answer: &mut [
         return answer_numbers::TOO_SHORT;
     }
     match zone_calls::offset_in(file, sec, ns) {
-        OffsetAnswer::Is(offset) => answer_numbers::give_one(answer, offset),
-        OffsetAnswer::Refused(number, place) => answer_numbers::refuse(answer, number, place),
+        Ok(offset) => answer_numbers::give(answer, [offset]),
+        Err(r) => answer_numbers::refuse(answer, r),
     }
 }
 
 // The next change of a zone's offset after an instant.
+#[tactic(auto, unfolding(answer_numbers::specs::Outcomes::outcome))]
 #[unsafe(no_mangle)]
 pub extern "C" fn hirgwamo_next_change(file: &[u8], sec: i64, ns: i64, answer: &mut [i64]) -> u32
     ensures { Tells change_size (when_changed (zones.change_call file.now «sec» «ns»)) result answer.old answer.new }
@@ -302,13 +322,14 @@ pub extern "C" fn hirgwamo_next_change(file: &[u8], sec: i64, ns: i64, answer: &
         return answer_numbers::TOO_SHORT;
     }
     match zone_calls::next_change_in(file, sec, ns) {
-        ChangeAnswer::At(s, n) => answer_numbers::give_three(answer, 1, s, n),
-        ChangeAnswer::Never => answer_numbers::give_three(answer, 0, 0, 0),
-        ChangeAnswer::Refused(number, place) => answer_numbers::refuse(answer, number, place),
+        Ok(Some(t)) => answer_numbers::give(answer, [1, t.sec, t.ns]),
+        Ok(None) => answer_numbers::give(answer, [0, 0, 0]),
+        Err(r) => answer_numbers::refuse(answer, r),
     }
 }
 
 // The instant of a local time.
+#[tactic(auto, unfolding(answer_numbers::specs::Outcomes::outcome))]
 #[unsafe(no_mangle)]
 pub extern "C" fn hirgwamo_resolve(
     file: &[u8],
@@ -326,12 +347,13 @@ pub extern "C" fn hirgwamo_resolve(
         return answer_numbers::TOO_SHORT;
     }
     match zone_calls::resolve_in(file, year, month, day, second, ns) {
-        ResolveAnswer::At(s, n, _) => answer_numbers::give_two(answer, s, n),
-        ResolveAnswer::Refused(number, place) => answer_numbers::refuse(answer, number, place),
+        Ok(x) => answer_numbers::give(answer, [x.at.sec, x.at.ns]),
+        Err(r) => answer_numbers::refuse(answer, r),
     }
 }
 
 // The instant of a local time, with its mark.
+#[tactic(auto, unfolding(answer_numbers::specs::Outcomes::outcome))]
 #[unsafe(no_mangle)]
 pub extern "C" fn hirgwamo_resolve_marked(
     file: &[u8],
@@ -349,8 +371,8 @@ pub extern "C" fn hirgwamo_resolve_marked(
         return answer_numbers::TOO_SHORT;
     }
     match zone_calls::resolve_in(file, year, month, day, second, ns) {
-        ResolveAnswer::At(s, n, m) => answer_numbers::give_three(answer, s, n, m as i64),
-        ResolveAnswer::Refused(number, place) => answer_numbers::refuse(answer, number, place),
+        Ok(x) => answer_numbers::give(answer, [x.at.sec, x.at.ns, i64::from(x.mark.number())]),
+        Err(r) => answer_numbers::refuse(answer, r),
     }
 }
 

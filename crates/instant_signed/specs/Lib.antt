@@ -4,3 +4,4 @@ pub mod ReadLaws
 pub mod InstantLaws
 pub mod Durations
 pub mod DurationLaws
+pub mod OffsetLaws

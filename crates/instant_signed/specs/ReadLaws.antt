@@ -1,14 +1,12 @@
 -- Each answer of the functions on instants, from what the code has tested.
-use Rattle.std.specs.Prelude.{◌≡◌, refl, Bool, true, false, not, ◌&&◌, ℕ, ◌+◌, ◌-◌, ◌*◌, ◌/◌, ◌%◌, ◌^◌, ◌≤◌, ◌<◌, leb, ltb, ℤ, pos, negsuc, nat_abs}
-use Rattle.std.proofs.Common.{ap, arith, SFits, leb-true, ltb-true, le-leb, lt-ltb}
-use Rattle.std.specs.Int.{w64}
+use Rattle.std.specs.Prelude.{◌≡◌, refl, Bool, true, false, not, ◌&&◌, ℕ, ◌+◌, ◌*◌, ◌/◌, ◌%◌, ◌≤◌, ◌<◌, leb, ltb, ℤ, pos, negsuc, nat_abs, ◌+ℤ◌, ◌≤ℤ◌, ◌<ℤ◌, Some, None}
+use Rattle.std.proofs.Common.{ap, arith, leb-true, ltb-true, le-leb, lt-ltb}
+use Rattle.std.proofs.lemmas.Int.{ints}
 use Rattle.model.specs.Basic.{is_in}
 use Rattle.model.specs.Instant.{epoch, second, first_instant, last_instant, is_below_0, second_from, instant_of, first_second, last_second}
 use Rattle.laws_base.specs.Test.{by-test, and_both, both-and, not-true, true-not, clash}
 use Rattle.instant.specs.declared.Instant.{Instant}
-use Rattle.instant_signed.specs.Signed.{biased, biased-plus, biased-minus}
 use Rattle.instant_signed.specs.Reads.{of_nanos, instant_read}
-use Rattle.instant_signed.specs.declared.InstantRead.TheVariants.{At, OutOfRange}
 
 -- an instant is known by its seconds and the rest
 pub parts : (n s t : ℕ) → t < second → s * second + t ≡ n → ◌≡◌ {A = Instant} (record { sec = s; ns = t }) (of_nanos n)
@@ -20,26 +18,28 @@ parts n s t h e = λ i. record { sec = p i; ns = q i }
     q : t ≡ n % second
     q = omega arith
 
--- ---- from signed numbers
+-- the seconds from 1970 and the nanoseconds of an instant
+pub record IsInstant (s n : ℤ) : Type 0 where
+  pub from : negsuc 377705023200 ≤ℤ s
+  pub to : s ≤ℤ pos 253402207200
+  pub least : pos 0 ≤ℤ n
+  pub most : n <ℤ pos second
 
--- the offsets of an instant's seconds and nanoseconds
-pub record Offsets (a b : ℕ) : Type 0 where
-  pub from : 2 ^ 63 + first_second ≤ a + epoch
-  pub to : a + epoch ≤ 2 ^ 63 + last_second
-  pub least : 2 ^ 63 ≤ b
-  pub most : b < 2 ^ 63 + second
+second-is : (s : ℤ) → negsuc 377705023200 ≤ℤ s → s +ℤ pos epoch ≡ pos (second_from s)
+second-is (pos n) h = omega (arith, ints)
+second-is (negsuc n) h = omega (arith, ints)
 
-second-off : (z : ℤ) → SFits w64 z → second_from z ≡ biased z + epoch - 2 ^ 63
-second-off (pos n) f = omega (arith, biased-plus n)
-second-off (negsuc n) f = omega (arith, biased-minus n f.sfits, f.sfits)
+second-back : (s : ℤ) → first_second ≤ second_from s → second_from s ≤ last_second → (negsuc 377705023200 ≤ℤ s) × (s ≤ℤ pos 253402207200)
+second-back (pos n) a b = (omega (arith, ints), omega (arith, ints))
+second-back (negsuc n) a b = (omega (arith, ints), omega (arith, ints))
 
-nat-off : (z : ℤ) → is_below_0 z ≡ false → biased z ≡ nat_abs z + 2 ^ 63
-nat-off (pos n) e = biased-plus n
-nat-off (negsuc n) e = clash true refl e
+rest-is : (n : ℤ) → pos 0 ≤ℤ n → (is_below_0 n ≡ false) × (n ≡ pos (nat_abs n))
+rest-is (pos n) h = (refl, refl)
+rest-is (negsuc n) h = absurd (omega (arith, ints))
 
-at_least : (z : ℤ) → SFits w64 z → 2 ^ 63 ≤ biased z → is_below_0 z ≡ false
-at_least (pos n) f h = refl
-at_least (negsuc n) f h = absurd (omega (arith, biased-minus n f.sfits, f.sfits))
+rest-back : (n : ℤ) → is_below_0 n ≡ false → n ≡ pos (nat_abs n)
+rest-back (pos n) e = refl
+rest-back (negsuc n) e = clash true refl e
 
 -- the seconds, and the nanoseconds, that an instant may have
 abbrev pub is_second : ℤ → Bool
@@ -48,40 +48,34 @@ is_second s = is_in (first_instant / second) (last_instant / second) (second_fro
 abbrev pub is_rest : ℤ → Bool
 is_rest n = not (is_below_0 n) && ltb (nat_abs n) second
 
-offsets : (s n : ℤ) → SFits w64 s → SFits w64 n → (is_second s && is_rest n) ≡ true → Offsets (biased s) (biased n)
-offsets s n f g e =
+told : (s n : ℤ) → (is_second s && is_rest n) ≡ true → IsInstant s n
+told s n e =
     let p = and_both (is_second s) (is_rest n) e in
     let q = and_both (leb first_second (second_from s)) (leb (second_from s) last_second) p.0 in
     let r = and_both (not (is_below_0 n)) (ltb (nat_abs n) second) p.1 in
-    let a : first_second ≤ second_from s = leb-true _ _ q.0 in
-    let b : second_from s ≤ last_second = leb-true _ _ q.1 in
+    let k = second-back s (leb-true _ _ q.0) (leb-true _ _ q.1) in
     let c : nat_abs n < second = ltb-true _ _ r.1 in
-    let d = nat-off n (not-true _ r.0) in
-    let k = second-off s f in
-    record { from = omega arith; to = omega arith; least = omega arith; most = omega arith }
+    let d = rest-back n (not-true _ r.0) in
+    record { from = k.0; to = k.1; least = omega (arith, ints); most = omega (arith, ints) }
 
-passes : (s n : ℤ) → SFits w64 s → SFits w64 n → Offsets (biased s) (biased n) → (is_second s && is_rest n) ≡ true
-passes s n f g o =
-    let z = at_least n g o.least in
-    let d = nat-off n z in
-    let k = second-off s f in
-    let a : first_second ≤ second_from s = omega arith in
-    let b : second_from s ≤ last_second = omega arith in
-    let c : nat_abs n < second = omega arith in
+passes : (s n : ℤ) → IsInstant s n → (is_second s && is_rest n) ≡ true
+passes s n v =
+    let k = second-is s v.from in
+    let d = rest-is n v.least in
+    let a : first_second ≤ second_from s = omega (arith, ints) in
+    let b : second_from s ≤ last_second = omega (arith, ints) in
+    let c : nat_abs n < second = omega (arith, ints) in
     both-and (is_second s) (is_rest n)
     (both-and (leb first_second (second_from s)) (leb (second_from s) last_second) (le-leb _ _ a) (le-leb _ _ b))
-    (both-and (not (is_below_0 n)) (ltb (nat_abs n) second) (true-not _ z) (lt-ltb _ _ c))
+    (both-and (not (is_below_0 n)) (ltb (nat_abs n) second) (true-not _ d.0) (lt-ltb _ _ c))
 
-pub read_out : (s n : ℤ) → SFits w64 s → SFits w64 n → (Offsets (biased s) (biased n) → ⊥) → OutOfRange ≡ instant_read (instant_of s n)
+pub read-no : (s n : ℤ) → (IsInstant s n → ⊥) → None ≡ instant_read (instant_of s n)
 unfolding instant_read instant_of
-read_out s n f g h =
-    by-test (is_second s && is_rest n) (λ e. absurd (h (offsets s n f g e))) (λ e. simp e)
+read-no s n h = by-test (is_second s && is_rest n) (λ e. absurd (h (told s n e))) (λ e. simp e)
 
-pub read_at :
-    (s n : ℤ) (a b : ℕ) → SFits w64 s → SFits w64 n → Offsets (biased s) (biased n) → a + 2 ^ 63 ≡ biased s + epoch → b + 2 ^ 63 ≡ biased n →
-    At (record { sec = a; ns = b }) ≡ instant_read (instant_of s n)
+pub read-yes : (s n : ℤ) (a b : ℕ) → IsInstant s n → pos a ≡ s +ℤ pos epoch → pos b ≡ n → Some (record { sec = a; ns = b }) ≡ instant_read (instant_of s n)
 unfolding instant_read instant_of
-read_at s n a b f g o d e =
-    let k = second-off s f in
-    let m = nat-off n (at_least n g o.least) in
-    simp (passes s n f g o) (ap At (parts (second_from s * second + nat_abs n) a b (omega arith) (omega arith)))
+read-yes s n a b v d e =
+    let k = second-is s v.from in
+    let m = rest-is n v.least in
+    simp (passes s n v) (ap Some (parts (second_from s * second + nat_abs n) a b (omega (arith, ints)) (omega (arith, ints))))

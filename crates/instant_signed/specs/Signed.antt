@@ -1,9 +1,10 @@
 -- Signed numbers of 64 bits as natural numbers that are 2^63 more.
-use Rattle.std.specs.Prelude.{◌≡◌, refl, true, false, ℕ, zero, suc, ◌+◌, ◌-◌, ◌^◌, ◌≤◌, ◌<◌, T, ℤ, pos, negsuc, neg_ℤ, ◌+ℤ◌, ◌-ℤ◌, nat_abs}
-use Rattle.std.proofs.Common.{sym, ap, ap₂, ◌∙◌, subst, arith, SFits, to_z, of_z, to_z-of_z, ltb-true, lt-ltb, le-ltb}
+use Rattle.std.specs.Prelude.{◌≡◌, refl, true, false, ℕ, zero, suc, ◌+◌, ◌-◌, ◌^◌, ◌≤◌, ◌<◌, ℤ, pos, negsuc, neg_ℤ, ◌+ℤ◌, ◌-ℤ◌, nat_abs}
+use Rattle.std.proofs.Common.{sym, ap, ap₂, ◌∙◌, arith, SFits, to_z, of_z, to_z-of_z, ltb-true, lt-ltb, le-ltb}
 use Rattle.std.proofs.Math.IntN.{sub_ℕ}
 use Rattle.std.specs.Int.Signed.{lt_z}
 use Rattle.std.specs.Int.{w64}
+use Rattle.laws_base.specs.Test.{clash}
 
 -- z + 2^63
 unfoldable pub biased : ℤ → ℕ
@@ -40,10 +41,7 @@ is-neg (negsuc n) f e = below n f.sfits
 
 pub is-nat : (z : ℤ) → SFits w64 z → lt_z z (pos 0) ≡ false → IsNat z
 is-nat (pos n) f e = above n f.sfits
-is-nat (negsuc n) f e = absurd (never e)
-  where
-    never : true ≡ false → ⊥
-    never e = subst T e tt
+is-nat (negsuc n) f e = clash true refl e
 
 -- the offset by the sign
 pub biased-minus : (n : ℕ) → n < 2 ^ 63 → biased (negsuc n) ≡ 2 ^ 63 - suc n

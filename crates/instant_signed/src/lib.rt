@@ -1,28 +1,29 @@
-// Instants and durations as the calls take and give them, pairs of signed numbers. Inside all numbers are unsigned: a signed number is read
-// as the unsigned one that is 2^63 more, compared and moved as that, and written back.
+// Instants and durations as the calls take and give them, pairs of signed numbers. Inside, instants and lengths of time are unsigned. A signed number
+// can also stand as the unsigned one that is 2^63 more.
 #![tactic(auto)]
 
 ghost use Rattle.std.specs.Prelude.{◌≡◌, ◌+◌, ◌-◌, ◌≤◌, ◌<◌, ◌^◌, false};
-ghost use Rattle.model.specs.Instant.{instant_of, duration_of};
-ghost use Rattle.instant.specs.Instant.{nanos};
+ghost use Rattle.model.specs.Instant.{instant_of, instant, duration_of};
+ghost use Rattle.instant.specs.Instant.{nanos, Exact};
 ghost use Rattle.instant_signed.specs.Signed.{biased, unbiased};
-ghost use Rattle.instant_signed.specs.Reads.{instant_read, seconds_from};
+ghost use Rattle.instant_signed.specs.Reads.{instant_read, seconds_from, instant_numbers};
 ghost use Rattle.instant_signed.specs.Durations.{signed_pair, duration_read, fitting_pair, negation};
 
-use instant::{EPOCH, FIRST, Instant, LAST, SECOND};
+use instant::{EPOCH, FIRST, Instant, LAST, Length, SECOND, SECOND_32};
 
-// 2^63: the offset of signed numbers, and the number that stands for 0.
+// 2^63: what the unsigned number is more, and the number that stands for 0.
 pub const HALF: u64 = 9223372036854775808;
 
 // The least signed number, -2^63.
 const LEAST: i64 = -9223372036854775808;
 
 // The seconds of the first and the last instant, counted from 1970.
-const BEFORE: u64 = EPOCH - FIRST;
+const EARLIEST: i64 = FIRST as i64 - EPOCH as i64;
 
-const AFTER: u64 = LAST - EPOCH;
+const LATEST: i64 = LAST as i64 - EPOCH as i64;
 
 // x + 2^63
+#[tactic(auto, unfolding(crate::specs::Signed::biased))]
 pub fn lift(x: i64) -> u64
     ensures { result ≡ biased x }
 {
@@ -33,6 +34,7 @@ pub fn lift(x: i64) -> u64
 }
 
 // k - 2^63
+#[tactic(auto, unfolding(crate::specs::Signed::unbiased))]
 pub fn lower(k: u64) -> i64
     ensures { result ≡ unbiased k }
 {
@@ -42,43 +44,45 @@ pub fn lower(k: u64) -> i64
     (k - HALF) as i64
 }
 
-// An instant, or none: the numbers are outside the range.
-#[derive(Clone, Copy)]
-pub enum InstantRead {
-    At(Instant),
-    OutOfRange,
-}
-
-// The instant of seconds from 1970 and nanoseconds.
-pub fn instant_of(sec: i64, ns: i64) -> InstantRead
+// The instant of seconds from 1970 and nanoseconds, or none: the numbers are outside the range.
+pub fn instant_of(sec: i64, ns: i64) -> Option<Instant>
     ensures { result ≡ instant_read (instant_of sec ns) }
 {
-    let s = lift(sec);
-    let n = lift(ns);
-    if s < HALF - BEFORE {
-        return InstantRead::OutOfRange;
+    if sec < EARLIEST || LATEST < sec || ns < 0 || SECOND as i64 <= ns {
+        return None;
     }
-    if HALF + AFTER < s {
-        return InstantRead::OutOfRange;
-    }
-    if n < HALF {
-        return InstantRead::OutOfRange;
-    }
-    if n >= HALF + SECOND {
-        return InstantRead::OutOfRange;
-    }
-    InstantRead::At(Instant {
-        sec: s - (HALF - EPOCH),
-        ns: (n - HALF) as u32,
+    Some(Instant {
+        sec: (sec + EPOCH as i64) as u64,
+        ns: ns as u32,
     })
 }
 
 // The seconds from 1970 of a second that is counted from -10400.
+#[tactic(auto, unfolding(crate::specs::Reads::seconds_from))]
 pub fn seconds_of(sec: u64) -> i64
     requires { sec < 2 ^ 63 }
     ensures { result ≡ seconds_from sec }
 {
-    lower(sec + (HALF - EPOCH))
+    sec as i64 - EPOCH as i64
+}
+
+// An instant as the calls give it: seconds from 1970 and nanoseconds.
+#[derive(Clone, Copy, Debug, PartialEq, Eq)]
+pub struct SignedInstant {
+    pub sec: i64,
+    pub ns: i64,
+}
+
+// An instant as the calls give it.
+#[tactic(auto, unfolding(model::specs::Instant::instant, crate::specs::Reads::seconds_from))]
+pub fn signed_instant(t: Instant) -> SignedInstant
+    requires { (t.sec < 2 ^ 63) × Exact t }
+    ensures { instant_numbers result ≡ instant (nanos t) }
+{
+    SignedInstant {
+        sec: seconds_of(t.sec),
+        ns: i64::from(t.ns),
+    }
 }
 
 // Seconds and nanoseconds that never have opposite signs, the nanoseconds below 10^9 in size.
@@ -88,41 +92,35 @@ pub struct Duration {
     pub nanos: i64,
 }
 
-// A sign, seconds and nanoseconds.
+// A sign and a size.
 #[derive(Clone, Copy)]
-pub enum DurationRead {
-    Signed(bool, u64, u32),
-    Malformed,
+pub struct SignedLength {
+    pub minus: bool,
+    pub length: Length,
 }
 
-// The sign and the size of a duration.
-pub fn duration_of(secs: i64, nanos: i64) -> DurationRead
+// The sign and the size of a duration, or none: the numbers are no duration.
+pub fn duration_of(secs: i64, nanos: i64) -> Option<SignedLength>
     ensures { result ≡ duration_read (duration_of secs nanos) }
 {
-    let s = lift(secs);
-    let n = lift(nanos);
-    if n <= HALF - SECOND {
-        return DurationRead::Malformed;
+    let minus = secs < 0 || nanos < 0;
+    if SECOND <= nanos.unsigned_abs() {
+        return None;
     }
-    if HALF + SECOND <= n {
-        return DurationRead::Malformed;
+    if minus && (0 < secs || 0 < nanos) {
+        return None;
     }
-    if s < HALF {
-        if HALF < n {
-            return DurationRead::Malformed;
-        }
-        return DurationRead::Signed(true, HALF - s, (HALF - n) as u32);
-    }
-    if n < HALF {
-        if HALF < s {
-            return DurationRead::Malformed;
-        }
-        return DurationRead::Signed(true, 0, (HALF - n) as u32);
-    }
-    DurationRead::Signed(false, s - HALF, (n - HALF) as u32)
+    Some(SignedLength {
+        minus,
+        length: Length {
+            sec: secs.unsigned_abs(),
+            ns: nanos.unsigned_abs() as u32,
+        },
+    })
 }
 
 // The duration of a sign and a size that fits.
+#[tactic(auto, unfolding(crate::specs::Signed::unbiased))]
 pub fn pair(minus: bool, sec: u64, ns: u32) -> Duration
     requires { (sec ≤ 2 ^ 63) × (minus ≡ false → sec < 2 ^ 63) }
     ensures { result ≡ signed_pair minus sec ns }
@@ -130,48 +128,46 @@ pub fn pair(minus: bool, sec: u64, ns: u32) -> Duration
     if minus {
         return Duration {
             secs: lower(HALF - sec),
-            nanos: lower(HALF - ns as u64),
+            nanos: -(ns as i64),
         };
     }
     Duration {
-        secs: lower(HALF + sec),
-        nanos: lower(HALF + ns as u64),
+        secs: sec as i64,
+        nanos: ns as i64,
     }
 }
 
-// A duration, or why there is none: its seconds do not fit, or it is no duration.
-#[derive(Clone, Copy)]
-pub enum DurationMade {
-    Is(Duration),
+// Why a sign and a size make no duration: the seconds do not fit, or they are no sign and size of one.
+#[derive(Clone, Copy, Debug, PartialEq, Eq)]
+pub enum DurationError {
     OutOfRange,
     Malformed,
 }
 
 // The duration of a sign and a size.
-pub fn duration_from(minus: bool, sec: u64, ns: u32) -> DurationMade
-    ensures { result ≡ fitting_pair minus sec ns }
+#[tactic(auto, unfolding(crate::specs::Durations::fitting_pair))]
+pub fn duration_from(x: SignedLength) -> Result<Duration, DurationError>
+    ensures { result ≡ fitting_pair x.minus x.length.sec x.length.ns }
 {
-    if SECOND <= ns as u64 {
-        return DurationMade::Malformed;
+    let d = x.length;
+    if SECOND_32 <= d.ns {
+        return Err(DurationError::Malformed);
     }
-    if HALF < sec {
-        return DurationMade::OutOfRange;
+    if HALF < d.sec || !x.minus && HALF == d.sec {
+        return Err(DurationError::OutOfRange);
     }
-    if minus {
-        return DurationMade::Is(pair(true, sec, ns));
-    }
-    if HALF <= sec {
-        return DurationMade::OutOfRange;
-    }
-    DurationMade::Is(pair(false, sec, ns))
+    Ok(pair(x.minus, d.sec, d.ns))
 }
 
 // The duration of the same size and the other sign.
-pub fn negate(d: Duration) -> DurationMade
+pub fn negate(d: Duration) -> Result<Duration, DurationError>
     ensures { result ≡ negation d.secs d.nanos }
 {
-    let DurationRead::Signed(minus, sec, ns) = duration_of(d.secs, d.nanos) else {
-        return DurationMade::Malformed;
+    let Some(x) = duration_of(d.secs, d.nanos) else {
+        return Err(DurationError::Malformed);
     };
-    duration_from(!minus, sec, ns)
+    duration_from(SignedLength {
+        minus: !x.minus,
+        length: x.length,
+    })
 }

@@ -1,6 +1,6 @@
 -- Demand 3 over the numbers that the calls answer: it holds of every three functions that answer as the contracts of `between`, `add` and `sub`
 -- promise. "Window counts stand outside demand 3." Its sentences stand in crate `laws_demand3`, Demand3.antt.
-use Rattle.std.specs.Prelude.{◌≡◌, List, ℕ, ℤ}
+use Rattle.std.specs.Prelude.{◌≡◌, List, ℕ, ℤ, Result}
 use Rattle.std.proofs.Common.{sym, ◌∙◌}
 use Rattle.model.specs.Answer.{gives}
 use Rattle.model.specs.Working.{Schedule}
@@ -11,24 +11,24 @@ use Rattle.laws_demand3.specs.Zones.{zones_of, WithinDay}
 use Rattle.laws_base.specs.Every.{Every}
 use Rattle.laws_demand3.specs.Demand3.{Calls, WorkingTime, Added, Demand3, as_defined}
 use Rattle.laws_demand3.proofs.Holds.{demand-3}
-use Rattle.schedule.specs.declared.TimeAnswer.{TimeAnswer}
-use Rattle.schedule.specs.declared.MoveAnswer.{MoveAnswer}
-use Rattle.schedule.specs.Answers.{time_is, move_is}
+use Rattle.refusal.specs.declared.Refused.{Refused}
+use Rattle.schedule.specs.declared.Counted.{Counted}
+use Rattle.schedule.specs.Answers.{counted_is}
 
 -- what is answered for one book and one pack
-module _ (between_of : Pair → Pair → TimeAnswer) (add_of : Pair → Pair → MoveAnswer) (sub_of : Pair → Pair → MoveAnswer) where
+module _ (between_of add_of sub_of : Pair → Pair → Result Counted Refused) where
   -- as the contracts promise for all pairs of 64-bit numbers; instants and durations are such
   pub record AsPromised (book pack : List ℕ) : Type 0 where
-    pub times : (a b : Pair) → IsInstant a → IsInstant b → time_is (between_of a b) ≡ said (between book pack a.sec a.ns b.sec b.ns)
-    pub adds : (t d : Pair) → IsInstant t → IsDuration d → move_is (add_of t d) ≡ said (add book pack t.sec t.ns d.sec d.ns)
-    pub subs : (t d : Pair) → IsInstant t → IsDuration d → move_is (sub_of t d) ≡ said (sub book pack t.sec t.ns d.sec d.ns)
+    pub times : (a b : Pair) → IsInstant a → IsInstant b → counted_is (between_of a b) ≡ said (between book pack a.sec a.ns b.sec b.ns)
+    pub adds : (t d : Pair) → IsInstant t → IsDuration d → counted_is (add_of t d) ≡ said (add book pack t.sec t.ns d.sec d.ns)
+    pub subs : (t d : Pair) → IsInstant t → IsDuration d → counted_is (sub_of t d) ≡ said (sub book pack t.sec t.ns d.sec d.ns)
 
   -- in numbers
   abbrev pub as_answered : Calls
   as_answered = record {
-    between = λ a b. time_is (between_of a b);
-    adding = λ t d. move_is (add_of t d);
-    taking_off = λ t d. move_is (sub_of t d);
+    between = λ a b. counted_is (between_of a b);
+    adding = λ t d. counted_is (add_of t d);
+    taking_off = λ t d. counted_is (sub_of t d);
   }
 
   module _ (book pack : List ℕ) (k : AsPromised book pack) where

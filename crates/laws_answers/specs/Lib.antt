@@ -1,3 +1,4 @@
 pub mod Demand
+pub mod Known
 pub mod Witness
 pub mod Numbers

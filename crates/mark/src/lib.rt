@@ -1,14 +1,31 @@
-// The marks of a local time and of a block's ends (document 02, request 4) by name. Of two marks the greater is kept.
+// The marks of a local time and of a block's ends (document 02, request 4). Of two marks the greater is kept.
 #![tactic(auto)]
 
-// One instant reads so.
-pub const PLAIN: u32 = 0;
+ghost use Rattle.std.specs.Prelude.{◌≡◌};
+ghost use Rattle.mark.specs.Marks.{mark_number};
 
-// Two or more instants read so: the clock was set back.
-pub const REPEATED: u32 = 1;
+#[derive(Clone, Copy, PartialEq, Eq, PartialOrd, Ord)]
+pub enum Mark {
+    // one instant reads so
+    Plain,
+    // two or more instants read so: the clock was set back
+    Repeated,
+    // no instant reads so: the clock was set forward over it
+    Skipped,
+    // the instant lies beyond the range
+    Beyond,
+}
 
-// No instant reads so: the clock was set forward over it.
-pub const SKIPPED: u32 = 2;
-
-// The instant lies beyond the range.
-pub const BEYOND: u32 = 3;
+impl Mark {
+    // The number by which it is answered.
+    pub fn number(self) -> u32
+        ensures { result ≡ mark_number self }
+    {
+        match self {
+            Mark::Plain => 0,
+            Mark::Repeated => 1,
+            Mark::Skipped => 2,
+            Mark::Beyond => 3,
+        }
+    }
+}

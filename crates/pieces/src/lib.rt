@@ -14,11 +14,7 @@ use std::{io, thread};
 
 // Is the call that failed to be tried again?
 fn is_again(error: &io::Error) -> bool {
-    match error.kind() {
-        ErrorKind::Interrupted => true,
-        ErrorKind::WouldBlock => true,
-        _ => false,
-    }
+    matches!(error.kind(), ErrorKind::Interrupted | ErrorKind::WouldBlock)
 }
 
 // What a call fails with that was tried again too often. No run comes so far: a proved loop has to end, and nothing says that bytes come.

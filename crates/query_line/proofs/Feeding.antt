@@ -2,28 +2,29 @@
 use mathlib.Core.Path.{◌≡◌, refl, sym, ap, ◌∙◌}
 use mathlib.Core.Bool.{Bool, true, false, not, ◌&&◌, ◌||◌}
 use mathlib.Core.Option.{Option, none, some}
-use mathlib.Core.List.{List, [], ◌∷◌, ◌++◌, append_assoc}
+use mathlib.Core.List.{List, [], ◌∷◌, ◌++◌, append_assoc, append-nil}
 use Prim.Native.Nat.{ℕ, zero, suc, ◌+◌, ◌*◌, ◌-◌, ◌^◌, ◌≤◌, ◌<◌}
 use native.Mathlib.Omega.{arith}
+use lib.Chars.{codes}
 use lib.Dec.{leb, ltb, eqb}
-use lib.ListN.{length}
+use lib.ListN.{length, take, set, length-append}
 use lib.IntN.{ℤ}
 use borrow.Author.Tests.{lt-ltb, le-leb, lt-leb, ne_eqb, leb-true, ltb-true, ltb-false}
+use Rattle.std.proofs.Common as std
+use Rattle.std.specs.Option.{is_some, unwrap_or}
+use Rattle.std.specs.Str.{bytes_eq}
+use Rattle.std.proofs.lemmas.List.{take_more_set, length-take}
+use Rattle.std.proofs.lemmas.Slice.Eq.{bytes_eq-Decides}
 use Rattle.model.specs.Basic.{◌>>=◌, is_in, all, each}
-use Rattle.model.specs.Bytes.{number_from}
-use Rattle.model.specs.Lines as model
 use Rattle.model.specs.Lines.{on_first, fields_of, decimal_from, magnitude, number_of}
 use Rattle.laws_base.specs.Test.{by-test}
 use Rattle.instant_signed.specs.Signed.{unbiased, unbiased-less, unbiased-more}
-use Rattle.query_line.specs.Reading.{between_number, add_number, sub_number, next_number, previous_number, query_is, word_of, asked, limit, sized, field_from, key_of, done_of, name_yet, rest_yet, yet, ask_four, ask_two}
-use Rattle.query_line.specs.declared.Query.TheVariants as Q
+use Rattle.query_line.specs.Reading.{query_from, word_of, asked, asked_from, limit, sized, field_from, key_of, done_of, name_yet, rest_yet, yet, ask_four, ask_two}
 use Rattle.query_line.specs.declared.Word.{Word}
-use Rattle.query_line.specs.declared.Word.TheVariants.{Between, Add, Sub, Next, Previous, Other}
+use Rattle.query_line.specs.declared.Word.TheVariants.{Between, Add, Sub, Next, Previous}
 use Rattle.query_line.specs.declared.Fields.{Fields}
-use Rattle.query_line.specs.declared.Line.{Line}
-use Rattle.query_line.specs.declared.Line.TheVariants.{Name, Rest, Broken}
-use Rattle.query_line.specs.declared.Key.{Key}
-use Rattle.query_line.specs.declared.Key.TheVariants.{Is, Not}
+use Rattle.query_line.specs.declared.name.Name as N
+use Rattle.query_line.specs.declared.Line.TheVariants.{Name, Rest}
 
 -- ---- partial answers
 
@@ -68,67 +69,48 @@ number-from (c ∷ f) = refl
 
 -- ---- the first word
 
-word-long : (n w : ℕ) → 8 < n → word_of n w ≡ Other
+differs : (w p : List ℕ) → length p < length w → bytes_eq w p ≡ false
+differs w p h = by-test (bytes_eq w p) (λ e. let q : w ≡ p = (bytes_eq-Decides w p).0 e in absurd (omega (arith, ap length q))) (λ e. e)
+
+word-long : (w : List ℕ) → 8 < length w → word_of w ≡ std.None
 unfolding word_of
-word-long n w h =
-    rw (ne_eqb n 7 (λ e. omega arith), ne_eqb n 3 (λ e. omega arith), ne_eqb n 4 (λ e. omega arith), ne_eqb n 8 (λ e. omega arith))
+word-long w h =
+    rw (differs w (codes "between") (omega arith), differs w (codes "add") (omega arith), differs w (codes "sub") (omega arith), differs w (codes "next") (omega arith), differs w (codes "previous") (omega arith))
 
-word-large : (n w : ℕ) → 2 ^ 64 ≤ w → word_of n w ≡ Other
-unfolding word_of
-word-large n w h =
-    rw (ne_eqb w between_number (λ e. omega arith), ne_eqb w add_number (λ e. omega arith), ne_eqb w sub_number (λ e. omega arith), ne_eqb w next_number (λ e. omega arith), ne_eqb w previous_number (λ e. omega arith))
-    (by-test (eqb n 7) (λ a. rw a)
-    (λ a. rw a (by-test (eqb n 3) (λ b. rw b)
-    (λ b. rw b (by-test (eqb n 4) (λ d. rw d) (λ d. rw d (by-test (eqb n 8) (λ e. rw e) (λ e. rw e))))))))
+name-space : (w : List ℕ) (word : Word) {ls : List (List ℕ)} → std.Some word ≡ word_of w → Some ls → rest_yet word [] false false 0 ls ≡ name_yet w ([] ∷ ls)
+unfolding name_yet rest_yet each
+name-space w word e (one f l) = rw (append-nil, ← e, number-from f) (sym (in-turn (field_from false false 0 f) (each number_of l) (asked word)))
 
-number-grows : (v : ℕ) (l : List ℕ) → v ≤ number_from v l
-unfolding number_from
-number-grows v [] = omega arith
-number-grows v (c ∷ l) = let h : v * 256 + c ≤ number_from (v * 256 + c) l = number-grows (v * 256 + c) l in omega arith
-
-name-space : (n w : ℕ) {ls : List (List ℕ)} → Some ls → rest_yet (word_of n w) [] false false 0 ls ≡ name_yet n w ([] ∷ ls)
-unfolding name_yet rest_yet each number_from
-name-space n w (one f l) =
-    let e : n + length {A = ℕ} [] ≡ n = omega arith in
-    rw (e, number-from f) (sym (in-turn (field_from false false 0 f) (each number_of l) (asked (word_of n w))))
-
-name-more : (n w c : ℕ) {ls : List (List ℕ)} → Some ls → name_yet (n + 1) (w * 256 + c) ls ≡ name_yet n w (on_first c ls)
-unfolding name_yet number_from
-name-more n w c (one f l) = let e : n + 1 + length f ≡ n + suc (length f) = omega arith in rw e
-
-other_none : {B : Type 0} (y : Option B) (f : B → List ℤ) (w : Word) → w ≡ Other → (y >>= λ ns. asked w (f ns)) ≡ none
-unfolding asked
-other_none y f w e = rw e (nothing y)
-
-name-long : (n w c : ℕ) {ls : List (List ℕ)} → 8 ≤ n → Some ls → none ≡ name_yet n w (on_first c ls)
+no-name : (w : List ℕ) (ls : List (List ℕ)) → std.None ≡ word_of w → none ≡ name_yet w ([] ∷ ls)
 unfolding name_yet
-name-long n w c h (one f l) =
-    sym (other_none (each number_of l) (λ ns. ns) (word_of (n + suc (length f)) (number_from w (c ∷ f))) (word-long (n + suc (length f)) (number_from w (c ∷ f)) (omega arith)))
+no-name w ls e = rw (append-nil, ← e) (sym (nothing (each number_of ls)))
 
-name-large : (n w c : ℕ) {ls : List (List ℕ)} → 2 ^ 56 ≤ w → Some ls → none ≡ name_yet n w (on_first c ls)
-unfolding name_yet number_from
-name-large n w c h (one f l) =
-    let g : w * 256 + c ≤ number_from (w * 256 + c) f = number-grows (w * 256 + c) f in
-    sym (other_none (each number_of l) (λ ns. ns) (word_of (n + suc (length f)) (number_from (w * 256 + c) f)) (word-large (n + suc (length f)) (number_from (w * 256 + c) f) (omega arith)))
+name-more : (w : List ℕ) (c : ℕ) {ls : List (List ℕ)} → Some ls → name_yet (w ++ (c ∷ [])) ls ≡ name_yet w (on_first c ls)
+unfolding name_yet
+name-more w c (one f l) = rw append_assoc
 
--- the laws that `name_fed` cites; x is the byte c as a wider number
-module _ (n w c x : ℕ) (s : List ℕ) (same : x ≡ c) where
-  pub name-ended : (word : Word) → x ≡ 32 → word ≡ word_of n w →
-      yet (Rest (record { word = word; count = 0; a = 0; b = 0; c = 0; minus = false; digits = false; value = 0 })) s ≡ yet (Name n w) (c ∷ s)
+name-long : (w : List ℕ) (c : ℕ) {ls : List (List ℕ)} → 8 ≤ length w → Some ls → none ≡ name_yet w (on_first c ls)
+unfolding name_yet
+name-long w c h (one f l) = rw (word-long (w ++ (c ∷ f)) (omega (arith, length-append w (c ∷ f)))) (sym (nothing (each number_of l)))
+
+-- the laws that `name_fed` cites
+module _ (n : N.Name) (s : List ℕ) where
+  pub name-ended : {word : Word} → std.Some word ≡ word_of (take n.len n.bytes) →
+      yet (Rest (record { word = word; count = 0; a = 0; b = 0; c = 0; minus = false; value = std.None })) s ≡ yet (Name n) (32 ∷ s)
   unfolding yet
-  name-ended word h e = rw (← same, h, at-space s, e) (name-space n w (has-field s))
+  name-ended {word} e = rw (at-space s) (name-space (take n.len n.bytes) word e (has-field s))
 
-  pub name-goes-on : (x ≡ 32 → ⊥) → yet (Name (n + 1) (w * 256 + x)) s ≡ yet (Name n w) (c ∷ s)
+  pub name-other : std.None ≡ word_of (take n.len n.bytes) → none ≡ yet (Name n) (32 ∷ s)
   unfolding yet
-  name-goes-on h = rw (← same, at_other x s h) (name-more n w x (has-field s))
+  name-other e = rw (at-space s) (no-name (take n.len n.bytes) (fields_of s) e)
 
-  pub name-too-long : (x ≡ 32 → ⊥) → 8 ≤ n → yet Broken s ≡ yet (Name n w) (c ∷ s)
+  pub name-goes-on : (c : ℕ) (m : N.Name) → (c ≡ 32 → ⊥) → n.len < length n.bytes → m.bytes ≡ set n.bytes n.len c → m.len ≡ n.len + 1 → yet (Name m) s ≡ yet (Name n) (c ∷ s)
   unfolding yet
-  name-too-long h k = rw (← same, at_other x s h) (name-long n w x k (has-field s))
+  name-goes-on c m h k e g = rw (at_other c s h, e, g, take_more_set n.bytes n.len c k) (name-more (take n.len n.bytes) c (has-field s))
 
-  pub name-too-large : (x ≡ 32 → ⊥) → 2 ^ 56 ≤ w → yet Broken s ≡ yet (Name n w) (c ∷ s)
+  pub name-too-long : (c : ℕ) → (c ≡ 32 → ⊥) → 8 ≤ n.len → 8 ≤ length n.bytes → none ≡ yet (Name n) (c ∷ s)
   unfolding yet
-  name-too-large h k = rw (← same, at_other x s h) (name-large n w x k (has-field s))
+  name-too-long c h k g = rw (at_other c s h) (name-long (take n.len n.bytes) c (omega (arith, length-take n.len n.bytes)) (has-field s))
 
 -- ---- the field at hand
 
@@ -206,16 +188,16 @@ minus-late m v l = from-digits m v (45 ∷ l) ∙ no_digit m true v 45 l refl
 -- ---- a field that has ended
 
 -- what `key_of` gives, as the definitions have it
-abbrev pub key_is : Key → Option ℤ
-key_is (Is k) = some (unbiased k)
-key_is Not = none
+abbrev key_is : std.Option ℕ → Option ℤ
+key_is (std.Some k) = some (unbiased k)
+key_is std.None = none
 
-pub key-is : (m d : Bool) (v : ℕ) → field_from m d v [] ≡ key_is (key_of m d v)
+key-is : (m : Bool) (o : std.Option ℕ) → field_from m (is_some o) (unwrap_or o 0) [] ≡ key_is (key_of m o)
 unfolding field_from sized all decimal_from key_of
-key-is true false v = refl
-key-is false false v = refl
-key-is true true v = by-test (leb v (2 ^ 63)) (λ e. rw e (ap some (sym (unbiased-less v (leb-true v (2 ^ 63) e))))) (λ e. rw e)
-key-is false true v =
+key-is true std.None = refl
+key-is false std.None = refl
+key-is true (std.Some v) = by-test (leb v (2 ^ 63)) (λ e. rw e (ap some (sym (unbiased-less v (leb-true v (2 ^ 63) e))))) (λ e. rw e)
+key-is false (std.Some v) =
     by-test (ltb v (2 ^ 63)) (λ e. rw (e, le-leb v (2 ^ 63 - 1) (lower e)) (ap some (sym (unbiased-more v)))) (λ e. rw (e, lt-leb v (2 ^ 63 - 1) (upper e)))
   where
     lower : ltb v (2 ^ 63) ≡ true → v ≤ 2 ^ 63 - 1
@@ -251,7 +233,6 @@ asked-five word a b c d e l =
     cases Sub p q = rw p
     cases Next p q = rw q
     cases Previous p q = rw q
-    cases Other p q = refl
 
 module _ (word : Word) (done : List ℤ) (m d : Bool) (v : ℕ) where
   -- the field at hand is no number
@@ -294,131 +275,108 @@ rest-wrong : (word : Word) (done : List ℤ) (m d : Bool) (v c : ℕ) {ls : List
 unfolding rest_yet
 rest-wrong word done m d v c h (one f l) = rw (h f)
 
-key-some : (m d : Bool) (v k : ℕ) → Is k ≡ key_of m d v → field_from m d v [] ≡ some (unbiased k)
-key-some m d v k e = key-is m d v ∙ ap key_is (sym e)
+key-some : (m : Bool) (o : std.Option ℕ) (k : ℕ) → std.Some k ≡ key_of m o → field_from m (is_some o) (unwrap_or o 0) [] ≡ some (unbiased k)
+key-some m o k e = key-is m o ∙ ap key_is (sym e)
 
-key-none : (m d : Bool) (v : ℕ) → Not ≡ key_of m d v → field_from m d v [] ≡ none
-key-none m d v e = key-is m d v ∙ ap key_is (sym e)
+key-none : (m : Bool) (o : std.Option ℕ) → std.None ≡ key_of m o → field_from m (is_some o) (unwrap_or o 0) [] ≡ none
+key-none m o e = key-is m o ∙ ap key_is (sym e)
 
 -- ---- the laws that the functions on fields cite
-module _ (f : Fields) (s : List ℕ) where
-  pub space-no : Not ≡ key_of f.minus f.digits f.value → yet Broken s ≡ yet (Rest f) (32 ∷ s)
-  unfolding yet
-  space-no e =
-      rw (at-space s)
-      (rest-no f.word (done_of f.count f.a f.b f.c) f.minus f.digits f.value [] (fields_of s) (key-none f.minus f.digits f.value e))
-
-  pub space-full : (k : ℕ) → Is k ≡ key_of f.minus f.digits f.value → 3 ≤ f.count → yet Broken s ≡ yet (Rest f) (32 ∷ s)
-  unfolding yet
-  space-full k e h =
-      rw (at-space s, done-three f.count f.a f.b f.c h)
-      (rest-full f.word (unbiased f.a) (unbiased f.b) (unbiased f.c) f.minus f.digits f.value k (key-some f.minus f.digits f.value k e) (has-field s))
-
-  pub space-next : (k : ℕ) → Is k ≡ key_of f.minus f.digits f.value → f.count < 3 →
-      yet (Rest (record { word = f.word; count = f.count + 1; a = f.b; b = f.c; c = k; minus = false; digits = false; value = 0 })) s ≡ yet (Rest f) (32 ∷ s)
-  unfolding yet
-  space-next k e h =
-      rw (at-space s, done_more f.count f.a f.b f.c k h)
-      (rest-next f.word (done_of f.count f.a f.b f.c) f.minus f.digits f.value k (key-some f.minus f.digits f.value k e) (has-field s))
-
-  wrong : (c : ℕ) → (c ≡ 32 → ⊥) → ((l : List ℕ) → field_from f.minus f.digits f.value (c ∷ l) ≡ none) → yet Broken s ≡ yet (Rest f) (c ∷ s)
-  unfolding yet
-  wrong c h e =
-      rw (at_other c s h)
-      (rest-wrong f.word (done_of f.count f.a f.b f.c) f.minus f.digits f.value c e (has-field s))
-
-  right : (c : ℕ) (m d : Bool) (v : ℕ) → (c ≡ 32 → ⊥) → ((l : List ℕ) → field_from f.minus f.digits f.value (c ∷ l) ≡ field_from m d v l) →
-      yet (Rest (record { word = f.word; count = f.count; a = f.a; b = f.b; c = f.c; minus = m; digits = d; value = v })) s ≡ yet (Rest f) (c ∷ s)
-  unfolding yet
-  right c m d v h e =
-      rw (at_other c s h)
-      (rest-byte f.word (done_of f.count f.a f.b f.c) f.minus f.digits m d f.value v c e (has-field s))
-
-  pub digit-large : (c : ℕ) → 48 ≤ c → c ≤ 57 → 2 ^ 63 < f.value * 10 + (c - 48) → yet Broken s ≡ yet (Rest f) (c ∷ s)
-  digit-large c h k g = wrong c (λ e. omega arith) (λ l. field-large f.minus f.digits f.value c l h k g)
-
-  pub digit-goes-on : (c : ℕ) → 48 ≤ c → c ≤ 57 →
-      yet (Rest (record { word = f.word; count = f.count; a = f.a; b = f.b; c = f.c; minus = f.minus; digits = true; value = f.value * 10 + (c - 48) })) s ≡ yet (Rest f) (c ∷ s)
-  digit-goes-on c h k =
-      right c f.minus true (f.value * 10 + (c - 48)) (λ e. omega arith) (λ l. field-digit f.minus f.digits f.value c l h k)
-
-  pub sign-again : f.minus ≡ true → yet Broken s ≡ yet (Rest f) (45 ∷ s)
-  sign-again e = wrong 45 (λ q. omega arith) (λ l. rw e (minus-again f.digits f.value l))
-
-  pub sign-late : f.digits ≡ true → yet Broken s ≡ yet (Rest f) (45 ∷ s)
-  sign-late e = wrong 45 (λ q. omega arith) (λ l. rw e (minus-late f.minus f.value l))
-
-  pub sign-first : f.minus ≡ false → f.digits ≡ false →
-      yet (Rest (record { word = f.word; count = f.count; a = f.a; b = f.b; c = f.c; minus = true; digits = false; value = f.value })) s ≡ yet (Rest f) (45 ∷ s)
-  sign-first e g = right 45 true false f.value (λ q. omega arith) (λ l. rw (e, g) (field-sign f.value l))
-
-  low : (c : ℕ) → (c ≡ 32 → ⊥) → (c ≡ 45 → ⊥) → c < 48 → yet Broken s ≡ yet (Rest f) (c ∷ s)
-  low c h k g = wrong c h (λ l. field-other f.minus f.digits f.value c l k (rw (lt-leb 48 c g)))
-
-  high : (c : ℕ) → (c ≡ 32 → ⊥) → (c ≡ 45 → ⊥) → 57 < c → yet Broken s ≡ yet (Rest f) (c ∷ s)
-  high c h k g = wrong c h (λ l. field-other f.minus f.digits f.value c l k (rw (le-leb 48 c (omega arith), lt-leb c 57 g)))
-
-  pub at_byte : (l : Line) (c x k : ℕ) → x ≡ c → x ≡ k → yet l s ≡ yet (Rest f) (k ∷ s) → yet l s ≡ yet (Rest f) (c ∷ s)
-  at_byte l c x k e h g = rw (← e, h) g
-
-  pub below-digits : (c x : ℕ) → x ≡ c → (x ≡ 32 → ⊥) → (x ≡ 45 → ⊥) → x < 48 → yet Broken s ≡ yet (Rest f) (c ∷ s)
-  below-digits b c e h k g = rw (← e) (low c h k g)
-
-  pub above-digits : (c x : ℕ) → x ≡ c → (x ≡ 32 → ⊥) → (x ≡ 45 → ⊥) → 57 < x → yet Broken s ≡ yet (Rest f) (c ∷ s)
-  above-digits b c e h k g = rw (← e) (high c h k g)
-
--- ---- the end of a line
-
-pub name-only : (n w : ℕ) → none ≡ yet (Name n w) []
-unfolding yet name_yet fields_of each asked
-name-only n w = sym (go (word_of (n + length {A = ℕ} []) (number_from w [])))
-  where
-    go : (word : Word) → asked word [] ≡ none
-    go Between = refl
-    go Add = refl
-    go Sub = refl
-    go Next = refl
-    go Previous = refl
-    go Other = refl
-
 module _ (f : Fields) where
-  ended : (k : ℕ) → Is k ≡ key_of f.minus f.digits f.value → yet (Rest f) [] ≡ asked f.word (done_of f.count f.a f.b f.c ++ unbiased k ∷ [])
+  abbrev has : Bool
+  has = is_some f.value
+
+  abbrev value : ℕ
+  value = unwrap_or f.value 0
+
+  abbrev done : List ℤ
+  done = done_of f.count f.a f.b f.c
+
+  module _ (s : List ℕ) where
+    pub space-no : std.None ≡ key_of f.minus f.value → none ≡ yet (Rest f) (32 ∷ s)
+    unfolding yet
+    space-no e = rw (at-space s) (rest-no f.word done f.minus has value [] (fields_of s) (key-none f.minus f.value e))
+
+    pub space-full : {k : ℕ} → std.Some k ≡ key_of f.minus f.value → 3 ≤ f.count → none ≡ yet (Rest f) (32 ∷ s)
+    unfolding yet
+    space-full {k} e h =
+        rw (at-space s, done-three f.count f.a f.b f.c h)
+        (rest-full f.word (unbiased f.a) (unbiased f.b) (unbiased f.c) f.minus has value k (key-some f.minus f.value k e) (has-field s))
+
+    pub space-next : {k : ℕ} → std.Some k ≡ key_of f.minus f.value → f.count < 3 →
+        yet (Rest (record { word = f.word; count = f.count + 1; a = f.b; b = f.c; c = k; minus = false; value = std.None })) s ≡ yet (Rest f) (32 ∷ s)
+    unfolding yet
+    space-next {k} e h =
+        rw (at-space s, done_more f.count f.a f.b f.c k h)
+        (rest-next f.word done f.minus has value k (key-some f.minus f.value k e) (has-field s))
+
+    wrong : (c : ℕ) → (c ≡ 32 → ⊥) → ((l : List ℕ) → field_from f.minus has value (c ∷ l) ≡ none) → none ≡ yet (Rest f) (c ∷ s)
+    unfolding yet
+    wrong c h e = rw (at_other c s h) (rest-wrong f.word done f.minus has value c e (has-field s))
+
+    right : (c : ℕ) (m : Bool) (o : std.Option ℕ) → (c ≡ 32 → ⊥) → ((l : List ℕ) → field_from f.minus has value (c ∷ l) ≡ field_from m (is_some o) (unwrap_or o 0) l) →
+        yet (Rest (record { word = f.word; count = f.count; a = f.a; b = f.b; c = f.c; minus = m; value = o })) s ≡ yet (Rest f) (c ∷ s)
+    unfolding yet
+    right c m o h e = rw (at_other c s h) (rest-byte f.word done f.minus has m (is_some o) value (unwrap_or o 0) c e (has-field s))
+
+    pub digit-large : (c : ℕ) → 48 ≤ c → c ≤ 57 → 2 ^ 63 < unwrap_or f.value 0 * 10 + (c - 48) → none ≡ yet (Rest f) (c ∷ s)
+    digit-large c h k g = wrong c (λ e. omega arith) (λ l. field-large f.minus has value c l h k g)
+
+    pub digit-goes-on : (c : ℕ) {n : ℕ} → n ≡ unwrap_or f.value 0 * 10 + (c - 48) → 48 ≤ c → c ≤ 57 →
+        yet (Rest (record { word = f.word; count = f.count; a = f.a; b = f.b; c = f.c; minus = f.minus; value = std.Some n })) s ≡ yet (Rest f) (c ∷ s)
+    digit-goes-on c {n} e h k = right c f.minus (std.Some n) (λ e. omega arith) (λ l. rw e (field-digit f.minus has value c l h k))
+
+    pub sign-again : f.minus ≡ true → none ≡ yet (Rest f) (45 ∷ s)
+    sign-again e = wrong 45 (λ q. omega arith) (λ l. rw e (minus-again has value l))
+
+    pub sign-late : is_some f.value ≡ true → none ≡ yet (Rest f) (45 ∷ s)
+    sign-late e = wrong 45 (λ q. omega arith) (λ l. rw e (minus-late f.minus value l))
+
+    pub sign-first : f.minus ≡ false → is_some f.value ≡ false →
+        yet (Rest (record { word = f.word; count = f.count; a = f.a; b = f.b; c = f.c; minus = true; value = f.value })) s ≡ yet (Rest f) (45 ∷ s)
+    sign-first e g = right 45 true f.value (λ q. omega arith) (λ l. rw (e, g) (field-sign value l))
+
+    pub below-digits : (c : ℕ) → (c ≡ 32 → ⊥) → (c ≡ 45 → ⊥) → c < 48 → none ≡ yet (Rest f) (c ∷ s)
+    below-digits c h k g = wrong c h (λ l. field-other f.minus has value c l k (rw (lt-leb 48 c g)))
+
+    pub above-digits : (c : ℕ) → (c ≡ 32 → ⊥) → (c ≡ 45 → ⊥) → 57 < c → none ≡ yet (Rest f) (c ∷ s)
+    above-digits c h k g = wrong c h (λ l. field-other f.minus has value c l k (rw (le-leb 48 c (omega arith), lt-leb c 57 g)))
+
+  -- ---- the end of a line
+
+  ended : (k : ℕ) → std.Some k ≡ key_of f.minus f.value → yet (Rest f) [] ≡ asked f.word (done_of f.count f.a f.b f.c ++ unbiased k ∷ [])
   unfolding yet rest_yet fields_of each
-  ended k e = rw (key-some f.minus f.digits f.value k e)
+  ended k e = rw (key-some f.minus f.value k e)
 
-  pub end-no : Not ≡ key_of f.minus f.digits f.value → none ≡ yet (Rest f) []
+  pub end-no : std.None ≡ key_of f.minus f.value → none ≡ yet (Rest f) []
   unfolding yet rest_yet fields_of
-  end-no e = rw (key-none f.minus f.digits f.value e)
+  end-no e = rw (key-none f.minus f.value e)
 
-  pub end-four : (k : ℕ) → Is k ≡ key_of f.minus f.digits f.value → 3 ≤ f.count →
-      query_is (ask_four f.word f.a f.b f.c k) ≡ yet (Rest f) []
+  pub end-four : {k : ℕ} → std.Some k ≡ key_of f.minus f.value → 3 ≤ f.count → query_from (ask_four f.word f.a f.b f.c k) ≡ yet (Rest f) []
   unfolding asked ask_four
-  end-four k e h = sym (ended k e ∙ rw (done-three f.count f.a f.b f.c h) (go f.word))
+  end-four {k} e h = sym (ended k e ∙ rw (done-three f.count f.a f.b f.c h) (go f.word))
     where
-      go : (word : Word) → asked word (unbiased f.a ∷ unbiased f.b ∷ unbiased f.c ∷ unbiased k ∷ []) ≡ query_is (ask_four word f.a f.b f.c k)
+      go : (word : Word) → asked word (unbiased f.a ∷ unbiased f.b ∷ unbiased f.c ∷ unbiased k ∷ []) ≡ query_from (ask_four word f.a f.b f.c k)
       go Between = refl
       go Add = refl
       go Sub = refl
       go Next = refl
       go Previous = refl
-      go Other = refl
 
-  pub end-two : (k : ℕ) → Is k ≡ key_of f.minus f.digits f.value → f.count ≡ 1 →
-      query_is (ask_two f.word f.c k) ≡ yet (Rest f) []
+  pub end-two : {k : ℕ} → std.Some k ≡ key_of f.minus f.value → f.count ≡ 1 → query_from (ask_two f.word f.c k) ≡ yet (Rest f) []
   unfolding asked ask_two
-  end-two k e h = sym (ended k e ∙ rw h (go f.word))
+  end-two {k} e h = sym (ended k e ∙ rw h (go f.word))
     where
-      go : (word : Word) → asked word (unbiased f.c ∷ unbiased k ∷ []) ≡ query_is (ask_two word f.c k)
+      go : (word : Word) → asked word (unbiased f.c ∷ unbiased k ∷ []) ≡ query_from (ask_two word f.c k)
       go Between = refl
       go Add = refl
       go Sub = refl
       go Next = refl
       go Previous = refl
-      go Other = refl
 
-  pub end-other : (k : ℕ) → Is k ≡ key_of f.minus f.digits f.value → f.count < 3 → (f.count ≡ 1 → ⊥) → none ≡ yet (Rest f) []
+  pub end-other : {k : ℕ} → std.Some k ≡ key_of f.minus f.value → f.count < 3 → (f.count ≡ 1 → ⊥) → none ≡ yet (Rest f) []
   unfolding asked
-  end-other k e h g = sym (ended k e ∙ go f.word f.count h g)
+  end-other {k} e h g = sym (ended k e ∙ go f.word f.count h g)
     where
       go : (word : Word) (n : ℕ) → n < 3 → (n ≡ 1 → ⊥) → asked word (done_of n f.a f.b f.c ++ unbiased k ∷ []) ≡ none
       go word (suc zero) h g = absurd (g refl)
@@ -428,45 +386,20 @@ module _ (f : Fields) where
       go Sub zero h g = refl
       go Next zero h g = refl
       go Previous zero h g = refl
-      go Other zero h g = refl
       go Between (suc (suc zero)) h g = refl
       go Add (suc (suc zero)) h g = refl
       go Sub (suc (suc zero)) h g = refl
       go Next (suc (suc zero)) h g = refl
       go Previous (suc (suc zero)) h g = refl
-      go Other (suc (suc zero)) h g = refl
 
--- ---- a line, and a query, that are known
-
-pub at-line : (l m : Line) (s : List ℕ) (x : Option model.Query) → l ≡ m → x ≡ yet m s → x ≡ yet l s
-at-line l m s x e h = rw e h
-
-pub broken : (s t : List ℕ) → yet Broken s ≡ yet Broken t
-unfolding yet
-broken s t = refl
-
-pub broken-end : none ≡ yet Broken []
-unfolding yet
-broken-end = refl
-
-module _ (word : Word) (a b c d : ℕ) {p q r t : ℤ} (i : p ≡ unbiased a) (j : q ≡ unbiased b) (k : r ≡ unbiased c) (l : t ≡ unbiased d) where
-  pub four-between : word ≡ Between → Q.Between p q r t ≡ ask_four word a b c d
-  unfolding ask_four
-  four-between e = rw (e, i, j, k, l)
-
-  pub four-add : word ≡ Add → Q.Add p q r t ≡ ask_four word a b c d
-  unfolding ask_four
-  four-add e = rw (e, i, j, k, l)
-
-  pub four-sub : word ≡ Sub → Q.Sub p q r t ≡ ask_four word a b c d
-  unfolding ask_four
-  four-sub e = rw (e, i, j, k, l)
-
-module _ (word : Word) (a b : ℕ) {p q : ℤ} (i : p ≡ unbiased a) (j : q ≡ unbiased b) where
-  pub two-next : word ≡ Next → Q.Next p q ≡ ask_two word a b
-  unfolding ask_two
-  two-next e = rw (e, i, j)
-
-  pub two-previous : word ≡ Previous → Q.Previous p q ≡ ask_two word a b
-  unfolding ask_two
-  two-previous e = rw (e, i, j)
+pub name-only : (n : N.Name) → none ≡ yet (Name n) []
+unfolding yet name_yet fields_of each asked
+name-only n = sym (go (word_of (take n.len n.bytes ++ [])))
+  where
+    go : (word : std.Option Word) → asked_from word [] ≡ none
+    go (std.Some Between) = refl
+    go (std.Some Add) = refl
+    go (std.Some Sub) = refl
+    go (std.Some Next) = refl
+    go (std.Some Previous) = refl
+    go std.None = refl

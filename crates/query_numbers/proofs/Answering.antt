@@ -26,9 +26,17 @@ use Rattle.laws_part.specs.Replies.{FewWindows}
 use Rattle.answer_numbers.specs.Written.{written_same}
 use Rattle.answer_numbers.specs.Outcomes.{written, too_short, EndsAs}
 use Rattle.walk_distance.specs.Distances.{way_of}
-use Rattle.schedule.specs.Answers.{KeepsReply}
+use Rattle.schedule.specs.Answers.{CountedAs}
+use Rattle.std.specs.Prelude.{Result, Ok, Err}
+use Rattle.refusal.specs.declared.Refused.{Refused}
+use Rattle.refusal.specs.Refused.{number_of}
+use Rattle.schedule.specs.declared.Counted.{Counted}
+use Rattle.schedule_periods.specs.declared.Period.{Period}
+use Rattle.schedule_periods.specs.Replies.{period_reply}
 use Rattle.query_numbers.specs.declared.AnyAnswer.TheVariants as A
 use Rattle.query_numbers.specs.declared.AnyAnswer.{AnyAnswer}
+use Rattle.query_numbers.specs.declared.Unanswered.TheVariants as U
+use Rattle.query_numbers.specs.declared.Unanswered.{Unanswered}
 use Rattle.query_numbers.specs.Batch.{is_one_of, query_for, query_at, answers_from, batch, six_of, answer_to, no_query, any_numbers, IsSix, zeros}
 
 -- ---- the numbers of an answer
@@ -36,46 +44,40 @@ use Rattle.query_numbers.specs.Batch.{is_one_of, query_for, query_at, answers_fr
 values_same : {v w : List ℤ} → ◌≡◌ {A = Answer (List ℤ)} (gives v) (gives w) → v ≡ w
 values_same e = cc
 
-module _ {v : Answer (List ℤ)} {c : ℕ} {d : Answer Reply} (k : KeepsReply v c d) (f : PlacedIn FewWindows 0 d) where
-  pub counted-six : {x y : ℤ} {w : ℕ} → v ≡ gives (x ∷ y ∷ []) → c ≡ w → {u₁ u₂ : ℤ} → u₁ ≡ x → u₂ ≡ y → IsSix (A.Counted u₁ u₂ w) (six_of d)
-  counted-six {x} {y} {w} e h {u₁} {u₂} p q = go d k f
+module _ {d : Answer Reply} (f : PlacedIn FewWindows 0 d) where
+  pub counted-six : {t : Counted} → CountedAs (Ok t) d → IsSix (Ok (A.Counted t)) (six_of d)
+  counted-six {t} k = go d k f
     where
-      go : (o : Answer Reply) → KeepsReply v c o → PlacedIn FewWindows 0 o → IsSix (A.Counted u₁ u₂ w) (six_of o)
+      go : (o : Answer Reply) → CountedAs (Ok t) o → PlacedIn FewWindows 0 o → IsSix (Ok (A.Counted t)) (six_of o)
       go (gives r) l (gave m) =
-          let s : r.values ≡ x ∷ y ∷ [] = values_same (sym l.0 ∙ e) in
-          let t = l.1.most in
-          record { numbers = rw (s, ← l.1.least, h, p, q); fits = omega arith }
+          let s : r.values ≡ t.secs ∷ t.nanos ∷ [] = sym (values_same l.0) in
+          let q = l.1.most in
+          record { numbers = rw (s, ← l.1.least); fits = omega arith }
       go (refuses n j) l m = never (cc)
 
-  pub refused-six : {n p : ℕ} → v ≡ refuses n p → IsSix (A.Refused n p) (six_of d)
-  refused-six {n} {p} e = go d k f
+  pub refused-six : {r : Refused} → CountedAs (Err r) d → IsSix (Err (U.Refused r)) (six_of d)
+  refused-six {r} k = go d k f
     where
-      go : (o : Answer Reply) → KeepsReply v c o → PlacedIn FewWindows 0 o → IsSix (A.Refused n p) (six_of o)
-      go (gives r) l m = never (cc)
+      go : (o : Answer Reply) → CountedAs (Err r) o → PlacedIn FewWindows 0 o → IsSix (Err (U.Refused r)) (six_of o)
+      go (gives x) l m = never (cc)
       go (refuses i j) l (refused-in m) =
-          let s : i ≡ n = cc in
-          let t : j ≡ p = cc in
+          let s : i ≡ number_of r.refusal = cc in
+          let t : j ≡ r.place = cc in
           record { numbers = rw (s, t); fits = omega arith }
 
 -- a period's
-module _ {v d : Answer Reply} (e : v ≡ d) (f : PlacedIn {A = Reply} Any 0 d) where
-  pub period-six : {x₁ x₂ x₃ x₄ : ℤ} → said v ≡ gives (x₁ ∷ x₂ ∷ x₃ ∷ x₄ ∷ []) → least_of v ≡ 0 → {u₁ u₂ u₃ u₄ : ℤ} → u₁ ≡ x₁ → u₂ ≡ x₂ → u₃ ≡ x₃ → u₄ ≡ x₄
-      → IsSix (A.Period u₁ u₂ u₃ u₄) (six_of d)
-  period-six {x₁} {x₂} {x₃} {x₄} g h {u₁} {u₂} {u₃} {u₄} p₁ p₂ p₃ p₄ = go d (sym (ap said e) ∙ g) (sym (ap least_of e) ∙ h)
-    where
-      go : (o : Answer Reply) → said o ≡ gives (x₁ ∷ x₂ ∷ x₃ ∷ x₄ ∷ []) → least_of o ≡ 0 → IsSix (A.Period u₁ u₂ u₃ u₄) (six_of o)
-      go (gives r) a b = let s : r.values ≡ x₁ ∷ x₂ ∷ x₃ ∷ x₄ ∷ [] = values_same a in record { numbers = rw (s, b, p₁, p₂, p₃, p₄); fits = tt }
-      go (refuses i j) a b = never (cc)
+pub period-six : {p : Period} {d : Answer Reply} → gives (period_reply p) ≡ d → IsSix (Ok (A.Period p)) (six_of d)
+period-six e = rw (← e) (record { numbers = refl; fits = tt })
 
-  pub no-period-six : {n p : ℕ} → v ≡ refuses n p → IsSix (A.Refused n p) (six_of d)
-  no-period-six {n} {p} g = go d f (sym e ∙ g)
-    where
-      go : (o : Answer Reply) → PlacedIn {A = Reply} Any 0 o → o ≡ refuses n p → IsSix (A.Refused n p) (six_of o)
-      go (gives r) m a = never (cc)
-      go (refuses i j) (refused-in m) a =
-          let s : i ≡ n = cc in
-          let t : j ≡ p = cc in
-          record { numbers = rw (s, t); fits = omega arith }
+pub no-period-six : {r : Refused} {d : Answer Reply} → PlacedIn {A = Reply} Any 0 d → refuses (number_of r.refusal) r.place ≡ d → IsSix (Err (U.Refused r)) (six_of d)
+no-period-six {r} {d} f e = go d f e
+  where
+    go : (o : Answer Reply) → PlacedIn {A = Reply} Any 0 o → refuses (number_of r.refusal) r.place ≡ o → IsSix (Err (U.Refused r)) (six_of o)
+    go (gives x) m a = never (cc)
+    go (refuses i j) (refused-in m) a =
+        let s : i ≡ number_of r.refusal = cc in
+        let t : j ≡ r.place = cc in
+        record { numbers = rw (s, t); fits = omega arith }
 
 -- ---- the call of a query
 
@@ -106,7 +108,7 @@ unfolding is_one_of
 none-of-means i j k e =
     ((λ h. clash (is_one_of i j k) (rw h (rw (eq-eqb i i refl))) e), (λ h. clash (is_one_of i j k) (rw h (by-test (eqb j i) (λ t. rw t) (λ t. rw (t, eq-eqb j j refl)))) e))
 
-module _ (s : Schedule) (k a b c d : ℤ) {r : AnyAnswer} where
+module _ (s : Schedule) (k a b c d : ℤ) {r : Result AnyAnswer Unanswered} where
   pub as-between : SFits w64 k → of_z w64 k ≡ 0 → IsSix r (six_of (reply_to s (ask_between a b c d))) → IsSix r (answer_to (gives s) (query_for k a b c d))
   unfolding query_for
   as-between f e h = rw (number_is f e (omega arith)) h
@@ -126,17 +128,17 @@ none-for (negsuc n) a b c d f₀ f₁ f₂ f₃ f₄ = refl
 none-for (pos n) a b c d f₀ f₁ f₂ f₃ f₄ =
     rw (ne_eqb n 0 (λ e. f₀ (ap pos e)), ne_eqb n 1 (λ e. f₁ (ap pos e)), ne_eqb n 2 (λ e. f₂ (ap pos e)), ne_eqb n 3 (λ e. f₃ (ap pos e)), ne_eqb n 4 (λ e. f₄ (ap pos e)))
 
-no_call : (g : Answer Schedule) (q : Option Query) → q ≡ none → IsSix (A.Refused no_query 0) (answer_to g q)
-no_call g q e = rw e (record { numbers = refl; fits = omega arith })
+no_call : (g : Answer Schedule) (q : Option Query) → q ≡ none → IsSix (Err U.NoQuery) (answer_to g q)
+no_call g q e = rw e (record { numbers = refl; fits = tt })
 
 module _ (g : Answer Schedule) (k a b c d : ℤ) where
-  pub as_none : (of_z w64 k ≡ 0 → ⊥) → false ≡ is_one_of 1 2 k → false ≡ is_one_of 3 4 k → IsSix (A.Refused no_query 0) (answer_to g (query_for k a b c d))
+  pub as_none : (of_z w64 k ≡ 0 → ⊥) → false ≡ is_one_of 1 2 k → false ≡ is_one_of 3 4 k → IsSix (Err U.NoQuery) (answer_to g (query_for k a b c d))
   as_none f m p =
       let x = none-of-means 1 2 k (sym m) in
       let y = none-of-means 3 4 k (sym p) in
       no_call g (query_for k a b c d) (none-for k a b c d (λ e. f (ap (of_z w64) e)) x.0 x.1 y.0 y.1)
 
-  pub below_none : lt_z k (pos 0) ≡ true → IsSix (A.Refused no_query 0) (answer_to g (query_for k a b c d))
+  pub below_none : lt_z k (pos 0) ≡ true → IsSix (Err U.NoQuery) (answer_to g (query_for k a b c d))
   unfolding query_for
   below_none h = no_call g (query_for k a b c d) (go k h)
     where
@@ -144,7 +146,7 @@ module _ (g : Answer Schedule) (k a b c d : ℤ) where
       go (negsuc n) h = refl
       go (pos n) h = absurd (omega (arith, ltb-true n 0 h))
 
-  pub above-none : lt_z (pos 4) k ≡ true → IsSix (A.Refused no_query 0) (answer_to g (query_for k a b c d))
+  pub above-none : lt_z (pos 4) k ≡ true → IsSix (Err U.NoQuery) (answer_to g (query_for k a b c d))
   above-none h = no_call g (query_for k a b c d) (go k h)
     where
       go : (k : ℤ) → lt_z (pos 4) k ≡ true → query_for k a b c d ≡ none
@@ -157,10 +159,11 @@ module _ (g : Answer Schedule) (k a b c d : ℤ) where
           is-not n m h e = let s : n ≡ m = cc in omega arith
 
 -- a refused book's answer, where the query is one
-pub query-refused : (n p : ℕ) (k a b c d : ℤ) → p < 2 ^ 63 → lt_z k (pos 0) ≡ false → lt_z (pos 4) k ≡ false → IsSix (A.Refused n p) (answer_to (refuses n p) (query_for k a b c d))
+pub query-refused : (r : Refused) (k a b c d : ℤ) → r.place < 2 ^ 63 → lt_z k (pos 0) ≡ false → lt_z (pos 4) k ≡ false
+    → IsSix (Err (U.Refused r)) (answer_to (refuses (number_of r.refusal) r.place) (query_for k a b c d))
 unfolding query_for
-query-refused n p (negsuc m) a b c d h e g = clash true refl e
-query-refused n p (pos m) a b c d h e g =
+query-refused r (negsuc m) a b c d h e g = clash true refl e
+query-refused r (pos m) a b c d h e g =
     let l = ltb-false 4 m g in
     by-test (eqb m 0) (λ t. rw t (record { numbers = refl; fits = h }))
     (λ t₀. by-test (eqb m 1) (λ t. rw (t₀, t) (record { numbers = refl; fits = h }))
@@ -171,7 +174,7 @@ query-refused n p (pos m) a b c d h e g =
 
 -- ---- by the names of the definitions
 
-module _ (s : Schedule) (a b c d : ℤ) {r : AnyAnswer} where
+module _ (s : Schedule) (a b c d : ℤ) {r : Result AnyAnswer Unanswered} where
   pub between-reply : IsSix r (six_of (between_call s a b c d)) → IsSix r (six_of (reply_to s (ask_between a b c d)))
   unfolding reply_to
   between-reply h = h
@@ -186,23 +189,11 @@ module _ (s : Schedule) (a b c d : ℤ) {r : AnyAnswer} where
 
 -- ---- writing
 
-module _ {r : AnyAnswer} where
-  pub counted-put : {s n : ℤ} {w : ℕ} → r ≡ A.Counted s n w → {u₁ u₂ u₃ : ℤ} → u₁ ≡ pos w → u₂ ≡ s → u₃ ≡ n
-      → ◌≡◌ {A = List ℤ} (pos 0 ∷ u₁ ∷ u₂ ∷ u₃ ∷ pos 0 ∷ pos 0 ∷ []) (any_numbers r)
-  counted-put e p q k = rw (e, p, q, k)
-
-  pub period-put : {x₁ x₂ x₃ x₄ : ℤ} → r ≡ A.Period x₁ x₂ x₃ x₄ → {u₁ u₂ u₃ u₄ : ℤ} → u₁ ≡ x₁ → u₂ ≡ x₂ → u₃ ≡ x₃ → u₄ ≡ x₄
-      → ◌≡◌ {A = List ℤ} (pos 0 ∷ pos 0 ∷ u₁ ∷ u₂ ∷ u₃ ∷ u₄ ∷ []) (any_numbers r)
-  period-put e p₁ p₂ p₃ p₄ = rw (e, p₁, p₂, p₃, p₄)
-
-  pub refused-put : {n p : ℕ} → r ≡ A.Refused n p → {u₁ u₂ : ℤ} → u₁ ≡ pos n → u₂ ≡ pos p → ◌≡◌ {A = List ℤ} (u₁ ∷ u₂ ∷ zeros) (any_numbers r)
-  refused-put e p q = rw (e, p, q)
-
 pub put_as : {x : List ℤ} (i : ℕ) (e : List ℤ) {l m : List ℤ} → x ≡ written i l e → l ≡ m → x ≡ written i m e
 put_as i e p q = p ∙ written_same i e q
 
 -- one query answered, whose numbers fit
-module _ (g : Answer Schedule) (q : List ℤ) (i at : ℕ) (e : List ℤ) (r : AnyAnswer) where
+module _ (g : Answer Schedule) (q : List ℤ) (i at : ℕ) (e : List ℤ) (r : Result AnyAnswer Unanswered) where
   pub one-answered : SFits w64 (get_or q i (pos 0)) → SFits w64 (get_or q (i + 1) (pos 0)) → SFits w64 (get_or q (i + 1 + 1) (pos 0)) → SFits w64 (get_or q (i + 1 + 1 + 1) (pos 0))
       → SFits w64 (get_or q (i + 1 + 1 + 1 + 1) (pos 0)) → {x : List ℤ}
       → IsSix r (answer_to g (query_for (to_z w64 (of_z w64 (get_or q i (pos 0)))) (to_z w64 (of_z w64 (get_or q (i + 1) (pos 0)))) (to_z w64 (of_z w64 (get_or q (i + 1 + 1) (pos 0))))

@@ -1,5 +1,5 @@
 -- Queries and answers as numbers. The sentences are those of the header hirgwamo.h, "Many queries of one book and pack".
-use Rattle.std.specs.Prelude.{◌≡◌, Bool, false, not, ◌||◌, List, [], ◌∷◌, ◌++◌, ℕ, zero, suc, ◌+◌, ◌*◌, ◌/◌, ◌%◌, ◌^◌, ◌<◌, eqb, ltb, ℤ, pos, negsuc, length, get_or, take, if◌then◌else◌}
+use Rattle.std.specs.Prelude.{◌≡◌, Bool, false, not, ◌||◌, List, [], ◌∷◌, ◌++◌, ℕ, zero, suc, ◌+◌, ◌*◌, ◌/◌, ◌%◌, ◌^◌, ◌<◌, eqb, ltb, ℤ, pos, negsuc, length, get_or, take, if◌then◌else◌, Result, Ok, Err}
 use Rattle.std.proofs.Math.Option.{Option, none, some}
 use Rattle.model.specs.Answer.{Answer, gives, refuses, ◌>>=◌}
 use Rattle.model.specs.Build.{build}
@@ -12,8 +12,13 @@ use Rattle.rule.specs.declared.Schedule.{Schedule}
 use Rattle.rule.specs.Rules.{schedule_is, ScheduleFits}
 use Rattle.walk_distance.specs.Distances.{way_of}
 use Rattle.answer_numbers.specs.Outcomes.{Outcome, too_short, written, EndsAs}
+use Rattle.refusal.specs.declared.Refused.{Refused}
+use Rattle.refusal.specs.Refused.{number_of}
+use Rattle.schedule_periods.specs.Replies.{period_numbers}
 use Rattle.query_numbers.specs.declared.AnyAnswer.{AnyAnswer}
 use Rattle.query_numbers.specs.declared.AnyAnswer.TheVariants as A
+use Rattle.query_numbers.specs.declared.Unanswered.{Unanswered}
+use Rattle.query_numbers.specs.declared.Unanswered.TheVariants as U
 
 -- ---- queries
 
@@ -72,20 +77,26 @@ unfoldable pub is_one_of : ℕ → ℕ → ℤ → Bool
 is_one_of i j (pos n) = eqb n i || eqb n j
 is_one_of i j (negsuc n) = false
 
+-- a refusal is why there is no answer
+abbrev pub is_refused : Refused → Unanswered → Type 0
+is_refused r x = x ≡ U.Refused r
+
 -- the numbers of an answer that the code has in hand
-abbrev pub any_numbers : AnyAnswer → List ℤ
-any_numbers (A.Counted s n w) = pos 0 ∷ pos w ∷ s ∷ n ∷ pos 0 ∷ pos 0 ∷ []
-any_numbers (A.Period a b c d) = pos 0 ∷ pos 0 ∷ a ∷ b ∷ c ∷ d ∷ []
-any_numbers (A.Refused n p) = pos n ∷ pos p ∷ zeros
+abbrev pub any_numbers : Result AnyAnswer Unanswered → List ℤ
+any_numbers (Ok (A.Counted x)) = pos 0 ∷ pos x.windows ∷ x.secs ∷ x.nanos ∷ pos 0 ∷ pos 0 ∷ []
+any_numbers (Ok (A.Period p)) = pos 0 ∷ pos 0 ∷ period_numbers p
+any_numbers (Err U.NoQuery) = pos no_query ∷ pos 0 ∷ zeros
+any_numbers (Err (U.Refused r)) = pos (number_of r.refusal) ∷ pos r.place ∷ zeros
 
 -- its windows and its place are signed 64-bit numbers
-abbrev pub AnyFits : AnyAnswer → Type 0
-AnyFits (A.Counted s n w) = w < 2 ^ 63
-AnyFits (A.Period a b c d) = Unit {0}
-AnyFits (A.Refused n p) = p < 2 ^ 63
+abbrev pub AnyFits : Result AnyAnswer Unanswered → Type 0
+AnyFits (Ok (A.Counted x)) = x.windows < 2 ^ 63
+AnyFits (Ok (A.Period p)) = Unit {0}
+AnyFits (Err U.NoQuery) = Unit {0}
+AnyFits (Err (U.Refused r)) = r.place < 2 ^ 63
 
 -- it is the answer of the definitions
-pub record IsSix (r : AnyAnswer) (l : List ℤ) : Type 0 where
+pub record IsSix (r : Result AnyAnswer Unanswered) (l : List ℤ) : Type 0 where
   pub numbers : any_numbers r ≡ l
   pub fits : AnyFits r
 
@@ -94,21 +105,21 @@ abbrev pub Ready : List ℕ → List ℕ → Schedule → Type 0
 Ready book pack s = ScheduleFits book pack s × BuiltWell (schedule_is book pack s)
 
 -- the answer to a query, by what the book is
-abbrev pub AnswersAs : Answer model.Schedule → ℤ → ℤ → ℤ → ℤ → ℤ → AnyAnswer → Type 0
+abbrev pub AnswersAs : Answer model.Schedule → ℤ → ℤ → ℤ → ℤ → ℤ → Result AnyAnswer Unanswered → Type 0
 AnswersAs b k x₁ x₂ y₁ y₂ r = IsSix r (answer_to b (query_for k x₁ x₂ y₁ y₂))
 
 -- so of a schedule that is built
-abbrev pub AnswersBy : List ℕ → List ℕ → Schedule → ℤ → ℤ → ℤ → ℤ → ℤ → AnyAnswer → Type 0
+abbrev pub AnswersBy : List ℕ → List ℕ → Schedule → ℤ → ℤ → ℤ → ℤ → ℤ → Result AnyAnswer Unanswered → Type 0
 AnswersBy book pack s k x₁ x₂ y₁ y₂ r = AnswersAs (gives (schedule_is book pack s)) k x₁ x₂ y₁ y₂ r
 
 -- `between`, `add` and `sub`, and the periods, of a schedule that is built
-abbrev pub TimedBy : List ℕ → List ℕ → Schedule → ℤ → ℤ → ℤ → ℤ → AnyAnswer → Type 0
+abbrev pub TimedBy : List ℕ → List ℕ → Schedule → ℤ → ℤ → ℤ → ℤ → Result AnyAnswer Unanswered → Type 0
 TimedBy book pack s a b c d r = IsSix r (six_of (reply_to (schedule_is book pack s) (ask_between a b c d)))
 
-abbrev pub MovedBy : List ℕ → List ℕ → Schedule → Bool → ℤ → ℤ → ℤ → ℤ → AnyAnswer → Type 0
+abbrev pub MovedBy : List ℕ → List ℕ → Schedule → Bool → ℤ → ℤ → ℤ → ℤ → Result AnyAnswer Unanswered → Type 0
 MovedBy book pack s is_back a b c d r = IsSix r (six_of (reply_to (schedule_is book pack s) (ask_move (way_of is_back) a b c d)))
 
-abbrev pub PeriodBy : List ℕ → List ℕ → Schedule → Bool → ℤ → ℤ → AnyAnswer → Type 0
+abbrev pub PeriodBy : List ℕ → List ℕ → Schedule → Bool → ℤ → ℤ → Result AnyAnswer Unanswered → Type 0
 PeriodBy book pack s is_back a b r = IsSix r (six_of (reply_to (schedule_is book pack s) (ask_period (way_of is_back) a b)))
 
 -- the query at i is answered from `at` on

@@ -3,14 +3,17 @@
 #![tactic(auto)]
 
 ghost use Rattle.std.specs.Prelude.{◌≡◌, ◌+◌, ◌*◌, ◌/◌, ◌^◌, ◌≤◌, ◌<◌, length};
-ghost use Rattle.model.specs.Answer.{gives, refuses};
-ghost use Rattle.rule.specs.Rules.{schedule_is};
+ghost use Rattle.model.specs.Answer.{refuses};
+ghost use Rattle.model.specs.Build.{build};
+ghost use Rattle.refusal.specs.Refused.{number_of};
+ghost use Rattle.build.specs.Read.{Builds};
 ghost use Rattle.answer_numbers.specs.Outcomes.{written};
-ghost use Rattle.query_numbers.specs.Batch.{any_numbers, is_one_of, AnyFits, Ready, AnswersAs, AnswersBy, TimedBy, MovedBy, PeriodBy, OneAnswered, BatchAnswered, BatchEnds};
+ghost use Rattle.query_numbers.specs.Batch.{is_refused, any_numbers, is_one_of, AnyFits, Ready, AnswersAs, AnswersBy, TimedBy, MovedBy, PeriodBy, OneAnswered, BatchAnswered, BatchEnds};
 
+use refusal::Refused;
 use rule::Schedule;
-use schedule::{MoveAnswer, TimeAnswer};
-use schedule_periods::PeriodAnswer;
+use schedule::Counted;
+use schedule_periods::Period;
 
 // The numbers of a query and of an answer.
 pub const QUERY_SIZE: usize = 5;
@@ -31,24 +34,44 @@ pub const NEXT: i64 = 3;
 
 pub const PREVIOUS: i64 = 4;
 
-// An answer: two numbers and the windows resolved, a period's four, or a refusal's number and place.
+// An answer: two numbers and the windows resolved, or a period's four.
 #[derive(Clone, Copy)]
 pub enum AnyAnswer {
-    Counted(i64, i64, u64),
-    Period(i64, i64, i64, i64),
-    Refused(u32, usize),
+    Counted(Counted),
+    Period(Period),
+}
+
+// Why a query has no answer: it is none, or the call is refused.
+#[derive(Clone, Copy)]
+pub enum Unanswered {
+    NoQuery,
+    Refused(Refused),
+}
+
+impl From<Refused> for Unanswered {
+    ghost from_gives = { is_refused };
+
+    fn from(refused: Refused) -> Unanswered {
+        Unanswered::Refused(refused)
+    }
 }
 
 // ---- one answer
 
-fn time(book: &[u8], pack: &[u8], s: Schedule, a: i64, b: i64, c: i64, d: i64) -> AnyAnswer
+fn time(
+    book: &[u8],
+    pack: &[u8],
+    s: Schedule,
+    a: i64,
+    b: i64,
+    c: i64,
+    d: i64,
+) -> Result<AnyAnswer, Unanswered>
     requires { Ready book.now pack.now s }
     ensures { TimedBy book.now pack.now s «a» «b» «c» «d» result }
 {
-    match schedule::between_in(book, pack, s, a, b, c, d) {
-        TimeAnswer::Is(sec, ns, windows) => AnyAnswer::Counted(sec, ns, windows),
-        TimeAnswer::Refused(number, place) => AnyAnswer::Refused(number, place),
-    }
+    let t = schedule::between_in(book, pack, s, a, b, c, d)?;
+    Ok(AnyAnswer::Counted(t))
 }
 
 fn moved(
@@ -60,24 +83,27 @@ fn moved(
     b: i64,
     c: i64,
     d: i64,
-) -> AnyAnswer
+) -> Result<AnyAnswer, Unanswered>
     requires { Ready book.now pack.now s }
     ensures { MovedBy book.now pack.now s back «a» «b» «c» «d» result }
 {
-    match schedule::move_in(book, pack, s, back, a, b, c, d) {
-        MoveAnswer::At(sec, ns, windows) => AnyAnswer::Counted(sec, ns, windows),
-        MoveAnswer::Refused(number, place) => AnyAnswer::Refused(number, place),
-    }
+    let x = schedule::move_in(book, pack, s, back, a, b, c, d)?;
+    Ok(AnyAnswer::Counted(x))
 }
 
-fn period(book: &[u8], pack: &[u8], s: Schedule, back: bool, a: i64, b: i64) -> AnyAnswer
+fn period(
+    book: &[u8],
+    pack: &[u8],
+    s: Schedule,
+    back: bool,
+    a: i64,
+    b: i64,
+) -> Result<AnyAnswer, Unanswered>
     requires { Ready book.now pack.now s }
     ensures { PeriodBy book.now pack.now s back «a» «b» result }
 {
-    match schedule_periods::period_in(book, pack, s, back, a, b) {
-        PeriodAnswer::Is(p, q, x, y) => AnyAnswer::Period(p, q, x, y),
-        PeriodAnswer::Refused(number, place) => AnyAnswer::Refused(number, place),
-    }
+    let p = schedule_periods::period_in(book, pack, s, back, a, b)?;
+    Ok(AnyAnswer::Period(p))
 }
 
 // The kind is `add` or `sub`.
@@ -110,7 +136,7 @@ fn answer(
     b: i64,
     c: i64,
     d: i64,
-) -> AnyAnswer
+) -> Result<AnyAnswer, Unanswered>
     requires { Ready book.now pack.now s }
     ensures { AnswersBy book.now pack.now s «kind» «a» «b» «c» «d» result }
 {
@@ -123,50 +149,71 @@ fn answer(
     if is_period(kind) {
         return period(book, pack, s, kind != NEXT, a, b);
     }
-    AnyAnswer::Refused(NO_QUERY, 0)
+    Err(Unanswered::NoQuery)
 }
 
 // The answer of a book that is refused.
-fn refused(number: u32, place: usize, kind: i64, a: i64, b: i64, c: i64, d: i64) -> AnyAnswer
-    requires { place < 2 ^ 63 }
-    ensures { AnswersAs (refuses number place) «kind» «a» «b» «c» «d» result }
+fn refused(r: Refused, kind: i64, a: i64, b: i64, c: i64, d: i64) -> Result<AnyAnswer, Unanswered>
+    requires { r.place < 2 ^ 63 }
+    ensures { AnswersAs (refuses (number_of r.refusal) r.place) «kind» «a» «b» «c» «d» result }
 {
     if kind < BETWEEN {
-        return AnyAnswer::Refused(NO_QUERY, 0);
+        return Err(Unanswered::NoQuery);
     }
     if PREVIOUS < kind {
-        return AnyAnswer::Refused(NO_QUERY, 0);
+        return Err(Unanswered::NoQuery);
     }
-    AnyAnswer::Refused(number, place)
+    Err(Unanswered::Refused(r))
+}
+
+// The answer to one query, from what `build` answered.
+fn reply(
+    book: &[u8],
+    pack: &[u8],
+    built: Result<Schedule, Refused>,
+    kind: i64,
+    a: i64,
+    b: i64,
+    c: i64,
+    d: i64,
+) -> Result<AnyAnswer, Unanswered>
+    requires { Builds book.now pack.now built }
+    ensures { AnswersAs (build book.now pack.now) «kind» «a» «b» «c» «d» result }
+{
+    match built {
+        Ok(s) => answer(book, pack, s, kind, a, b, c, d),
+        Err(r) => refused(r, kind, a, b, c, d),
+    }
 }
 
 // Writes the six numbers of an answer from `at` on.
-fn put(out: &mut [i64], at: usize, r: AnyAnswer)
+fn put(out: &mut [i64], at: usize, r: Result<AnyAnswer, Unanswered>)
     requires { (at + 6 ≤ length out.old) × AnyFits r }
     ensures { out.new ≡ written at (any_numbers r) out.old }
 {
     match r {
-        AnyAnswer::Counted(sec, ns, windows) => answer_numbers::put_six(
+        Ok(AnyAnswer::Counted(x)) => {
+            answer_numbers::put(out, at, [0, x.windows as i64, x.secs, x.nanos, 0, 0])
+        },
+        Ok(AnyAnswer::Period(p)) => {
+            answer_numbers::put(
+                out,
+                at,
+                [0, 0, p.start.sec, p.start.ns, p.end.sec, p.end.ns],
+            )
+        },
+        Err(Unanswered::NoQuery) => answer_numbers::put(
             out,
             at,
-            0,
-            windows as i64,
-            sec,
-            ns,
-            0,
-            0,
+            [i64::from(NO_QUERY), 0, 0, 0, 0, 0],
         ),
-        AnyAnswer::Period(a, b, c, d) => answer_numbers::put_six(out, at, 0, 0, a, b, c, d),
-        AnyAnswer::Refused(number, place) => answer_numbers::put_six(
-            out,
-            at,
-            number as i64,
-            place as i64,
-            0,
-            0,
-            0,
-            0,
-        ),
+        Err(Unanswered::Refused(r)) => {
+            answer_numbers::put(
+                out,
+                at,
+                [i64::from(r.refusal.number()), r.place as i64, 0, 0, 0, 0],
+            )
+        },
     }
 }
 
@@ -176,66 +223,42 @@ fn put(out: &mut [i64], at: usize, r: AnyAnswer)
 fn answer_one(
     book: &[u8],
     pack: &[u8],
-    s: Schedule,
+    built: Result<Schedule, Refused>,
     queries: &[i64],
     i: usize,
     out: &mut [i64],
     at: usize,
 )
-    requires { Ready book.now pack.now s × (i + 5 ≤ length queries.now) × (at + 6 ≤ length out.old) }
-    ensures { OneAnswered (gives (schedule_is book.now pack.now s)) queries.now i at
+    requires { Builds book.now pack.now built × (i + 5 ≤ length queries.now) × (at + 6 ≤ length out.old) }
+    ensures { OneAnswered (build book.now pack.now) queries.now i at
         out.old out.new }
 {
     let j = i + 1;
     let k = j + 1;
     let l = k + 1;
     let m = l + 1;
-    let r = answer(
-        book, pack, s, queries[i], queries[j], queries[k], queries[l], queries[m],
+    let r = reply(
+        book, pack, built, queries[i], queries[j], queries[k], queries[l], queries[m],
     );
     put(out, at, r);
 }
 
-fn answer_all(book: &[u8], pack: &[u8], s: Schedule, queries: &[i64], out: &mut [i64])
-    requires { Ready book.now pack.now s × (6 * (length queries.now / 5) ≤ length out.old) }
-    ensures { BatchAnswered (gives (schedule_is book.now pack.now s)) queries.now
+fn answer_all(
+    book: &[u8],
+    pack: &[u8],
+    built: Result<Schedule, Refused>,
+    queries: &[i64],
+    out: &mut [i64],
+)
+    requires { Builds book.now pack.now built × (6 * (length queries.now / 5) ≤ length out.old) }
+    ensures { BatchAnswered (build book.now pack.now) queries.now
         out.old out.new }
 {
     let mut i: usize = 0;
     let mut at: usize = 0;
     let mut left = queries.len() / QUERY_SIZE;
     while 0 < left {
-        answer_one(book, pack, s, queries, i, out, at);
-        i += QUERY_SIZE;
-        at += ANSWER_SIZE;
-        left -= 1;
-    }
-}
-
-// Gives a book's refusal to the query that begins at i, from `at` on.
-fn refuse_one(number: u32, place: usize, queries: &[i64], i: usize, out: &mut [i64], at: usize)
-    requires { (place < 2 ^ 63) × (i + 5 ≤ length queries.now) × (at + 6 ≤ length out.old) }
-    ensures { OneAnswered (refuses number place) queries.now i at out.old out.new }
-{
-    let j = i + 1;
-    let k = j + 1;
-    let l = k + 1;
-    let m = l + 1;
-    let r = refused(
-        number, place, queries[i], queries[j], queries[k], queries[l], queries[m],
-    );
-    put(out, at, r);
-}
-
-fn refuse_all(number: u32, place: usize, queries: &[i64], out: &mut [i64])
-    requires { (place < 2 ^ 63) × (6 * (length queries.now / 5) ≤ length out.old) }
-    ensures { BatchAnswered (refuses number place) queries.now out.old out.new }
-{
-    let mut i: usize = 0;
-    let mut at: usize = 0;
-    let mut left = queries.len() / QUERY_SIZE;
-    while 0 < left {
-        refuse_one(number, place, queries, i, out, at);
+        answer_one(book, pack, built, queries, i, out, at);
         i += QUERY_SIZE;
         at += ANSWER_SIZE;
         left -= 1;
@@ -252,12 +275,6 @@ pub fn hirgwamo_answers(book: &[u8], pack: &[u8], queries: &[i64], answers: &mut
     if answers.len() / ANSWER_SIZE < queries.len() / QUERY_SIZE {
         return answer_numbers::TOO_SHORT;
     }
-    let b = build::build(book, pack);
-    if b.number != 0 {
-        refuse_all(b.number, b.place, queries, answers);
-        return answer_numbers::ANSWERED;
-    }
-    let s = b.schedule;
-    answer_all(book, pack, s, queries, answers);
+    answer_all(book, pack, build::build(book, pack), queries, answers);
     answer_numbers::ANSWERED
 }

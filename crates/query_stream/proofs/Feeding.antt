@@ -1,11 +1,9 @@
 -- Reading on in a piece of the input, byte by byte.
-use mathlib.Core.Path.{◌≡◌, refl, sym, ap, ◌∙◌}
+use mathlib.Core.Path.{◌≡◌, sym, ap, ◌∙◌}
 use mathlib.Core.List.{List, [], ◌∷◌, ◌++◌, append_assoc}
-use Prim.Native.Nat.{ℕ, zero, suc, ◌+◌, ◌-◌, ◌≤◌, ◌<◌}
+use Prim.Native.Nat.{ℕ, zero, suc, ◌+◌, ◌≤◌, ◌<◌}
 use native.Mathlib.Omega.{arith}
 use native.Mathlib.Numerals.{add-one}
-use native.Mathlib.Decide.{dec_le}
-use native.Mathlib.Nat.{le_antisymm}
 use lib.ListN.{length, get_or, drop}
 use lib.Seq.{drop-cons}
 use Rattle.model.specs.Answer.{Answer}
@@ -13,9 +11,8 @@ use Rattle.model.specs.Working.{Schedule}
 use Rattle.query_line.specs.Reading.{Bytes}
 use Rattle.answer_line.specs.Placed.{longest, Placed}
 use Rattle.answer_line.proofs.Placing.{placed-more}
-use Rattle.query_stream.specs.Streaming.{to_come, Turned, Fed}
+use Rattle.query_stream.specs.Streaming.{to_come, Turned}
 use Rattle.query_stream.specs.declared.Progress.{Progress}
-use Rattle.query_stream.proofs.Lines.{placed-none}
 use Rattle.model.specs.Bytes.{newline}
 
 -- ---- bytes
@@ -48,20 +45,6 @@ pub record Going (a : Answer Schedule) (input old new : List ℕ) (p r : Progres
   pub first : i ≡ p.next → r.used ≡ p.used
 
 module _ (a : Answer Schedule) (input old : List ℕ) (p : Progress) where
-  pub going-first : p.used ≤ length old → p.next ≤ length input → Going a input old old p p p.next
-  going-first h k =
-      record {
-        text = [];
-        placed = placed-none old p.used;
-        same = λ t g. refl;
-        here = refl;
-        used = h;
-        kept = refl;
-        next = k;
-        since = omega arith;
-        first = λ e. refl;
-      }
-
   pub going_on_lem : (new last : List ℕ) (r q : Progress) (i : ℕ) → p.used ≤ length old → Bytes input → i < length input → r.used + longest ≤ length old →
       Going a input old new p r i → Turned a new last r (get_or input i 0) q → length last ≡ length new → Going a input old last p q (i + 1)
   going_on_lem new last r q i from b h room g u l =
@@ -86,24 +69,3 @@ module _ (a : Answer Schedule) (input old : List ℕ) (p : Progress) where
   pub going-line : (new last : List ℕ) (r q : Progress) (i : ℕ) → p.used ≤ length old → Bytes input → i < length input → r.used + longest ≤ length old →
       Going a input old new p r i → get_or input i 0 ≡ newline → Turned a new last r newline q → length last ≡ length new → Going a input old last p q (i + 1)
   going-line new last r q i from b h room g e u l = going_on_lem new last r q i from b h room g (rw e u) l
-
-  fed : (new : List ℕ) (r : Progress) (i : ℕ) → (p.used + longest ≤ length old → p.next < length input → p.next < r.next) → Going a input old new p r i → Fed a input old new p r
-  fed new r i h g =
-      record {
-        text = g.text;
-        placed = g.placed;
-        same = λ t k. ap (λ n. g.text ++ to_come a r (drop n input ++ t)) g.here ∙ g.same t k;
-        used = g.used;
-        next = omega (arith, g.here, g.next);
-        onward = h;
-      }
-
-  pub going-full : (new : List ℕ) (r : Progress) (i : ℕ) → length new - r.used < longest → Going a input old new p r i → Fed a input old new p r
-  going-full new r i h g = fed new r i (λ j k. later j (dec_le i p.next)) g
-    where
-      later : p.used + longest ≤ length old → Dec (i ≤ p.next) → p.next < r.next
-      later j (yes e) = let f : r.used ≡ p.used = g.first (le_antisymm e g.since) in absurd (omega (arith, g.kept, g.used))
-      later j (no e) = omega (arith, g.here)
-
-  pub going_done : (new : List ℕ) (r : Progress) (i : ℕ) → length input ≤ i → Going a input old new p r i → Fed a input old new p r
-  going_done new r i h g = fed new r i (λ j k. omega (arith, g.here)) g

@@ -5,7 +5,8 @@ use Rattle.model.specs.Answer.{Answer}
 use Rattle.model.specs.Working.{Schedule}
 use Rattle.model.specs.Build.{build}
 use Rattle.model.specs.Lines.{lines_of, query_of, reply_in, least_only, answered}
-use Rattle.query_line.specs.Reading.{Bytes, yet}
+use Rattle.query_line.specs.Reading.{Bytes, yet_from}
+use Rattle.std.specs.Prelude.{Option}
 use Rattle.query_line.specs.declared.Line.{Line}
 use Rattle.answer_line.specs.Placed.{longest, Placed}
 use Rattle.query_stream.specs.declared.Progress.{Progress}
@@ -13,10 +14,10 @@ use Rattle.model.specs.Bytes.{newline}
 
 -- The text still to come where `line` is partly read and these lines follow, the first of them its rest. `begun` tells whether `line` has a
 -- byte: a line that has none counts only where its newline comes.
-unfoldable pub out_yet : Answer Schedule → Line → Bool → List (List ℕ) → List ℕ
+unfoldable pub out_yet : Answer Schedule → Option Line → Bool → List (List ℕ) → List ℕ
 out_yet a line false [] = []
-out_yet a line true [] = reply_in least_only a (yet line [])
-out_yet a line begun (l ∷ ls) = reply_in least_only a (yet line l) ++ joined (map (λ m. reply_in least_only a (query_of m)) ls)
+out_yet a line true [] = reply_in least_only a (yet_from line [])
+out_yet a line begun (l ∷ ls) = reply_in least_only a (yet_from line l) ++ joined (map (λ m. reply_in least_only a (query_of m)) ls)
 
 -- the text still to come where the bytes s follow
 abbrev pub to_come : Answer Schedule → Progress → List ℕ → List ℕ

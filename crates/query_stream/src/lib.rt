@@ -3,20 +3,25 @@
 // the front of it, so that all pieces together are `answered` of the definitions.
 #![tactic(auto)]
 
-ghost use Rattle.std.specs.Prelude.{◌≡◌, ◌-◌, ◌^◌, ◌≤◌, ◌<◌, length};
+ghost use Rattle.std.specs.Prelude.{◌≡◌, List, [], ◌∷◌, ℕ, ◌-◌, ◌^◌, ◌≤◌, ◌<◌, length};
 ghost use Rattle.answer_line.specs.Placed.{longest};
 ghost use Rattle.build.specs.Read.{Builds};
+ghost use Rattle.query_line.specs.Reading.{query_from, yet_from};
 ghost use Rattle.query_stream.specs.Streaming.{Begun, HasLineRoom, LineEnded, LineGoesOn, FedBy, Ended};
 ghost use Rattle.model.specs.Bytes.{newline};
 
 use answer_line::LONGEST;
-use build::Built;
-use query_line::Line;
+use query_line::{Line, Query};
+use refusal::Refused;
+use rule::Schedule;
 
-// Where reading and writing stand: the line at hand, whether it has a byte, the next byte to read and the next place to write.
+// The byte that ends a line.
+const NEWLINE: u8 = b'\n';
+
+// Where reading and writing stand: the line at hand, None where it is no query, whether it has a byte, the next byte to read and the next place to write.
 #[derive(Clone, Copy)]
 pub struct Progress {
-    pub line: Line,
+    pub line: Option<Line>,
     pub begun: bool,
     pub next: usize,
     pub used: usize,
@@ -27,22 +32,41 @@ pub fn begin() -> Progress
     ensures { Begun result }
 {
     Progress {
-        line: query_line::start(),
+        line: Some(query_line::start()),
         begun: false,
         next: 0,
         used: 0,
     }
 }
 
+// The query of a line that ends here.
+fn query_of(line: Option<Line>) -> Option<Query>
+    ensures { query_from result ≡ yet_from line [] }
+{
+    query_line::finish(line?)
+}
+
+// The line with one byte more.
+fn fed(line: Option<Line>, byte: u8) -> Option<Line>
+    ensures { (s : List ℕ) → yet_from result s ≡ yet_from line (byte ∷ s) }
+{
+    query_line::fed(line?, byte)
+}
+
 // Reads a newline: it ends the line at hand, whose answer is written.
-fn end_line(book: &[u8], pack: &[u8], b: Built, p: Progress, out: &mut [u8]) -> Progress
+fn end_line(
+    book: &[u8],
+    pack: &[u8],
+    b: Result<Schedule, Refused>,
+    p: Progress,
+    out: &mut [u8],
+) -> Progress
     requires { Builds book.now pack.now b × HasLineRoom p out.old }
     ensures { LineEnded book.now pack.now out.old out.new p result }
 {
-    let line = p.line;
-    let used = query_answer::answer(book, pack, b, query_line::finish(line), out, p.used);
+    let used = query_answer::answer(book, pack, b, query_of(p.line), out, p.used);
     Progress {
-        line: query_line::start(),
+        line: Some(query_line::start()),
         begun: false,
         next: p.next + 1,
         used,
@@ -54,9 +78,8 @@ fn read_byte(p: Progress, byte: u8) -> Progress
     requires { (byte ≡ newline → ⊥) × (p.next < 2 ^ 64 - 1) }
     ensures { LineGoesOn p byte result }
 {
-    let line = p.line;
     Progress {
-        line: query_line::fed(line, byte),
+        line: fed(p.line, byte),
         begun: true,
         next: p.next + 1,
         used: p.used,
@@ -67,7 +90,7 @@ fn read_byte(p: Progress, byte: u8) -> Progress
 pub fn feed(
     book: &[u8],
     pack: &[u8],
-    b: Built,
+    b: Result<Schedule, Refused>,
     p: Progress,
     input: &[u8],
     out: &mut [u8],
@@ -76,30 +99,32 @@ pub fn feed(
     ensures { FedBy book.now pack.now input.now out.old out.new p result }
 {
     let mut r = p;
-    let mut i = p.next;
-    while i < input.len() {
+    for i in p.next..input.len() {
         if out.len() - r.used < LONGEST {
             return r;
         }
-        let byte = input[i];
-        i += 1;
-        if byte == b'\n' {
+        if input[i] == NEWLINE {
             r = end_line(book, pack, b, r, out);
         } else {
-            r = read_byte(r, byte);
+            r = read_byte(r, input[i]);
         }
     }
     r
 }
 
 // The input ends: a last line without a newline counts. Writes its answer at the start of `out`; no other byte changes.
-pub fn end(book: &[u8], pack: &[u8], b: Built, p: Progress, out: &mut [u8]) -> usize
+pub fn end(
+    book: &[u8],
+    pack: &[u8],
+    b: Result<Schedule, Refused>,
+    p: Progress,
+    out: &mut [u8],
+) -> usize
     requires { Builds book.now pack.now b × (longest ≤ length out.old) }
     ensures { Ended book.now pack.now out.old out.new p result }
 {
     if p.begun {
-        let line = p.line;
-        return query_answer::answer(book, pack, b, query_line::finish(line), out, 0);
+        return query_answer::answer(book, pack, b, query_of(p.line), out, 0);
     }
     0
 }

@@ -1,36 +1,87 @@
-// The numbers of document 01's refusals, and of document 02's.
+// Why a call gives no answer: the refusals, each with the number that document 01 or document 02 gives it, and the place in the book that goes with one.
 #![tactic(auto)]
 
-// The book breaks its layout; a book limit is passed; the pack breaks its layout.
-pub const BOOK_LAYOUT: u32 = 1;
+ghost use Rattle.std.specs.Prelude.{◌≡◌};
+ghost use Rattle.refusal.specs.Refused.{number_of, place_0, refusal_of};
 
-pub const BOOK_LIMIT: u32 = 2;
+// The refusals.
+#[derive(Clone, Copy, PartialEq, Eq)]
+pub enum Refusal {
+    // the book breaks its layout; a book limit is passed; the pack breaks its layout
+    BookLayout,
+    BookLimit,
+    PackLayout,
+    // a zone is not in the pack; a zone file is unusable
+    UnknownZone,
+    ZoneUnusable,
+    // build or a search finds no working time; a search or a negation leaves the range
+    NoWorkingTime,
+    OutOfRange,
+    // what is given: an instant, a date or a time of day out of range; a duration malformed; too few numbers for a listing
+    InstantOutOfRange,
+    DurationMalformed,
+    TooFewNumbers,
+    // of the hardest stretch: the log is malformed, too long or passes the last instant; the width is outside its limits
+    LogMalformed,
+    WidthOutOfRange,
+    // of a ticket: the instant is earlier than the last command's; the command is not allowed in this state, or the mark is not set, or it is no ticket
+    EarlierInstant,
+    NotAllowed,
+}
 
-pub const PACK_LAYOUT: u32 = 3;
+impl Refusal {
+    // The refusal's number.
+    pub fn number(self) -> u32
+        ensures { result ≡ number_of self }
+    {
+        match self {
+            Refusal::BookLayout => 1,
+            Refusal::BookLimit => 2,
+            Refusal::PackLayout => 3,
+            Refusal::UnknownZone => 4,
+            Refusal::ZoneUnusable => 5,
+            Refusal::NoWorkingTime => 6,
+            Refusal::OutOfRange => 7,
+            Refusal::InstantOutOfRange => 8,
+            Refusal::DurationMalformed => 9,
+            Refusal::TooFewNumbers => 10,
+            Refusal::LogMalformed => 11,
+            Refusal::WidthOutOfRange => 12,
+            Refusal::EarlierInstant => 13,
+            Refusal::NotAllowed => 14,
+        }
+    }
+}
 
-// A zone is not in the pack; a zone file is unusable.
-pub const UNKNOWN_ZONE: u32 = 4;
+// A refusal and its place in the book, 0 where it has none.
+#[derive(Clone, Copy, PartialEq, Eq)]
+pub struct Refused {
+    pub refusal: Refusal,
+    pub place: usize,
+}
 
-pub const ZONE_UNUSABLE: u32 = 5;
+impl From<Refusal> for Refused {
+    ghost from_gives = { place_0 };
 
-// Build or a search finds no working time; a search or a negation leaves the range.
-pub const NO_WORKING_TIME: u32 = 6;
+    fn from(refusal: Refusal) -> Refused {
+        Refused { refusal, place: 0 }
+    }
+}
 
-pub const OUT_OF_RANGE: u32 = 7;
+// What a search does not reach: there is no working time within the search limit, or the range ends first.
+#[derive(Clone, Copy, PartialEq, Eq)]
+pub enum SearchError {
+    NoWork,
+    RangeEnds,
+}
 
-// What is given: an instant, a date or a time of day out of range; a duration malformed; too few numbers for a listing.
-pub const INSTANT_OUT_OF_RANGE: u32 = 8;
+impl From<SearchError> for Refused {
+    ghost from_gives = { refusal_of };
 
-pub const DURATION_MALFORMED: u32 = 9;
-
-pub const TOO_FEW_NUMBERS: u32 = 10;
-
-// Of the hardest stretch: the log is malformed, too long or passes the last instant; the width is outside its limits.
-pub const LOG_MALFORMED: u32 = 11;
-
-pub const WIDTH_OUT_OF_RANGE: u32 = 12;
-
-// Of a ticket: the instant is earlier than the last command's; the command is not allowed in this state, or the mark is not set, or it is no ticket.
-pub const EARLIER_INSTANT: u32 = 13;
-
-pub const NOT_ALLOWED: u32 = 14;
+    fn from(error: SearchError) -> Refused {
+        match error {
+            SearchError::NoWork => Refused::from(Refusal::NoWorkingTime),
+            SearchError::RangeEnds => Refused::from(Refusal::OutOfRange),
+        }
+    }
+}

@@ -2,7 +2,6 @@
 #![tactic(auto)]
 
 ghost use Rattle.std.specs.Prelude.{◌≡◌, ◌<◌, nat_abs};
-ghost use Rattle.model.specs.Instant.{is_below_0};
 ghost use Rattle.model.specs.Hardest.{is_run, is_log, is_width};
 ghost use Rattle.instant.specs.Instant.{nanos, InRange};
 ghost use Rattle.laws_hardest.specs.Logs.{run_start, run_end, run_count, NotBelow0, LogFits};
@@ -17,7 +16,7 @@ const RUN_SIZE: usize = 2;
 const MOST_NUMBERS: usize = RUN_SIZE * MOST_RUNS;
 
 // The seconds of the widest window, 400 days.
-const MOST_WIDTH: u64 = 400 * instant::DAY;
+const MOST_WIDTH: i64 = 400 * instant::DAY as i64;
 
 // The seconds at which a run starts and ends.
 #[derive(Clone, Copy)]
@@ -26,19 +25,12 @@ pub struct Run {
     pub end: u64,
 }
 
-// x is below 0.
-fn is_below_0(x: i64) -> bool
-    ensures { result ≡ is_below_0 x }
-{
-    x < 0
-}
-
 // The same number, without a sign.
 pub fn unsigned(x: i64) -> u64
     requires { NotBelow0 «x» }
     ensures { result ≡ nat_abs x }
 {
-    x as u64
+    x.unsigned_abs()
 }
 
 // The run starts at or behind the second `end`, where the one before it ends, lasts a second at least, and does not end past the last instant. Seconds are
@@ -47,25 +39,10 @@ fn is_run(t: Instant, end: u64, offset: i64, length: i64) -> bool
     requires { InRange t }
     ensures { result ≡ is_run (nanos t) end offset length }
 {
-    if is_below_0(offset) {
-        return false;
-    }
-    if is_below_0(length) {
-        return false;
-    }
-    let start = unsigned(offset);
-    let long = unsigned(length);
-    if start < end {
-        return false;
-    }
-    if long == 0 {
-        return false;
-    }
+    let start = offset.unsigned_abs();
+    let long = length.unsigned_abs();
     let reach = instant::LAST - t.sec;
-    if reach < start {
-        return false;
-    }
-    long <= reach - start
+    0 <= offset && 0 < length && end <= start && start <= reach && long <= reach - start
 }
 
 // The numbers are a log: of at most 4,096 runs, in order and apart, none of which passes the last instant.
@@ -73,23 +50,17 @@ pub fn is_log(t: Instant, log: &[i64]) -> bool
     requires { InRange t }
     ensures { result ≡ is_log (nanos t) log.now }
 {
-    if MOST_NUMBERS < log.len() {
+    if MOST_NUMBERS < log.len() || log.len() % RUN_SIZE != 0 {
         return false;
     }
-    let mut end: u64 = 0;
-    let mut i: usize = 0;
-    while i < log.len() {
-        let j = i + 1;
-        if j == log.len() {
-            return false;
-        }
-        let offset = log[i];
-        let length = log[j];
+    let mut end = 0u64;
+    for j in 0..count(log) {
+        let offset = log[RUN_SIZE * j];
+        let length = log[RUN_SIZE * j + 1];
         if !is_run(t, end, offset, length) {
             return false;
         }
-        end = unsigned(offset) + unsigned(length);
-        i += RUN_SIZE;
+        end = offset.unsigned_abs() + length.unsigned_abs();
     }
     true
 }
@@ -106,8 +77,8 @@ pub fn run_at(log: &[i64], j: usize) -> Run
     requires { LogFits 0 log.now × (j < run_count log.now) }
     ensures { (result.start ≡ run_start log.now j) × (result.end ≡ run_end log.now j) }
 {
-    let start = unsigned(log[RUN_SIZE * j]);
-    let end = start + unsigned(log[RUN_SIZE * j + 1]);
+    let start = log[RUN_SIZE * j].unsigned_abs();
+    let end = start + log[RUN_SIZE * j + 1].unsigned_abs();
     Run { start, end }
 }
 
@@ -115,12 +86,5 @@ pub fn run_at(log: &[i64], j: usize) -> Run
 pub fn is_width(width: i64) -> bool
     ensures { result ≡ is_width width }
 {
-    if is_below_0(width) {
-        return false;
-    }
-    let seconds = unsigned(width);
-    if seconds == 0 {
-        return false;
-    }
-    seconds <= MOST_WIDTH
+    0 < width && width <= MOST_WIDTH
 }

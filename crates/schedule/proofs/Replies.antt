@@ -9,7 +9,7 @@ use Prim.Native.Nat.{ℕ, ◌+◌, ◌-◌, ◌≤◌, ◌<◌, ◌^◌, min, ma
 use native.Mathlib.Omega.{arith}
 use lib.Dec.{ltb}
 use lib.IntN.{ℤ}
-use borrow.Author.Tests.{ltb-true, ltb-false, ne_eqb}
+use borrow.Author.Tests.{ltb-true, ltb-false}
 use Rattle.model.specs.Answer.{Answer, gives, refuses, ◌>>=◌}
 use Rattle.model.specs.Instant.{last_instant, instant_of, instant, duration_of, duration, negated}
 use Rattle.model.specs.Working.{Schedule}
@@ -22,14 +22,18 @@ use Rattle.laws_skip.specs.Schedules.{time-most, search-skipping}
 use Rattle.laws_skip.specs.Books.{BuiltWell}
 use Rattle.walk_distance.specs.Distances.{way_of}
 use Rattle.rule.specs.Rules.{schedule_is}
-use Rattle.build.specs.declared.Built.{Built}
-use Rattle.build.specs.Read.{answer_is}
+use Rattle.build.specs.Read.{Builds}
+use Rattle.refusal.specs.declared.Refused.{Refused}
+use Rattle.refusal.specs.Refused.{number_of}
+use Rattle.rule.specs.declared.Schedule as code
+use Rattle.std.specs.Prelude.{Ok, Err}
 use Rattle.instant.specs.declared.Instant.{Instant}
 use Rattle.walk_between.specs.Sums.{Interval}
-use Rattle.walk_search.specs.Searches.{Counts, found_at}
-use Rattle.walk_search.specs.declared.Reached.{Reached}
-use Rattle.walk_search.specs.declared.Reached.TheVariants as R
-use Rattle.schedule.specs.Answers.{KeepsReply}
+use Rattle.walk_search.specs.Searches.{reached_is}
+use Rattle.refusal.specs.declared.SearchError.{SearchError}
+use Rattle.refusal.specs.declared.SearchError.TheVariants.{NoWork, RangeEnds}
+use Rattle.refusal.specs.Refused.{search_refused}
+use Rattle.schedule.specs.Answers.{KeepsReply, counted_is}
 
 -- ---- the working time between two instants is no more than the time between them, so its seconds fit
 
@@ -90,17 +94,11 @@ pub reach-most : (w : Way) (t : ℕ) → t ≤ last_instant → reach w t ≤ la
 reach-most on t h = omega arith
 reach-most back t h = omega arith
 
--- the count of windows of an answer that was found, and its nanoseconds
-pub counts-at : {w : Way} {s : Schedule} {t d : ℕ} {r : Reached} {z : Instant} {c : ℕ} → Counts w s t d r → r ≡ R.At z c → (z.ns < 1000000000) × (c ≡ needed_search w s t d (nanos z))
-counts-at {w} {s} {t} {d} {r} {z} {c} k e = go (rw e at k)
-  where
-    go : Counts w s t d (R.At z c) → (z.ns < 1000000000) × (c ≡ needed_search w s t d (nanos z))
-    go (found_at h q) = (h, q)
-
 module _ (w : Way) (s : Schedule) (t d : ℕ) where
-  pub search-refused : (n p : ℕ) → refuses n p ≡ search w s t d → KeepsReply (refuses n p) 0 (moved w s t d)
+  pub search-refused : (e : SearchError) → reached_is (Err e) ≡ search w s t d → KeepsReply (counted_is (Err (search_refused e))) 0 (moved w s t d)
   unfolding moved
-  search-refused n p e = refused n p (rw (← e))
+  search-refused NoWork q = refused 6 0 (rw (← q))
+  search-refused RangeEnds q = refused 7 0 (rw (← q))
 
   pub search-found : {u : Answer (List ℤ)} {c : ℕ} (x : ℕ) → gives x ≡ search w s t d → u ≡ gives (instant (at w t x)) → c ≡ needed_search w s t d x → KeepsReply u c (moved w s t d)
   unfolding moved
@@ -142,13 +140,9 @@ module _ (b : Bool) (s : Schedule) (t₁ t₂ d₁ d₂ : ℤ) where
 
 -- ---- with the schedule built first
 
-module _ (b p : List ℕ) (r : Built) (e : answer_is b p r ≡ build b p) where
-  pub not-built : (f : Schedule → Answer Reply) → (r.number ≡ 0 → ⊥) → KeepsReply (refuses r.number r.place) 0 (build b p >>= f)
-  not-built f h =
-      let q : refuses r.number r.place ≡ build b p = rw (ne_eqb r.number 0 h) at e in
-      refused r.number r.place (rw (← q))
+module _ (b p : List ℕ) (f : Schedule → Answer Reply) where
+  pub not-built : {x : Refused} → Builds b p (Err x) → KeepsReply (refuses (number_of x.refusal) x.place) 0 (build b p >>= f)
+  not-built {x} w = refused (number_of x.refusal) x.place (rw (← w.means))
 
-  pub when-built : (f : Schedule → Answer Reply) {u : Answer (List ℤ)} {c : ℕ} → r.number ≡ 0 → KeepsReply u c (f (schedule_is b p r.schedule)) → KeepsReply u c (build b p >>= f)
-  when-built f h k =
-      let q : gives (schedule_is b p r.schedule) ≡ build b p = rw h at e in
-      rw (← q) k
+  pub when-built : {s : code.Schedule} → Builds b p (Ok s) → {u : Answer (List ℤ)} {c : ℕ} → KeepsReply u c (f (schedule_is b p s)) → KeepsReply u c (build b p >>= f)
+  when-built w k = rw (← w.means) k

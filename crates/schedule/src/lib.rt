@@ -9,39 +9,36 @@ ghost use Rattle.model.specs.Walk as way;
 ghost use Rattle.instant.specs.Instant.{nanos, most, Exact, InRange};
 ghost use Rattle.rule.specs.Rules.{ScheduleFits};
 ghost use Rattle.walk_distance.specs.Distances.{way_of, Short};
-ghost use Rattle.schedule.specs.Answers.{time_is, time_count, move_is, move_count, lasting, between_in, moved_in};
-ghost use Rattle.schedule.specs.Answers.{move_in, move_of, instant_at, TimeAs, MoveAs};
+ghost use Rattle.schedule.specs.Answers.{values_of, lasting, between_in, moved_in, move_in, move_of, instant_at, CountedAs};
 
 use instant::{Instant, Length};
-use instant_signed::{Duration, DurationMade, DurationRead, InstantRead};
+use instant_signed::Duration;
+use refusal::{Refusal, Refused};
 use rule::Schedule;
 use walk_between::Summed;
 use walk_search::Reached;
 
-// What `between` answers: a duration's seconds and nanoseconds and the number of windows resolved, or a refusal's number and place.
+// What a call answers: a duration or an instant, in seconds and nanoseconds, and the number of windows resolved.
 #[derive(Clone, Copy)]
-pub enum TimeAnswer {
-    Is(i64, i64, u64),
-    Refused(u32, usize),
-}
-
-// What `add` and `sub` answer: an instant's seconds and nanoseconds and the number of windows resolved, or a refusal's number and place.
-#[derive(Clone, Copy)]
-pub enum MoveAnswer {
-    At(i64, i64, u64),
-    Refused(u32, usize),
+pub struct Counted {
+    pub secs: i64,
+    pub nanos: i64,
+    pub windows: u64,
 }
 
 // ---- the working time between two instants
 
 // A sum of working time as a duration, negative where the instants were turned round.
-fn time_answer(minus: bool, r: Summed) -> TimeAnswer
+fn time_answer(minus: bool, r: Summed) -> Counted
     requires { (r.time.sec < 2 ^ 63) × Exact r.time }
-    ensures { (time_is result ≡ lasting minus (nanos r.time)) × (time_count result ≡ r.windows) }
+    ensures { (values_of result ≡ lasting minus (nanos r.time)) × (result.windows ≡ r.windows) }
 {
-    let time = r.time;
-    let d = instant_signed::pair(minus, time.sec, time.ns);
-    TimeAnswer::Is(d.secs, d.nanos, r.windows)
+    let d = instant_signed::pair(minus, r.time.sec, r.time.ns);
+    Counted {
+        secs: d.secs,
+        nanos: d.nanos,
+        windows: r.windows,
+    }
 }
 
 // The working time from the instant a to the instant b, of a schedule that was built before. There is one call of the walk for both directions, so that the
@@ -54,16 +51,12 @@ pub fn between_in(
     a_ns: i64,
     b_sec: i64,
     b_ns: i64,
-) -> TimeAnswer
+) -> Result<Counted, Refused>
     requires { ScheduleFits book.now pack.now s }
-    ensures { TimeAs result (between_in book.now pack.now s a_sec a_ns b_sec b_ns) }
+    ensures { CountedAs result (between_in book.now pack.now s a_sec a_ns b_sec b_ns) }
 {
-    let InstantRead::At(a) = instant_signed::instant_of(a_sec, a_ns) else {
-        return TimeAnswer::Refused(refusal::INSTANT_OUT_OF_RANGE, 0);
-    };
-    let InstantRead::At(b) = instant_signed::instant_of(b_sec, b_ns) else {
-        return TimeAnswer::Refused(refusal::INSTANT_OUT_OF_RANGE, 0);
-    };
+    let a = instant_signed::instant_of(a_sec, a_ns).ok_or(Refusal::InstantOutOfRange)?;
+    let b = instant_signed::instant_of(b_sec, b_ns).ok_or(Refusal::InstantOutOfRange)?;
     let minus = instant::precedes(b, a);
     let mut lo = a;
     let mut hi = b;
@@ -71,42 +64,53 @@ pub fn between_in(
         lo = b;
         hi = a;
     }
-    time_answer(minus, walk_between::between(book, pack, s, lo, hi))
+    Ok(time_answer(minus, walk_between::between(book, pack, s, lo, hi)))
 }
 
 // The working time from the instant a to the instant b.
-pub fn between(book: &[u8], pack: &[u8], a_sec: i64, a_ns: i64, b_sec: i64, b_ns: i64) -> TimeAnswer
-    ensures { TimeAs result (model.between book.now pack.now a_sec a_ns b_sec b_ns) }
+pub fn between(
+    book: &[u8],
+    pack: &[u8],
+    a_sec: i64,
+    a_ns: i64,
+    b_sec: i64,
+    b_ns: i64,
+) -> Result<Counted, Refused>
+    ensures { CountedAs result (model.between book.now pack.now a_sec a_ns b_sec b_ns) }
 {
-    let r = build::build(book, pack);
-    if r.number != 0 {
-        return TimeAnswer::Refused(r.number, r.place);
-    }
-    let s = r.schedule;
+    let s = build::build(book, pack)?;
     between_in(book, pack, s, a_sec, a_ns, b_sec, b_ns)
 }
 
 // ---- an instant moved by working time
 
-// The instant at the distance x from t, on or back, which a search found in that number of windows.
-fn moved_to(t: Instant, back: bool, x: Length, windows: u64) -> MoveAnswer
-    requires { InRange t × Short x × (nanos x ≤ way.reach (way_of back) (nanos t)) }
-    ensures { (move_is result ≡ instant_at back (nanos t) (nanos x)) × (move_count result ≡ windows) }
+// The instant that a search from t found, on or back.
+fn moved_to(t: Instant, back: bool, found: Reached) -> Counted
+    requires { InRange t × Short found.distance × (nanos found.distance ≤ way.reach (way_of back) (nanos t)) }
+    ensures { (values_of result ≡ instant_at back (nanos t) (nanos found.distance)) × (result.windows ≡ found.windows) }
 {
-    let u = walk_distance::at(t, back, x);
-    MoveAnswer::At(instant_signed::seconds_of(u.sec), u.ns as i64, windows)
+    let u = walk_distance::at(t, back, found.distance);
+    Counted {
+        secs: instant_signed::seconds_of(u.sec),
+        nanos: u.ns as i64,
+        windows: found.windows,
+    }
 }
 
 // The instant that is d of working time on from t, or back from it.
-fn search(book: &[u8], pack: &[u8], s: Schedule, t: Instant, back: bool, d: Length) -> MoveAnswer
+fn search(
+    book: &[u8],
+    pack: &[u8],
+    s: Schedule,
+    t: Instant,
+    back: bool,
+    d: Length,
+) -> Result<Counted, Refused>
     requires { ScheduleFits book.now pack.now s × InRange t × (nanos d < most) × Exact d }
-    ensures { MoveAs result (moved_in back book.now pack.now s (nanos t) (nanos d)) }
+    ensures { CountedAs result (moved_in back book.now pack.now s (nanos t) (nanos d)) }
 {
-    match walk_search::search(book, pack, s, t, back, d) {
-        Reached::At(x, windows) => moved_to(t, back, x, windows),
-        Reached::NoWork => MoveAnswer::Refused(refusal::NO_WORKING_TIME, 0),
-        Reached::OutOfRange => MoveAnswer::Refused(refusal::OUT_OF_RANGE, 0),
-    }
+    let found = walk_search::search(book, pack, s, t, back, d)?;
+    Ok(moved_to(t, back, found))
 }
 
 // The instant that is a duration of working time on from the instant t, or back from it, of a schedule that was built before. A negative duration
@@ -120,28 +124,24 @@ pub fn move_in(
     t_ns: i64,
     d_sec: i64,
     d_ns: i64,
-) -> MoveAnswer
+) -> Result<Counted, Refused>
     requires { ScheduleFits book.now pack.now s }
-    ensures { MoveAs result (move_in back book.now pack.now s t_sec t_ns d_sec d_ns) }
+    ensures { CountedAs result (move_in back book.now pack.now s t_sec t_ns d_sec d_ns) }
 {
-    let InstantRead::At(t) = instant_signed::instant_of(t_sec, t_ns) else {
-        return MoveAnswer::Refused(refusal::INSTANT_OUT_OF_RANGE, 0);
-    };
-    let DurationRead::Signed(minus, sec, ns) = instant_signed::duration_of(d_sec, d_ns) else {
-        return MoveAnswer::Refused(refusal::DURATION_MALFORMED, 0);
-    };
-    let d = Length { sec, ns };
-    if !minus {
-        return search(book, pack, s, t, back, d);
+    let t = instant_signed::instant_of(t_sec, t_ns).ok_or(Refusal::InstantOutOfRange)?;
+    let d = instant_signed::duration_of(d_sec, d_ns).ok_or(Refusal::DurationMalformed)?;
+    if !d.minus {
+        return search(book, pack, s, t, back, d.length);
     }
-    match instant_signed::negate(Duration {
+    if instant_signed::negate(Duration {
         secs: d_sec,
         nanos: d_ns,
-    }) {
-        DurationMade::Is(_) => search(book, pack, s, t, !back, d),
-        DurationMade::OutOfRange => MoveAnswer::Refused(refusal::OUT_OF_RANGE, 0),
-        DurationMade::Malformed => MoveAnswer::Refused(refusal::DURATION_MALFORMED, 0),
+    })
+    .is_err()
+    {
+        return Err(Refusal::OutOfRange.into());
     }
+    search(book, pack, s, t, !back, d.length)
 }
 
 // The same from the bytes of book and pack: what `build` refuses comes first.
@@ -153,27 +153,37 @@ fn build_and_move(
     t_ns: i64,
     d_sec: i64,
     d_ns: i64,
-) -> MoveAnswer
-    ensures { MoveAs result (move_of back book.now pack.now t_sec t_ns d_sec d_ns) }
+) -> Result<Counted, Refused>
+    ensures { CountedAs result (move_of back book.now pack.now t_sec t_ns d_sec d_ns) }
 {
-    let r = build::build(book, pack);
-    if r.number != 0 {
-        return MoveAnswer::Refused(r.number, r.place);
-    }
-    let s = r.schedule;
-    move_in(book, pack, s, back, t_sec, t_ns, d_sec, d_ns)
+    let built = build::build(book, pack)?;
+    move_in(book, pack, built, back, t_sec, t_ns, d_sec, d_ns)
 }
 
 // The instant that is a duration of working time after the instant t.
-pub fn add(book: &[u8], pack: &[u8], t_sec: i64, t_ns: i64, d_sec: i64, d_ns: i64) -> MoveAnswer
-    ensures { MoveAs result (model.add book.now pack.now t_sec t_ns d_sec d_ns) }
+pub fn add(
+    book: &[u8],
+    pack: &[u8],
+    t_sec: i64,
+    t_ns: i64,
+    d_sec: i64,
+    d_ns: i64,
+) -> Result<Counted, Refused>
+    ensures { CountedAs result (model.add book.now pack.now t_sec t_ns d_sec d_ns) }
 {
     build_and_move(book, pack, false, t_sec, t_ns, d_sec, d_ns)
 }
 
 // The instant that is a duration of working time before the instant t.
-pub fn sub(book: &[u8], pack: &[u8], t_sec: i64, t_ns: i64, d_sec: i64, d_ns: i64) -> MoveAnswer
-    ensures { MoveAs result (model.sub book.now pack.now t_sec t_ns d_sec d_ns) }
+pub fn sub(
+    book: &[u8],
+    pack: &[u8],
+    t_sec: i64,
+    t_ns: i64,
+    d_sec: i64,
+    d_ns: i64,
+) -> Result<Counted, Refused>
+    ensures { CountedAs result (model.sub book.now pack.now t_sec t_ns d_sec d_ns) }
 {
     build_and_move(book, pack, true, t_sec, t_ns, d_sec, d_ns)
 }

@@ -1,5 +1,5 @@
 -- Each answer of `hardest`, from what the code has tested and called.
-use mathlib.Core.Path.{◌≡◌, ◌∙◌, ap, ap₂}
+use mathlib.Core.Path.{◌≡◌, refl, ◌∙◌, ap, ap₂}
 use mathlib.Core.Bool.{true, false, not}
 use mathlib.Core.List.{List, [], ◌∷◌, ◌++◌}
 use Prim.Native.Nat.{ℕ, ◌+◌, ◌*◌, ◌≤◌}
@@ -10,7 +10,7 @@ use lib.ListN.{length}
 use borrow.Author.Tests.{leb-true}
 use Rattle.model.specs.Basic.{is_in}
 use Rattle.model.specs.Answer.{Answer, gives, refuses}
-use Rattle.model.specs.Instant.{second, last_instant, is_below_0, instant_of, duration}
+use Rattle.model.specs.Instant.{second, last_instant, is_below_0, instant_of, instant, duration}
 use Rattle.model.specs.Calls.{Reply}
 use Rattle.model.specs.Hardest as model
 use Rattle.model.specs.Hardest.{are_runs, runs_of, most_numbers, is_log, is_width, most_width, windows_of, hardest_of, hardest_call}
@@ -20,14 +20,14 @@ use Rattle.laws_hardest.specs.Logs.{NotBelow0, not-below, log-fits}
 use Rattle.laws_hardest.specs.Windows.{hardest-inside}
 use Rattle.instant.specs.Instant.{nanos, Exact, InRange}
 use Rattle.instant.specs.declared.Instant.{Instant}
-use Rattle.instant_signed.specs.Reads.{seconds_from}
+use Rattle.instant_signed.specs.Reads.{instant_numbers}
+use Rattle.instant_signed.specs.declared.SignedInstant.{SignedInstant}
 use Rattle.instant_signed.specs.Durations.{signed_pair}
 use Rattle.instant_signed.specs.DurationLaws.{duration-written}
-use Rattle.instant_signed.specs.InstantLaws.{instant-written}
 use Rattle.instant_signed.specs.declared.Duration.{Duration}
 use Rattle.walk_hardest.specs.Held.{LogAsked, stretch_is, hardest_in}
 use Rattle.walk_hardest.specs.declared.Stretch.{Stretch}
-use Rattle.schedule_hardest.specs.Hardests.{stretch_given, stretch_from}
+use Rattle.schedule_hardest.specs.Hardests.{hardest_numbers, stretch_reply, stretch_numbers}
 
 -- ---- what is refused
 
@@ -37,20 +37,20 @@ module _ (s : Schedule) (t₁ t₂ : ℤ) (log : List ℤ) (w : ℤ) where
   no-instant e = rw e
 
   module _ (t : ℕ) (e : instant_of t₁ t₂ ≡ gives t) where
-    pub no-log : {n : ℕ} → n ≡ 11 → is_log t log ≡ false → refuses n 0 ≡ hardest_call s t₁ t₂ log w
+    pub no-log : is_log t log ≡ false → refuses 11 0 ≡ hardest_call s t₁ t₂ log w
     unfolding hardest_call
-    no-log q l = rw (q, e, l)
+    no-log l = rw (e, l)
 
     module _ (l : is_log t log ≡ true) where
-      pub no-width : {n : ℕ} → n ≡ 12 → is_width w ≡ false → refuses n 0 ≡ hardest_call s t₁ t₂ log w
+      pub no-width : is_width w ≡ false → refuses 12 0 ≡ hardest_call s t₁ t₂ log w
       unfolding hardest_call
-      no-width q k = rw (q, e, l, k)
+      no-width k = rw (e, l, k)
 
       -- and what is given
       pub stretch-given : is_width w ≡ true → (h : model.Stretch) → h ≡ hardest_of t (windows_of s (nat_abs w * second) (runs_of t log))
-          → {u : Answer Reply} → u ≡ stretch_from h.time h.start → u ≡ hardest_call s t₁ t₂ log w
+          → {r : List ℤ} → r ≡ stretch_numbers h.time h.start → gives (stretch_reply r) ≡ hardest_call s t₁ t₂ log w
       unfolding hardest_call
-      stretch-given k h q {u} r = r ∙ ap (λ (x : model.Stretch). stretch_from x.time x.start) q ∙ rw (e, l, k)
+      stretch-given k h q r = ap (λ l. gives (stretch_reply l)) r ∙ ap (λ (x : model.Stretch). gives (stretch_reply (stretch_numbers x.time x.start))) q ∙ rw (e, l, k)
 
 -- ---- what the walk is asked
 
@@ -80,10 +80,10 @@ module _ (t : Instant) (r : InRange t) (log : List ℤ) (l : is_log (nanos t) lo
 
 -- ---- what is written
 
-pub stretch-written : (t : Instant) (start : ℕ) (time : Instant) (d : Duration) {x y a b : ℤ} {z : ℕ} → Exact time → nanos time ≡ z → d ≡ signed_pair false time.sec time.ns
-    → x ≡ d.secs → y ≡ d.nanos → Exact t → a ≡ seconds_from (t.sec + start) → b ≡ pos t.ns → stretch_given (x ∷ y ∷ a ∷ b ∷ []) ≡ stretch_from z (nanos t + start * second)
-stretch-written t start time d {z = z} h e p q r k u v =
-    let later : Instant = record { sec = t.sec + start; ns = t.ns } in
-    ap₂ (λ (l m : List ℤ). stretch_given (l ++ m))
-    (duration-written false time.sec time.ns d h p q r ∙ ap (λ (n : ℕ). duration (record { minus = false; size = n })) e)
-    (instant-written later (nanos t + start * second) k (omega arith) u v)
+pub stretch-written : (t : Instant) (start : ℕ) (time : Instant) (d : Duration) (i : SignedInstant) {z : ℕ} → Exact time → nanos time ≡ z → d ≡ signed_pair false time.sec time.ns
+    → instant_numbers i ≡ instant (nanos (record { sec = t.sec + start; ns = t.ns })) → hardest_numbers (record { time = d; start = i }) ≡ stretch_numbers z (nanos t + start * second)
+stretch-written t start time d i {z} h e p q =
+    let n : nanos (record { sec = t.sec + start; ns = t.ns }) ≡ nanos t + start * second = omega arith in
+    ap₂ (λ (l m : List ℤ). l ++ m)
+    (duration-written false time.sec time.ns d h p refl refl ∙ ap (λ (n : ℕ). duration (record { minus = false; size = n })) e)
+    (q ∙ ap instant n)

@@ -8,29 +8,35 @@ ghost use Rattle.model.specs.Hardest as model;
 ghost use Rattle.model.specs.Instant.{second, last_instant};
 ghost use Rattle.instant.specs.Instant.{nanos, InRange};
 ghost use Rattle.rule.specs.Rules.{ScheduleFits};
-ghost use Rattle.schedule_hardest.specs.Hardests.{hardest_is, stretch_from, hardest_with};
+ghost use Rattle.refusal.specs.Answered.{answer_of};
+ghost use Rattle.schedule_hardest.specs.Hardests.{hardest_numbers, hardest_reply, stretch_numbers, hardest_with};
 
 use instant::Instant;
-use instant_signed::InstantRead;
+use instant_signed::{Duration, SignedInstant};
+use refusal::{Refusal, Refused};
 use rule::Schedule;
 use walk_hardest::Stretch;
 
-// The seconds and nanoseconds of the time, then those of the window's start; or a refusal's number and place.
+// What `hardest` gives: the working time of the window, and the window's start.
 #[derive(Clone, Copy)]
-pub enum HardestAnswer {
-    Is(i64, i64, i64, i64),
-    Refused(u32, usize),
+pub struct HardestStretch {
+    pub time: Duration,
+    pub start: SignedInstant,
 }
 
 // A window's time as a duration, and its start as an instant.
-fn stretch_answer(t: Instant, h: Stretch) -> HardestAnswer
+fn stretch_given(t: Instant, h: Stretch) -> HardestStretch
     requires { InRange t × (nanos t + h.start * second ≤ last_instant) }
-    ensures { hardest_is result ≡ stretch_from h.time (nanos t + h.start * second) }
+    ensures { hardest_numbers result ≡ stretch_numbers h.time (nanos t + h.start * second) }
 {
     let time = instant::from_nanoseconds(h.time);
-    let d = instant_signed::pair(false, time.sec, time.ns);
-    let start = instant_signed::seconds_of(t.sec + h.start);
-    HardestAnswer::Is(d.secs, d.nanos, start, t.ns as i64)
+    HardestStretch {
+        time: instant_signed::pair(false, time.sec, time.ns),
+        start: instant_signed::signed_instant(Instant {
+            sec: t.sec + h.start,
+            ns: t.ns,
+        }),
+    }
 }
 
 // The hardest stretch of a log, of a schedule that was built before.
@@ -42,24 +48,22 @@ pub fn hardest_in(
     t_ns: i64,
     log: &[i64],
     width: i64,
-) -> HardestAnswer
+) -> Result<HardestStretch, Refused>
     requires { ScheduleFits book.now pack.now s }
-    ensures { hardest_is result ≡ hardest_with book.now pack.now s
+    ensures { answer_of hardest_reply result ≡ hardest_with book.now pack.now s
         t_sec t_ns log.now «width» }
 {
-    let InstantRead::At(t) = instant_signed::instant_of(t_sec, t_ns) else {
-        return HardestAnswer::Refused(refusal::INSTANT_OUT_OF_RANGE, 0);
-    };
+    let t = instant_signed::instant_of(t_sec, t_ns).ok_or(Refusal::InstantOutOfRange)?;
     let is_log = run_log::is_log(t, log);
     let is_width = run_log::is_width(width);
     if !is_log {
-        return HardestAnswer::Refused(refusal::LOG_MALFORMED, 0);
+        return Err(Refusal::LogMalformed.into());
     }
     if !is_width {
-        return HardestAnswer::Refused(refusal::WIDTH_OUT_OF_RANGE, 0);
+        return Err(Refusal::WidthOutOfRange.into());
     }
     let seconds = run_log::unsigned(width);
-    stretch_answer(t, walk_hardest::hardest(book, pack, s, t, log, seconds))
+    Ok(stretch_given(t, walk_hardest::hardest(book, pack, s, t, log, seconds)))
 }
 
 // The hardest stretch of a log, by the book and the pack.
@@ -70,14 +74,10 @@ pub fn hardest(
     t_ns: i64,
     log: &[i64],
     width: i64,
-) -> HardestAnswer
-    ensures { hardest_is result ≡ model.hardest book.now pack.now
+) -> Result<HardestStretch, Refused>
+    ensures { answer_of hardest_reply result ≡ model.hardest book.now pack.now
         t_sec t_ns log.now «width» }
 {
-    let built = build::build(book, pack);
-    if built.number != 0 {
-        return HardestAnswer::Refused(built.number, built.place);
-    }
-    let s = built.schedule;
+    let s = build::build(book, pack)?;
     hardest_in(book, pack, s, t_sec, t_ns, log, width)
 }

@@ -7,10 +7,7 @@ use native.Mathlib.Omega.{arith}
 use lib.Dec.{leb}
 use lib.IntN.{ℤ}
 use lib.ListN.{length, drop}
-use mir.Syntax.{w64}
-use mir.Val.{SFits, to_z, of_z}
-use mir.Facts.{to_z-of_z}
-use borrow.Author.Tests.{leb-true, eq-eqb, ne_eqb}
+use borrow.Author.Tests.{leb-true}
 use Rattle.model.specs.Basic.{joined}
 use Rattle.model.specs.Answer.{Answer, gives, refuses}
 use Rattle.model.specs.Blocks.{Block}
@@ -19,9 +16,6 @@ use Rattle.model.specs.Calls.{list_call, list, stretch_count, numbers_after}
 use Rattle.model.specs.Instant.{instant_of}
 use Rattle.model.specs.Walk.{stretches}
 use Rattle.model.specs.Working.{Schedule}
-use Rattle.rule.specs.Rules.{schedule_is}
-use Rattle.build.specs.Read.{answer_is}
-use Rattle.build.specs.declared.Built.{Built}
 use Rattle.walk_list_week.specs.Stretched.{placed, fields, stored}
 use Rattle.walk_list_week.proofs.Placing.{numbers-long}
 
@@ -59,16 +53,10 @@ module _ (s : Schedule) (a₁ a₂ b₁ b₂ : ℤ) (e : List ℤ) where
 
 -- ---- from the bytes
 
-module _ (b p : List ℕ) (r : Built) (h : answer_is b p r ≡ build b p) (a₁ a₂ b₁ b₂ : ℤ) (e : List ℤ) where
-  pub build-refused : (r.number ≡ 0 → ⊥) → (refuses r.number r.place ≡ stretch_count (list b p a₁ a₂ b₁ b₂ e)) × (e ≡ numbers_after (list b p a₁ a₂ b₁ b₂ e) e)
-  build-refused n = let q : refuses r.number r.place ≡ build b p = rw (ne_eqb r.number 0 n) at h in rw (← q) (refl, refl)
+module _ (b p : List ℕ) (a₁ a₂ b₁ b₂ : ℤ) (e : List ℤ) {a : Answer Schedule} (h : a ≡ build b p) where
+  pub build-refused : {m k : ℕ} → a ≡ refuses m k → (refuses m k ≡ stretch_count (list b p a₁ a₂ b₁ b₂ e)) × (e ≡ numbers_after (list b p a₁ a₂ b₁ b₂ e) e)
+  build-refused {m} {k} n = let q : refuses m k ≡ build b p = sym n ∙ h in rw (← q) (refl, refl)
 
-  pub build-gives : r.number ≡ 0 → SFits w64 a₁ → SFits w64 a₂ → SFits w64 b₁ → SFits w64 b₂ → {x : Answer ℕ} {o : List ℤ}
-      → (x ≡ stretch_count (list_call (schedule_is b p r.schedule) (to_z w64 (of_z w64 a₁)) (to_z w64 (of_z w64 a₂)) (to_z w64 (of_z w64 b₁)) (to_z w64 (of_z w64 b₂)) e))
-      × (o ≡ numbers_after (list_call (schedule_is b p r.schedule) (to_z w64 (of_z w64 a₁)) (to_z w64 (of_z w64 a₂)) (to_z w64 (of_z w64 b₁)) (to_z w64 (of_z w64 b₂)) e) e)
+  pub build-gives : {s : Schedule} → a ≡ gives s → {x : Answer ℕ} {o : List ℤ} → (x ≡ stretch_count (list_call s a₁ a₂ b₁ b₂ e)) × (o ≡ numbers_after (list_call s a₁ a₂ b₁ b₂ e) e)
       → (x ≡ stretch_count (list b p a₁ a₂ b₁ b₂ e)) × (o ≡ numbers_after (list b p a₁ a₂ b₁ b₂ e) e)
-  build-gives n f₁ f₂ g₁ g₂ {x} {o} y =
-      let q : gives (schedule_is b p r.schedule) ≡ build b p = rw (eq-eqb r.number 0 n) at h in
-      let z : (x ≡ stretch_count (list_call (schedule_is b p r.schedule) a₁ a₂ b₁ b₂ e)) × (o ≡ numbers_after (list_call (schedule_is b p r.schedule) a₁ a₂ b₁ b₂ e) e)
-      = rw (to_z-of_z f₁, to_z-of_z f₂, to_z-of_z g₁, to_z-of_z g₂) at y in
-      rw (← q) z
+  build-gives {s} n y = let q : gives s ≡ build b p = sym n ∙ h in rw (← q) y

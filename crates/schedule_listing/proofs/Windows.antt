@@ -1,10 +1,10 @@
 -- The loop of `walk` over windows: its invariant, and that a turn keeps it. Assumes nothing.
+use Rattle.std.specs.Prelude.{Option, None}
 use mathlib.Core.Path.{◌≡◌, refl, sym, ap, ap₂, ◌∙◌}
 use mathlib.Core.Bool.{Bool, true, false}
 use mathlib.Core.List.{List, [], ◌∷◌, ◌++◌}
-use Prim.Native.Nat.{ℕ, suc, ◌+◌, ◌*◌, ◌-◌, ◌≤◌, ◌<◌, min}
+use Prim.Native.Nat.{ℕ, ◌+◌, ◌*◌, ◌-◌, ◌≤◌, ◌<◌, min}
 use native.Mathlib.Omega.{arith}
-use native.Mathlib.Decide.{dec_le}
 use lib.IntN.{ℤ}
 use lib.ListN.{length, length-append}
 use Rattle.model.specs.Instant.{week, last_instant}
@@ -17,9 +17,8 @@ use Rattle.instant.specs.Instant.{nanos, InRange}
 use Rattle.instant.specs.declared.Instant.{Instant}
 use Rattle.laws_skip.specs.WindowEnds.{Inside}
 use Rattle.laws_skip.specs.Schedules.{working-inside}
-use Rattle.block.specs.Counted.{block_of}
 use Rattle.block_pairs.specs.Pairs.{pairs}
-use Rattle.walk_list_week.specs.Stretched.{on_from, ended, still_open, any_open, stored, SmallBlock, Below, StretchReady, Left}
+use Rattle.walk_list_week.specs.Stretched.{on_from, ended, still_open, open_of, stored, SmallOpen, Below, StretchReady, Left}
 use Rattle.walk_list_week.specs.declared.Open.{Open}
 use Rattle.walk_distance.specs.Distances.{Short}
 use Rattle.walk_list_week.proofs.Joins.{from-append, ended-few}
@@ -45,9 +44,6 @@ ahead-done s lo b h = let e : begun (b - lo) ≡ 0 = omega arith in rw e
 
 pub range_last : (t : Instant) → InRange t → nanos t ≤ last_instant
 range_last t r = let h = r.high in let n = r.ns in omega arith
-
-pub range_small : (t : Instant) → InRange t → SmallBlock (block (nanos t) (nanos t))
-range_small t r = let h = r.high in let n = r.ns in (omega arith, omega arith)
 
 pub range-short : (t : Instant) → InRange t → Short t
 range-short t r = let h = r.high in record { sec = omega arith; ns = r.ns }
@@ -75,21 +71,21 @@ below_of lo hi (b ∷ l) h i = ((omega arith, omega arith), below_of lo hi l h i
 
 -- ---- the loop
 
--- at lo, c stretches have ended, and o is open if k says so
-pub record Walking (s : Schedule) (a b : ℕ) (w : Bool) (e : List ℤ) (lo : ℕ) (k : Bool) (o : Block) (c : ℕ) (out : List ℤ) : Type 0 where
+-- at lo, c stretches have ended, and o is open, if there is one
+pub record Walking (s : Schedule) (a b : ℕ) (w : Bool) (e : List ℤ) (lo : ℕ) (o : Option Block) (c : ℕ) (out : List ℤ) : Type 0 where
   pub from : a ≤ lo
-  pub small : SmallBlock o
+  pub small : SmallOpen o
   pub few : lo < b → c * week ≤ most_blocks * (lo - a)
   pub most : c * week ≤ most_blocks * (lo - a) + most_blocks * week
-  pub count : c + length (on_from k o (ahead s lo b)) ≡ length (stretches s a b)
+  pub count : c + length (on_from o (ahead s lo b)) ≡ length (stretches s a b)
   pub long : length out ≡ length e
-  pub same : stored w c (on_from k o (ahead s lo b)) out ≡ stored w 0 (stretches s a b) e
+  pub same : stored w c (on_from o (ahead s lo b)) out ≡ stored w 0 (stretches s a b) e
 
-pub walking-starts : (s : Schedule) (a b : ℕ) (w : Bool) (e : List ℤ) (o : Block) → SmallBlock o → Walking s a b w e a false o 0 e
+pub walking-starts : (s : Schedule) (a b : ℕ) (w : Bool) (e : List ℤ) → Walking s a b w e a None 0 e
 unfolding ahead on_from
-walking-starts s a b w e o h = record { from = omega arith; small = h; few = λ p. omega arith; most = omega arith; count = omega arith; long = refl; same = refl }
+walking-starts s a b w e = record { from = omega arith; small = tt; few = λ p. omega arith; most = omega arith; count = omega arith; long = refl; same = refl }
 
-module _ (s : Schedule) (a b : ℕ) (w : Bool) (e : List ℤ) (lo : ℕ) (o : Open) (out : List ℤ) (m : Walking s a b w e lo o.known (block_of o.block) o.count out) (h : lo < b) (hi : ℕ) (q : hi ≡ min (lo + week) b)
+module _ (s : Schedule) (a b : ℕ) (w : Bool) (e : List ℤ) (lo : ℕ) (o : Open) (out : List ℤ) (m : Walking s a b w e lo (open_of o.block) o.count out) (h : lo < b) (hi : ℕ) (q : hi ≡ min (lo + week) b)
     (n : ℕ) (d : List ℕ) (p : pairs n d ≡ onward lo (working s lo hi)) (f : n ≤ most_blocks) where
   -- the blocks of the window
   abbrev l : List Block
@@ -102,18 +98,18 @@ module _ (s : Schedule) (a b : ℕ) (w : Bool) (e : List ℤ) (lo : ℕ) (o : Op
   l-few = let x = moved-long lo 0 n d in omega arith
 
   -- what is ahead, in two parts
-  parts : on_from o.known (block_of o.block) (ahead s lo b)
-      ≡ ended o.known (block_of o.block) l ++ on_from (any_open o.known l) (still_open o.known (block_of o.block) l) (ahead s hi b)
+  parts : on_from (open_of o.block) (ahead s lo b)
+      ≡ ended (open_of o.block) l ++ on_from (still_open (open_of o.block) l) (ahead s hi b)
   parts =
-      ap (on_from o.known (block_of o.block)) (ahead-turn s lo b hi h q ∙ ap (λ (x : List Block). x ++ ahead s hi b) (sym l-is))
-      ∙ from-append o.known (block_of o.block) l (ahead s hi b)
+      ap (on_from (open_of o.block)) (ahead-turn s lo b hi h q ∙ ap (λ (x : List Block). x ++ ahead s hi b) (sym l-is))
+      ∙ from-append (open_of o.block) l (ahead s hi b)
 
-  parts-long : length (on_from o.known (block_of o.block) (ahead s lo b))
-      ≡ length (ended o.known (block_of o.block) l) + length (on_from (any_open o.known l) (still_open o.known (block_of o.block) l) (ahead s hi b))
-  parts-long = ap length parts ∙ length-append (ended o.known (block_of o.block) l) _
+  parts-long : length (on_from (open_of o.block) (ahead s lo b))
+      ≡ length (ended (open_of o.block) l) + length (on_from (still_open (open_of o.block) l) (ahead s hi b))
+  parts-long = ap length parts ∙ length-append (ended (open_of o.block) l) _
 
-  ends-few : length (ended o.known (block_of o.block) l) ≤ most_blocks
-  ends-few = let u = ended-few o.known (block_of o.block) l in let v = l-few in omega arith
+  ends-few : length (ended (open_of o.block) l) ≤ most_blocks
+  ends-few = let u = ended-few (open_of o.block) l in let v = l-few in omega arith
 
   -- `join_window` may be called
   pub walking-ready : b ≤ last_instant → (w ≡ true → 4 * length (stretches s a b) ≤ length e) → StretchReady (moves lo (pairs n d)) o w out
@@ -128,38 +124,38 @@ module _ (s : Schedule) (a b : ℕ) (w : Bool) (e : List ℤ) (lo : ℕ) (o : Op
       }
 
   -- and what it leaves goes on
-  pub walking_on : (w ≡ true → 4 * length (stretches s a b) ≤ length e) → (r : Open) → Left (moves lo (pairs n d)) o r → (o' : List ℤ) → o' ≡ stored w o.count (ended o.known (block_of o.block) (moves lo (pairs n d))) out
-      → Walking s a b w e hi r.known (block_of r.block) r.count o'
+  pub walking_on : (w ≡ true → 4 * length (stretches s a b) ≤ length e) → (r : Open) → Left (moves lo (pairs n d)) o r → (o' : List ℤ) → o' ≡ stored w o.count (ended (open_of o.block) (moves lo (pairs n d))) out
+      → Walking s a b w e hi (open_of r.block) r.count o'
   walking_on room r left o' t =
       let i = m.from in
       let u = m.few h in
       let v = ends-few in
       let n = left.count in
-      let g : w ≡ true → 4 * (o.count + length (ended o.known (block_of o.block) l)) ≤ length out = λ y. let x = room y in let d = m.count in let z = parts-long in let j = m.long in omega arith in
+      let g : w ≡ true → 4 * (o.count + length (ended (open_of o.block) l)) ≤ length out = λ y. let x = room y in let d = m.count in let z = parts-long in let j = m.long in omega arith in
       record {
         from = omega arith;
         small = left.small;
         few = λ y. omega arith;
         most = omega arith;
-        count = rw (left.known, left.last, left.count) (let d = m.count in let z = parts-long in omega arith);
-        long = rw t (stored-long w o.count (ended o.known (block_of o.block) l) out g) ∙ m.long;
+        count = rw (left.last, left.count) (let d = m.count in let z = parts-long in omega arith);
+        long = rw t (stored-long w o.count (ended (open_of o.block) l) out g) ∙ m.long;
         same =
-            rw (left.known, left.last, left.count, t)
-            (stored-append w o.count (ended o.known (block_of o.block) l) _ out (λ y. let x = g y in omega arith)
+            rw (left.last, left.count, t)
+            (stored-append w o.count (ended (open_of o.block) l) _ out (λ y. let x = g y in omega arith)
             ∙ ap (λ (x : List Block). stored w o.count x out) (sym parts)
             ∙ m.same);
       }
 
 -- no window is left
-module _ (s : Schedule) (a b : ℕ) (w : Bool) (e : List ℤ) (lo : ℕ) (k : Bool) (o : Block) (c : ℕ) (out : List ℤ) (m : Walking s a b w e lo k o c out) (h : b ≤ lo) where
-  pub walked-room : (w ≡ true → 4 * length (stretches s a b) ≤ length e) → w ≡ true → 4 * (c + length (on_from k o [])) ≤ length out
-  walked-room r v = let x = r v in let y : c + length (on_from k o []) ≡ length (stretches s a b) = rw (ahead-done s lo b h) at m.count in let z = m.long in omega arith
+module _ (s : Schedule) (a b : ℕ) (w : Bool) (e : List ℤ) (lo : ℕ) (o : Option Block) (c : ℕ) (out : List ℤ) (m : Walking s a b w e lo o c out) (h : b ≤ lo) where
+  pub walked-room : (w ≡ true → 4 * length (stretches s a b) ≤ length e) → w ≡ true → 4 * (c + length (on_from o [])) ≤ length out
+  walked-room r v = let x = r v in let y : c + length (on_from o []) ≡ length (stretches s a b) = rw (ahead-done s lo b h) at m.count in let z = m.long in omega arith
 
-  pub walked-count : (r : ℕ) → r ≡ c + length (on_from k o []) → r ≡ length (stretches s a b)
+  pub walked-count : (r : ℕ) → r ≡ c + length (on_from o []) → r ≡ length (stretches s a b)
   walked-count r p = p ∙ (rw (ahead-done s lo b h) at m.count)
 
-  pub walked_same : (o' : List ℤ) → o' ≡ stored w c (on_from k o []) out → o' ≡ stored w 0 (stretches s a b) e
+  pub walked_same : (o' : List ℤ) → o' ≡ stored w c (on_from o []) out → o' ≡ stored w 0 (stretches s a b) e
   walked_same o' p = p ∙ (rw (ahead-done s lo b h) at m.same)
 
-pub walked-few : (s : Schedule) (a b : ℕ) (w : Bool) (e : List ℤ) (lo : ℕ) (k : Bool) (o : Block) (c : ℕ) (out : List ℤ) → Walking s a b w e lo k o c out → lo ≤ last_instant → c < 1000000000000
-walked-few s a b w e lo k o c out m h = let x = m.most in omega arith
+pub walked-few : (s : Schedule) (a b : ℕ) (w : Bool) (e : List ℤ) (lo : ℕ) (o : Option Block) (c : ℕ) (out : List ℤ) → Walking s a b w e lo o c out → lo ≤ last_instant → c < 1000000000000
+walked-few s a b w e lo o c out m h = let x = m.most in omega arith

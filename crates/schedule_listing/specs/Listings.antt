@@ -1,30 +1,29 @@
 -- What the answer of a listing means, and what its walk is asked and leaves.
-use Rattle.std.specs.Prelude.{◌≡◌, Bool, true, List, ℕ, ◌*◌, ◌≤◌, leb, ℤ, length}
-use Rattle.model.specs.Answer.{Answer, gives, refuses}
+use Rattle.std.specs.Prelude.{◌≡◌, Bool, true, List, ℕ, ◌*◌, ◌≤◌, leb, ℤ, length, Result}
+use Rattle.model.specs.Answer.{Answer}
 use Rattle.model.specs.Blocks.{Block}
 use Rattle.model.specs.Walk.{stretches}
 use Rattle.model.specs.Calls as model
 use Rattle.model.specs.Calls.{list_call, stretch_count, numbers_after}
 use Rattle.instant.specs.Instant.{nanos, InRange}
 use Rattle.instant.specs.declared.Instant.{Instant}
+use Rattle.refusal.specs.Answered.{answer_of}
+use Rattle.refusal.specs.declared.Refused.{Refused}
 use Rattle.rule.specs.declared.Schedule.{Schedule}
 use Rattle.rule.specs.Rules.{schedule_is, ScheduleFits}
 use Rattle.walk_list_week.specs.Stretched.{stored}
-use Rattle.schedule_listing.specs.declared.Listing.{Listing}
-use Rattle.schedule_listing.specs.declared.Listing.TheVariants as L
 
--- how many stretches, or a refusal's number and place
-abbrev pub listing_is : Listing → Answer ℕ
-listing_is (L.Count n) = gives n
-listing_is (L.Refused n p) = refuses n p
+-- how many stretches
+abbrev pub count_is : ℕ → ℕ
+count_is n = n
 
 -- the definitions' answer of a schedule that is built
 abbrev pub list_in : List ℕ → List ℕ → Schedule → ℤ → ℤ → ℤ → ℤ → List ℤ → Answer model.Listing
 list_in book pack s a₁ a₂ b₁ b₂ lent = list_call (schedule_is book pack s) a₁ a₂ b₁ b₂ lent
 
 -- the answer r is that of the definitions, d, and so are the lent numbers afterwards
-abbrev pub ListsAs : List ℤ → List ℤ → Listing → Answer model.Listing → Type 0
-ListsAs before after r d = (listing_is r ≡ stretch_count d) × (after ≡ numbers_after d before)
+abbrev pub ListsAs : List ℤ → List ℤ → Result ℕ Refused → Answer model.Listing → Type 0
+ListsAs before after r d = (answer_of count_is r ≡ stretch_count d) × (after ≡ numbers_after d before)
 
 -- ---- the walk
 

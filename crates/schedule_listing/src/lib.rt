@@ -11,50 +11,39 @@ ghost use Rattle.schedule_listing.specs.Listings.{CanWalk, Puts, Suffices, Lists
 ghost use Rattle.window_week.specs.Room.{HasRoom};
 ghost use Rattle.window_memory.specs.Sizes.{most_rules};
 
-use block::Block;
 use instant::Instant;
-use instant_signed::InstantRead;
+use refusal::{Refusal, Refused};
 use rule::Schedule;
 use walk_list_week::Open;
-use window_memory::Size;
+use window_memory::{ALL, FOUR, Memory, ONE, Size};
 
 // The most dates of a rule that a window shows.
 const DATES: usize = 14;
 
-// How many stretches were written, or a refusal's number and place.
-#[derive(Clone, Copy)]
-pub enum Listing {
-    Count(usize),
-    Refused(u32, usize),
-}
-
-// Walks the windows from a to b and tells how many stretches they have. They are written to the front of `out` where `write` is set. `on`, `off` and
-// `net` are lent for the blocks of one window, which stand in `net` as pairs of numbers.
-fn walk_into(
+// Walks the windows from a to b and tells how many stretches they have. They are written to the front of `out` where `write` is set. The blocks of a
+// window stand in `memory.out` as pairs of numbers.
+fn walk_into<const N: usize>(
     book: &[u8],
     pack: &[u8],
     s: Schedule,
     a: Instant,
     b: Instant,
     write: bool,
-    on: &mut [u64],
-    off: &mut [u64],
-    net: &mut [u64],
+    memory: &mut Memory<N>,
     out: &mut [i64],
 ) -> usize
-    requires { CanWalk book.now pack.now s a b write out.old × HasRoom s on.old off.old net.old }
+    requires { CanWalk book.now pack.now s a b write out.old × HasRoom s N }
     ensures { Puts book.now pack.now s a b write out.old out.new result }
 {
     let mut lo = a;
     let mut last = Open {
-        known: false,
-        block: Block { start: a, end: a },
+        block: None,
         count: 0,
     };
     while instant::precedes(lo, b) {
         let hi = walk_distance::window_end(lo, b);
-        let n = window_week::working_into(book, pack, s, lo, hi, on, off, net);
-        last = walk_list_week::join_window(net, n, lo, last, write, out);
+        let n = window_week::working_in(book, pack, s, lo, hi, memory);
+        last = walk_list_week::join_window(&memory.out, n, lo, last, write, out);
         lo = hi;
     }
     walk_list_week::finish(last, write, out)
@@ -74,24 +63,9 @@ fn walk(
     ensures { Puts book.now pack.now s a b write out.old out.new result }
 {
     match window_memory::size_for(s.works + s.pauses + s.closings) {
-        Size::One => {
-            let mut on = [0u64; window_memory::ONE];
-            let mut off = [0u64; window_memory::ONE];
-            let mut net = [0u64; window_memory::ONE];
-            walk_into(book, pack, s, a, b, write, &mut on, &mut off, &mut net, out)
-        }
-        Size::Four => {
-            let mut on = [0u64; window_memory::FOUR];
-            let mut off = [0u64; window_memory::FOUR];
-            let mut net = [0u64; window_memory::FOUR];
-            walk_into(book, pack, s, a, b, write, &mut on, &mut off, &mut net, out)
-        }
-        Size::All => {
-            let mut on = [0u64; window_memory::ALL];
-            let mut off = [0u64; window_memory::ALL];
-            let mut net = [0u64; window_memory::ALL];
-            walk_into(book, pack, s, a, b, write, &mut on, &mut off, &mut net, out)
-        }
+        Size::One => walk_into(book, pack, s, a, b, write, &mut Memory::<ONE>::new(), out),
+        Size::Four => walk_into(book, pack, s, a, b, write, &mut Memory::<FOUR>::new(), out),
+        Size::All => walk_into(book, pack, s, a, b, write, &mut Memory::<ALL>::new(), out),
     }
 }
 
@@ -119,7 +93,7 @@ fn has_room(book: &[u8], pack: &[u8], s: Schedule, a: Instant, b: Instant, out: 
     walk(book, pack, s, a, b, false, out) <= room
 }
 
-// Lists the stretches from a to b of a schedule that is built, if there is room for all.
+// Lists the stretches from a to b of a schedule that is built, if there is room for all, and answers how many they are.
 pub fn list_in(
     book: &[u8],
     pack: &[u8],
@@ -129,25 +103,21 @@ pub fn list_in(
     b_sec: i64,
     b_ns: i64,
     out: &mut [i64],
-) -> Listing
+) -> Result<usize, Refused>
     requires { ScheduleFits book.now pack.now s }
     ensures { ListsAs out.old out.new result
         (list_in book.now pack.now s a_sec a_ns b_sec b_ns out.old) }
 {
-    let InstantRead::At(a) = instant_signed::instant_of(a_sec, a_ns) else {
-        return Listing::Refused(refusal::INSTANT_OUT_OF_RANGE, 0);
-    };
-    let InstantRead::At(b) = instant_signed::instant_of(b_sec, b_ns) else {
-        return Listing::Refused(refusal::INSTANT_OUT_OF_RANGE, 0);
-    };
+    let a = instant_signed::instant_of(a_sec, a_ns).ok_or(Refusal::InstantOutOfRange)?;
+    let b = instant_signed::instant_of(b_sec, b_ns).ok_or(Refusal::InstantOutOfRange)?;
     if !has_room(book, pack, s, a, b, out) {
-        return Listing::Refused(refusal::TOO_FEW_NUMBERS, 0);
+        return Err(Refusal::TooFewNumbers.into());
     }
-    Listing::Count(walk(book, pack, s, a, b, true, out))
+    Ok(walk(book, pack, s, a, b, true, out))
 }
 
-// Lists the stretches of working time from a to b, by the book and the pack: all maximal ones, as start second, nanoseconds, end second, nanoseconds.
-// Numbers behind the last stretch stay, and all stay where it is refused.
+// Lists the stretches of working time from a to b, by the book and the pack: all maximal ones, as start second, nanoseconds, end second, nanoseconds, and
+// answers how many they are. Numbers behind the last stretch stay, and all stay where it is refused.
 pub fn list(
     book: &[u8],
     pack: &[u8],
@@ -156,14 +126,10 @@ pub fn list(
     b_sec: i64,
     b_ns: i64,
     out: &mut [i64],
-) -> Listing
+) -> Result<usize, Refused>
     ensures { ListsAs out.old out.new result
         (model.list book.now pack.now a_sec a_ns b_sec b_ns out.old) }
 {
-    let built = build::build(book, pack);
-    if built.number != 0 {
-        return Listing::Refused(built.number, built.place);
-    }
-    let s = built.schedule;
+    let s = build::build(book, pack)?;
     list_in(book, pack, s, a_sec, a_ns, b_sec, b_ns, out)
 }

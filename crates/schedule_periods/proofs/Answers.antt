@@ -1,94 +1,70 @@
--- Each answer of the calls, from what the code has read, walked and written. Assumes nothing.
-use mathlib.Core.Path.{◌≡◌, refl, sym, ◌∙◌, ap}
-use mathlib.Core.Bool.{Bool, true, false}
-use mathlib.Core.List.{List, [], ◌∷◌, ◌++◌}
-use Prim.Native.Nat.{ℕ, ◌+◌, ◌-◌, ◌<◌}
-use lib.IntN.{ℤ, pos}
+-- Each answer of the calls, from what the code has read, walked and written.
+use Rattle.std.specs.Prelude.{◌≡◌, refl, Bool, true, false, List, [], ◌∷◌, ◌++◌, ℕ, ◌+◌, ◌-◌, ℤ, pos, Err}
+use Rattle.std.proofs.Common.{ap, ◌∙◌}
 use Rattle.model.specs.Answer.{Answer, gives, refuses, ◌>>=◌}
-use Rattle.model.specs.Instant.{second, instant_of, instant}
-use Rattle.model.specs.Blocks.{block}
+use Rattle.model.specs.Instant.{instant_of, instant}
+use Rattle.model.specs.Blocks.{Block, block}
 use Rattle.model.specs.Working as model
 use Rattle.model.specs.Walk.{Way, at, period}
-use Rattle.model.specs.Calls.{Reply, ends, period_call}
+use Rattle.model.specs.Calls.{ends, period_call}
 use Rattle.model.specs.Marks.{marked_period_call, start_of_period, end_of_period}
-use Rattle.instant.specs.Instant.{nanos}
-use Rattle.instant.specs.declared.Instant.{Instant}
-use Rattle.instant_signed.specs.InstantLaws.{instant-read, instant-refused, instant-written}
-use Rattle.instant_signed.specs.Reads.{instant_read, seconds_from}
-use Rattle.instant_signed.specs.declared.InstantRead.TheVariants as R
+use Rattle.refusal.specs.Refused.{number_of, search_refused}
+use Rattle.refusal.specs.declared.SearchError.{SearchError}
 use Rattle.walk_distance.specs.Distances.{way_of}
 use Rattle.walk_period.specs.Found.{found_is}
-use Rattle.walk_period.specs.declared.Found.{Found}
-use Rattle.schedule_periods.specs.Replies.{period_given, period_is, with_marks}
-use Rattle.schedule_periods.specs.declared.PeriodAnswer.{PeriodAnswer}
-use Rattle.schedule_periods.specs.declared.PeriodAnswer.TheVariants as P
+use Rattle.schedule_periods.specs.Replies.{period_given, walk_call}
 
--- ---- the instant given
+-- ---- from what is walked to
 
--- ---- an instant written
+abbrev paired : ℕ → Block → Answer (ℕ × Block)
+paired t b = gives (t, b)
 
-pub written_is : (i : Instant) (n : ℕ) → i.ns < second → nanos i ≡ n → instant n ≡ seconds_from i.sec ∷ pos i.ns ∷ []
-written_is i n h e = sym (instant-written i n h e refl refl)
+then-given : {A : Type 0} (g : ℕ → Block → A) (p : ℕ → Answer Block) (i : Answer ℕ) →
+    ((i >>= λ t. p t >>= paired t) >>= λ x. gives (g x.0 x.1)) ≡ (i >>= λ t. p t >>= λ b. gives (g t b))
+then-given g p (refuses n k) = refl
+then-given g p (gives t) = go (p t)
+  where
+    go : (a : Answer Block) → ((a >>= paired t) >>= λ x. gives (g x.0 x.1)) ≡ (a >>= λ b. gives (g t b))
+    go (refuses n k) = refl
+    go (gives b) = refl
 
--- ---- the calls on a built schedule
-
-module _ (w : Way) (s : model.Schedule) (sec ns : ℤ) where
-  pub call-out : instant_read (instant_of sec ns) ≡ R.OutOfRange → refuses 8 0 ≡ period_call w s sec ns
+module _ (w : Way) (s : model.Schedule) (t₁ t₂ : ℤ) {a : Answer (ℕ × Block)} (e : a ≡ walk_call w s t₁ t₂) where
+  pub call-walked : (a >>= λ x. gives (period_given (ends w x.0 x.1))) ≡ period_call w s t₁ t₂
   unfolding period_call
-  call-out e = rw (instant-refused sec ns e)
+  call-walked = ap (λ y. y >>= λ x. gives (period_given (ends w x.0 x.1))) e ∙ then-given (λ t p. period_given (ends w t p)) (period w s) (instant_of t₁ t₂)
 
-  -- what the walk answers is the call's refusal, or its period
-  walked : (t : Instant) → instant_read (instant_of sec ns) ≡ R.At t → period_call w s sec ns ≡ (period w s (nanos t) >>= λ p. period_given (ends w (nanos t) p))
-  unfolding period_call
-  walked t e = rw (instant-read sec ns t e).means
-
-  pub call-refused : (t : Instant) → instant_read (instant_of sec ns) ≡ R.At t → {r r' : Found} → r ≡ r' → found_is r ≡ period w s (nanos t) → (n : ℕ) → found_is r' ≡ refuses n 0 → refuses n 0 ≡ period_call w s sec ns
-  call-refused t e p q n f = let z : period w s (nanos t) ≡ refuses n 0 = sym q ∙ ap found_is p ∙ f in sym (walked t e ∙ rw z)
-
-  pub call-found : (t : Instant) → instant_read (instant_of sec ns) ≡ R.At t → {r r' : Found} → r ≡ r' → found_is r ≡ period w s (nanos t) → (f e : ℕ) → found_is r' ≡ gives (block f e)
-      → {x : Answer Reply} → x ≡ period_given (ends w (nanos t) (block f e)) → x ≡ period_call w s sec ns
-  call-found t i p q f e u v = let z : period w s (nanos t) ≡ gives (block f e) = sym q ∙ ap found_is p ∙ u in v ∙ sym (walked t i ∙ rw z)
-
--- ---- the same with marks
-
--- a refusal as it is, and a period with its marks; its numbers are handed on
-pub refused-put : {r r' : PeriodAnswer} (m n : ℕ) → r ≡ r' → with_marks (period_is r') m n ≡ with_marks (period_is r) m n
-refused-put m n e = ap (λ x. with_marks (period_is x) m n) (sym e)
-
-pub marks-put : {r : PeriodAnswer} {a b c d p q x y : ℤ} (m n : ℕ) → r ≡ P.Is a b c d → p ≡ a → q ≡ b → x ≡ c → y ≡ d → gives (p ∷ q ∷ x ∷ y ∷ pos m ∷ pos n ∷ []) ≡ with_marks (period_is r) m n
-marks-put m n e f g h k = rw (e, f, g, h, k)
-
-module _ (w : Way) (s : model.Schedule) (sec ns : ℤ) where
-  pub marked-out : instant_read (instant_of sec ns) ≡ R.OutOfRange → refuses 8 0 ≡ marked_period_call w s sec ns
+  pub marked-walked : (a >>= λ x. gives (ends w x.0 x.1 ++ pos (start_of_period w s x.0 x.1) ∷ pos (end_of_period w s x.0 x.1) ∷ [])) ≡ marked_period_call w s t₁ t₂
   unfolding marked_period_call
-  marked-out e = rw (instant-refused sec ns e)
+  marked-walked =
+      ap (λ y. y >>= λ x. gives (ends w x.0 x.1 ++ pos (start_of_period w s x.0 x.1) ∷ pos (end_of_period w s x.0 x.1) ∷ [])) e
+      ∙ then-given (λ t p. ends w t p ++ pos (start_of_period w s t p) ∷ pos (end_of_period w s t p) ∷ []) (period w s) (instant_of t₁ t₂)
 
-  walked-marked : (t : Instant) → instant_read (instant_of sec ns) ≡ R.At t
-      → marked_period_call w s sec ns ≡ (period w s (nanos t) >>= λ p. gives (ends w (nanos t) p ++ pos (start_of_period w s (nanos t) p) ∷ pos (end_of_period w s (nanos t) p) ∷ []))
-  unfolding marked_period_call
-  walked-marked t e = rw (instant-read sec ns t e).means
+-- a period that is given with its marks
+module _ (w : Way) (s : model.Schedule) (t₁ t₂ : ℤ) {t : ℕ} {p : Block} (e : gives (t, p) ≡ walk_call w s t₁ t₂) where
+  pub marked-given : {l : List ℤ} {m n : ℕ} → l ≡ ends w t p → m ≡ start_of_period w s t p → n ≡ end_of_period w s t p → gives (l ++ pos m ∷ pos n ∷ []) ≡ marked_period_call w s t₁ t₂
+  marked-given q g h = rw (q, g, h) (marked-walked w s t₁ t₂ e)
 
-  pub marked_refused : (t : Instant) → instant_read (instant_of sec ns) ≡ R.At t → {r r' : Found} → r ≡ r' → found_is r ≡ period w s (nanos t) → (n : ℕ) → found_is r' ≡ refuses n 0 → refuses n 0 ≡ marked_period_call w s sec ns
-  marked_refused t e p q n f = let z : period w s (nanos t) ≡ refuses n 0 = sym q ∙ ap found_is p ∙ f in sym (walked-marked t e ∙ rw z)
+-- ---- the walk
 
-  pub marked-found : (t : Instant) → instant_read (instant_of sec ns) ≡ R.At t → {r r' : Found} → r ≡ r' → found_is r ≡ period w s (nanos t) → (f e : ℕ) → found_is r' ≡ gives (block f e)
-      → {x : Answer Reply} → x ≡ period_given (ends w (nanos t) (block f e)) → (m n : ℕ) → m ≡ start_of_period w s (nanos t) (block f e) → n ≡ end_of_period w s (nanos t) (block f e)
-      → {y : Answer (List ℤ)} → y ≡ with_marks x m n → y ≡ marked_period_call w s sec ns
-  marked-found t i p q f e u {x} v m n g h k =
-      let z : period w s (nanos t) ≡ gives (block f e) = sym q ∙ ap found_is p ∙ u in
-      k ∙ ap (λ a. with_marks a m n) v ∙ sym (walked-marked t i ∙ rw (z, ← g, ← h))
+module _ (w : Way) (s : model.Schedule) (t₁ t₂ : ℤ) where
+  pub walk-out : instant_of t₁ t₂ ≡ refuses 8 0 → refuses 8 0 ≡ walk_call w s t₁ t₂
+  walk-out e = rw e
+
+  pub walk-ends : {t : ℕ} → instant_of t₁ t₂ ≡ gives t → {a : Answer Block} → a ≡ period w s t → (a >>= λ p. gives (t, p)) ≡ walk_call w s t₁ t₂
+  walk-ends {t} i e = rw i (ap (λ a. a >>= λ p. gives (t, p)) e)
+
+-- the refusal of a search that does not reach a period
+pub search-is : (t : ℕ) (e : SearchError) → refuses (number_of (search_refused e).refusal) (search_refused e).place ≡ (found_is (Err e) >>= paired t)
+search-is t SearchError.NoWork = refl
+search-is t SearchError.RangeEnds = refl
 
 -- ---- a period written
 
-pub period-answer-is : (a b : Instant) → a.ns < second → b.ns < second → (p x q y : ℤ) → p ≡ seconds_from a.sec → x ≡ pos a.ns → q ≡ seconds_from b.sec → y ≡ pos b.ns
-    → period_given (p ∷ x ∷ q ∷ y ∷ []) ≡ period_given (instant (nanos a) ++ instant (nanos b))
-period-answer-is a b h k p x q y u m v n = rw (written_is a (nanos a) h refl, written_is b (nanos b) k refl, u, v, m, n)
-
-module _ (z : Bool) (t f e : ℕ) (a b : ℕ) {r : Answer Reply} where
+module _ (z : Bool) (t f e : ℕ) (a b : ℕ) {l m : List ℤ} (i : l ≡ instant a) (j : m ≡ instant b) where
   -- going on, from the nearer border to the further one
-  pub period-at-on : z ≡ false → a ≡ at (way_of z) t f → b ≡ at (way_of z) t e → r ≡ period_given (instant a ++ instant b) → r ≡ period_given (ends (way_of z) t (block f e))
-  period-at-on h p q u = let x : a ≡ t + f = rw h at p in let y : b ≡ t + e = rw h at q in rw h (rw (x, y) at u)
+  pub period-at-on : z ≡ false → a ≡ at (way_of z) t f → b ≡ at (way_of z) t e → l ++ m ≡ ends (way_of z) t (block f e)
+  period-at-on h p q = let x : a ≡ t + f = rw h at p in let y : b ≡ t + e = rw h at q in rw (h, ← x, ← y, i, j)
 
   -- going back, from the further border to the nearer one
-  pub period-at-back : z ≡ true → a ≡ at (way_of z) t e → b ≡ at (way_of z) t f → r ≡ period_given (instant a ++ instant b) → r ≡ period_given (ends (way_of z) t (block f e))
-  period-at-back h p q u = let x : a ≡ t - e = rw h at p in let y : b ≡ t - f = rw h at q in rw h (rw (x, y) at u)
+  pub period-at-back : z ≡ true → a ≡ at (way_of z) t f → b ≡ at (way_of z) t e → m ++ l ≡ ends (way_of z) t (block f e)
+  period-at-back h p q = let x : a ≡ t - f = rw h at p in let y : b ≡ t - e = rw h at q in rw (h, ← x, ← y, i, j)

@@ -1,35 +1,41 @@
--- What the answers of the calls mean: the values of document 01 in their order, or a refusal's number and place.
-use Rattle.std.specs.Prelude.{Bool, List, [], ◌∷◌, ◌++◌, ℕ, ℤ, pos}
+-- What the calls give, as numbers in the order of document 01, and what the walk for a period answers with its instant.
+use Rattle.std.specs.Prelude.{◌≡◌, Bool, List, [], ◌∷◌, ◌++◌, ℕ, ℤ, pos, Result, IfOk}
 use Rattle.std.proofs.Math.Option.{none}
-use Rattle.model.specs.Answer.{Answer, gives, refuses, ◌>>=◌}
+use Rattle.model.specs.Answer.{Answer, gives, ◌>>=◌}
+use Rattle.model.specs.Blocks.{Block, block}
 use Rattle.model.specs.Build.{build}
-use Rattle.model.specs.Calls.{Reply, said, period_call}
+use Rattle.model.specs.Calls.{Reply, period_call}
+use Rattle.model.specs.Instant.{instant_of}
+use Rattle.mark.specs.Marks.{mark_number}
 use Rattle.model.specs.Marks.{marked_period_call}
+use Rattle.model.specs.Walk.{Way, period}
+use Rattle.model.specs.Working as model
+use Rattle.instant.specs.Instant.{nanos, InRange}
+use Rattle.instant_signed.specs.Reads.{instant_numbers}
+use Rattle.refusal.specs.Answered.{answer_of}
+use Rattle.refusal.specs.declared.Refused.{Refused}
 use Rattle.rule.specs.declared.Schedule.{Schedule}
 use Rattle.rule.specs.Rules.{schedule_is}
 use Rattle.walk_distance.specs.Distances.{way_of}
-use Rattle.schedule_periods.specs.declared.PeriodAnswer.{PeriodAnswer}
-use Rattle.schedule_periods.specs.declared.PeriodAnswer.TheVariants as P
-use Rattle.schedule_periods.specs.declared.MarkedPeriodAnswer.{MarkedPeriodAnswer}
-use Rattle.schedule_periods.specs.declared.MarkedPeriodAnswer.TheVariants as M
+use Rattle.walk_period.specs.Found.{PeriodFits}
+use Rattle.schedule_periods.specs.declared.Period.{Period}
+use Rattle.schedule_periods.specs.declared.MarkedPeriod.{MarkedPeriod}
+use Rattle.schedule_periods.specs.declared.Walked.{Walked}
 
--- an answer with these numbers; a period tells no windows
-abbrev pub period_given : List ℤ → Answer Reply
-period_given l = gives (record { values = l; windows = none })
+-- a period's start and end, each as seconds and nanoseconds
+abbrev pub period_numbers : Period → List ℤ
+period_numbers p = instant_numbers p.start ++ instant_numbers p.end
 
--- an answer of `period_in`: a period's start and end, each as seconds and nanoseconds
-abbrev pub period_is : PeriodAnswer → Answer Reply
-period_is (P.Is a b c d) = period_given (a ∷ b ∷ c ∷ d ∷ [])
-period_is (P.Refused n k) = refuses n k
+-- a reply with these numbers; a period tells no windows
+abbrev pub period_given : List ℤ → Reply
+period_given l = record { values = l; windows = none }
 
--- the answer of `next_period` and `previous_period`: the same, then the marks of both
-abbrev pub marked_period_is : MarkedPeriodAnswer → Answer (List ℤ)
-marked_period_is (M.Is a b c d m n) = gives (a ∷ b ∷ c ∷ d ∷ pos m ∷ pos n ∷ [])
-marked_period_is (M.Refused n k) = refuses n k
+abbrev pub period_reply : Period → Reply
+period_reply p = period_given (period_numbers p)
 
--- a period's numbers, then two marks
-abbrev pub with_marks : Answer Reply → ℕ → ℕ → Answer (List ℤ)
-with_marks a m n = said a >>= λ l. gives (l ++ pos m ∷ pos n ∷ [])
+-- the same numbers, then the marks of both
+abbrev pub marked_numbers : MarkedPeriod → List ℤ
+marked_numbers p = period_numbers p.period ++ pos (mark_number p.marks.start) ∷ pos (mark_number p.marks.end) ∷ []
 
 -- `next_period` of the definitions goes on, `previous_period` back, of a schedule that is built; with marks `next_marked` and `previous_marked`
 abbrev pub period_asked : Bool → List ℕ → List ℕ → Schedule → ℤ → ℤ → Answer Reply
@@ -41,3 +47,20 @@ marked_asked back book pack s t₁ t₂ = marked_period_call (way_of back) (sche
 -- and of a book and a pack
 abbrev pub marked_of : Bool → List ℕ → List ℕ → ℤ → ℤ → Answer (List ℤ)
 marked_of back book pack t₁ t₂ = build book pack >>= λ s. marked_period_call (way_of back) s t₁ t₂
+
+-- ---- the walk
+
+-- an instant and the period that is walked to from it
+abbrev pub walk_call : Way → model.Schedule → ℤ → ℤ → Answer (ℕ × Block)
+walk_call w s t₁ t₂ =
+    instant_of t₁ t₂ >>= λ t.
+    period w s t >>= λ p.
+    gives (t, p)
+
+abbrev pub walked_is : Walked → ℕ × Block
+walked_is x = (nanos x.from, block (nanos x.near) (nanos x.far))
+
+-- r stands for the definitions' answer, and its distances lie in the range
+pub record WalksAs (book pack : List ℕ) (s : Schedule) (back : Bool) (t₁ t₂ : ℤ) (r : Result Walked Refused) : Type 0 where
+  pub means : answer_of walked_is r ≡ walk_call (way_of back) (schedule_is book pack s) t₁ t₂
+  pub fits : IfOk r (λ x. InRange x.from × PeriodFits (way_of back) (nanos x.from) x.near x.far)

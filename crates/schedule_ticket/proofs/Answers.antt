@@ -1,35 +1,39 @@
 -- The answers to a command: what is refused, what is accepted, and that the elapsed time fits.
-use Rattle.std.specs.Prelude.{if◌then◌else◌}
 use mathlib.Core.Path.{◌≡◌, refl, sym, ap, ◌∙◌}
-use mathlib.Core.Bool.{Bool, true, false, not, ◌&&◌}
+use mathlib.Core.Bool.{true, false}
 use mathlib.Core.Option.{Option, none, some}
-use Prim.Native.Nat.{ℕ, zero, suc, ◌+◌, ◌*◌, ◌-◌, ◌≤◌, ◌<◌}
+use Prim.Native.Nat.{ℕ, ◌+◌, ◌-◌, ◌≤◌, ◌<◌}
 use native.Mathlib.Omega.{arith}
-use lib.Dec.{leb, ltb, eqb}
-use borrow.Author.Tests.{leb-true, ltb-true, le-leb, lt-leb, lt-ltb, le-ltb, ltb-false, eq-eqb, ne_eqb}
+use lib.Dec.{leb, ltb}
+use borrow.Author.Tests.{leb-true, ltb-true, le-leb, lt-leb, lt-ltb, ltb-false, eq-eqb, ne_eqb}
 use lib.IntN.{ℤ}
-use Rattle.model.specs.Basic.{need, any}
+use Rattle.model.specs.Basic.{any}
 use Rattle.model.specs.Instant.{second, first_instant, last_instant, instant_of}
-use Rattle.model.specs.Answer.{Answer, gives, refuses, ◌>>=◌, or_refuse}
+use Rattle.model.specs.Answer.{Answer, gives, refuses}
 use Rattle.model.specs.Working.{Schedule}
-use Rattle.model.specs.Walk.{begun, time_from, time_between}
-use Rattle.model_ticket.specs.History.{names, mark, back}
+use Rattle.model.specs.Walk.{time_from, time_between}
+use Rattle.model_ticket.specs.History.{names}
 use Rattle.model_ticket.specs.Ticket as model
 use Rattle.model_ticket.specs.Ticket.{Told, time_at, may_follow, next_ticket, command_call}
 use Rattle.laws_base.specs.Test.{by-test, clash, and_both, both-and}
 use Rattle.laws_skip.specs.Schedules.{time-most}
+use Rattle.refusal.specs.declared.Refusal.{Refusal}
+use Rattle.refusal.specs.declared.Refused.{Refused}
+use Rattle.refusal.specs.Refused.{number_of}
 use Rattle.instant.specs.Instant.{nanos, Exact, InRange, most}
 use Rattle.instant.specs.declared.Instant.{Instant}
 use Rattle.walk_between.specs.Sums.{Interval}
 use Rattle.ticket_marks.specs.Marks.{marks_in, has_name, is_within}
 use Rattle.ticket_marks.specs.Laws.{within-later, named-any}
 use Rattle.ticket.specs.declared.Ticket.{Ticket}
+use Rattle.ticket.specs.declared.State.{State}
+use Rattle.ticket.specs.declared.State.TheVariants.{New, Running, Held}
 use Rattle.ticket.specs.declared.Action.{Action}
 use Rattle.ticket.specs.declared.Action.TheVariants as A
-use Rattle.ticket.specs.Tickets.{action_is, is_sound, standing, ticket_is, Begun, Goes, Becomes}
-use Rattle.ticket.specs.Sound.{sound-facts, facts, done-then, nothing-within, begun-is, no-ticket, new_is, begin-start}
+use Rattle.ticket.specs.Tickets.{action_is, is_sound, is_new, is_running, standing, ticket_is, Begun, Goes, Becomes}
+use Rattle.ticket.specs.Sound.{sound-facts, facts, done-then, begun-is, no-ticket, new_is, begin-start}
 use Rattle.schedule_ticket.specs.declared.TicketAnswer.{TicketAnswer}
-use Rattle.schedule_ticket.specs.Told.{answer_is, AsTold, Accepts, Elapsed, next_told, TellsFirst}
+use Rattle.schedule_ticket.specs.Told.{AsTold, Accepts, Elapsed, next_told, TellsFirst}
 
 -- ---- answers
 
@@ -41,13 +45,32 @@ pub no-time-within : is_within no_time last_instant ≡ true
 unfolding is_within
 no-time-within = refl
 
-pub is-refused : (k : Ticket) (number place : ℕ) → 1 ≤ number → AsTold k (refuses number place) (record { number = number; place = place; time = no_time; ticket = k })
+is-refused : (k : Ticket) (number place : ℕ) → 1 ≤ number → AsTold k (refuses number place) (record { number = number; place = place; time = no_time; ticket = k })
 is-refused k number place h = record {
   told = rw (ne_eqb number 0 (λ e. omega arith));
   kept = λ _. refl;
   begun = λ e. absurd (omega arith);
   within = no-time-within;
 }
+
+some-number : (r : Refusal) → 1 ≤ number_of r
+some-number Refusal.BookLayout = omega arith
+some-number Refusal.BookLimit = omega arith
+some-number Refusal.PackLayout = omega arith
+some-number Refusal.UnknownZone = omega arith
+some-number Refusal.ZoneUnusable = omega arith
+some-number Refusal.NoWorkingTime = omega arith
+some-number Refusal.OutOfRange = omega arith
+some-number Refusal.InstantOutOfRange = omega arith
+some-number Refusal.DurationMalformed = omega arith
+some-number Refusal.TooFewNumbers = omega arith
+some-number Refusal.LogMalformed = omega arith
+some-number Refusal.WidthOutOfRange = omega arith
+some-number Refusal.EarlierInstant = omega arith
+some-number Refusal.NotAllowed = omega arith
+
+pub refused-is : (k : Ticket) (r : Refused) {n : ℕ} → n ≡ number_of r.refusal → AsTold k (refuses (number_of r.refusal) r.place) (record { number = n; place = r.place; time = no_time; ticket = k })
+refused-is k r e = rw e (is-refused k (number_of r.refusal) r.place (some-number r.refusal))
 
 pub is-accepted :
     (k : Ticket) (time : Instant) → Begun k → is_within time last_instant ≡ true →
@@ -82,8 +105,8 @@ spell k t g = let o = (facts k t g).ordered in let l = g.later in record { start
 
 module _ (s : Schedule) (k : Ticket) (t : Instant) (g : Goes k t) where
   -- the ticket is held
-  pub elapsed-held : (k.state ≡ 1 → ⊥) → Elapsed s k t k.done
-  elapsed-held n = record { time = rw (ne_eqb k.state 1 n) (omega arith); within = done-then k t g }
+  pub elapsed-held : is_running k.state ≡ false → Elapsed s k t k.done
+  elapsed-held n = record { time = rw n (omega arith); within = done-then k t g }
 
   done-parts : (k.done.ns < second) × (nanos k.done ≤ nanos k.since - first_instant)
   unfolding is_within
@@ -107,10 +130,10 @@ module _ (s : Schedule) (k : Ticket) (t : Instant) (g : Goes k t) where
     pub sum_fits : Exact x → Exact k.done × Exact x × (nanos k.done + nanos x < most)
     sum_fits q = let w = sum-within in let h = g.in-range.high in let n = g.in-range.ns in (done-parts.0, q, omega arith)
 
-    pub elapsed-running : (r : Instant) → k.state ≡ 1 → nanos r ≡ nanos k.done + nanos x → Exact r → Elapsed s k t r
+    pub elapsed-running : (r : Instant) → is_running k.state ≡ true → nanos r ≡ nanos k.done + nanos x → Exact r → Elapsed s k t r
     unfolding is_within
     elapsed-running r n f q = record {
-      time = rw (eq-eqb k.state 1 n, ← e) f;
+      time = rw (n, ← e) f;
       within = (let w = sum-within in both-and _ _ (lt-ltb r.ns second q) (le-leb (nanos r) (nanos t - first_instant) (omega arith)));
     }
 
@@ -181,12 +204,13 @@ module _ (s : Schedule) (k : Ticket) (a : Action) (t : Instant) (r : TicketAnswe
 -- ---- a command, in the order of refusals
 
 -- what the tests tell of the ticket
-pub begun-by : (k : Ticket) → (k.state ≡ 0 → ⊥) → is_sound k ≡ true → Begun k
-begun-by k n e = record { not_new = above k.state n; sound = e }
-  where
-    above : (m : ℕ) → (m ≡ 0 → ⊥) → 1 ≤ m
-    above zero n = absurd (n refl)
-    above (suc m) n = omega arith
+pub begun-by : (k : Ticket) → is_new k.state ≡ false → is_sound k ≡ true → Begun k
+begun-by k n e = record { not_new = n; sound = e }
+
+new-by : (state : State) → is_new state ≡ true → state ≡ New
+new-by New e = refl
+new-by Running e = clash false e refl
+new-by Held e = clash false e refl
 
 pub goes_by : (k : Ticket) (t : Instant) → Begun k → InRange t → ltb (nanos t) (nanos k.last) ≡ false → Goes k t
 goes_by k t b r l = record { begun = b; in-range = r; later = ltb-false (nanos t) (nanos k.last) l }
@@ -201,13 +225,13 @@ module _ (s : Schedule) (k : Ticket) (a : Action) (t₁ t₂ : ℤ) (r : TicketA
       at_once (some j) = rw e
 
   module _ (t : Instant) (e : instant_of t₁ t₂ ≡ gives (nanos t)) where
-    pub command-first : k.state ≡ 0 → TellsFirst k a t r → AsTold k (command_call s (ticket_is k) (action_is a) t₁ t₂) r
+    pub command-first : is_new k.state ≡ true → TellsFirst k a t r → AsTold k (command_call s (ticket_is k) (action_is a) t₁ t₂) r
     unfolding command_call
-    command-first n x = told-as k _ _ r (rw (new_is k n, e, le-leb 0 (nanos t) (omega arith))) (x s)
+    command-first n x = told-as k _ _ r (rw (new_is k (new-by k.state n), e, le-leb 0 (nanos t) (omega arith))) (x s)
 
-    pub command-none : (k.state ≡ 0 → ⊥) → is_sound k ≡ false → AsTold k (refuses 14 0) r → AsTold k (command_call s (ticket_is k) (action_is a) t₁ t₂) r
+    pub command-none : is_new k.state ≡ false → is_sound k ≡ false → AsTold k (refuses 14 0) r → AsTold k (command_call s (ticket_is k) (action_is a) t₁ t₂) r
     unfolding command_call
-    command-none n f x = told-as k _ _ r (rw (no-ticket k n f, e)) x
+    command-none n f x = told-as k _ _ r (rw (no-ticket k (λ q. clash (is_new k.state) (ap is_new q) n) f, e)) x
 
     module _ (b : Begun k) where
       pub command-earlier : ltb (nanos t) (nanos k.last) ≡ true → AsTold k (refuses 13 0) r → AsTold k (command_call s (ticket_is k) (action_is a) t₁ t₂) r

@@ -9,15 +9,16 @@ ghost use Rattle.model.specs.Instant.{last_instant};
 ghost use Rattle.model_ticket.specs.History as commands;
 ghost use Rattle.model_ticket.specs.Ticket as model;
 ghost use Rattle.instant.specs.Instant.{nanos, InRange};
+ghost use Rattle.refusal.specs.Refused.{number_of};
 ghost use Rattle.rule.specs.Rules.{schedule_is, ScheduleFits};
 ghost use Rattle.ticket_marks.specs.Marks.{is_within};
 ghost use Rattle.ticket.specs.Tickets.{action_is, standing, ticket_is, Begun, Goes};
 ghost use Rattle.schedule_ticket.specs.Told.{AsTold, Accepts, Elapsed, next_told, TellsFirst, command_with};
 
 use instant::{Instant, Length};
-use instant_signed::InstantRead;
+use refusal::{Refusal, Refused};
 use rule::Schedule;
-use ticket::{Action, Ticket};
+use ticket::{Action, State, Ticket};
 
 // What a command answers. The number is 0 where it was accepted; then the time is what has elapsed, and the ticket the one from then on. Else they are a refusal's
 // number and place, no time, and the ticket as it was.
@@ -30,14 +31,13 @@ pub struct TicketAnswer {
 }
 
 // A refusal; the ticket stays.
-fn refused(k: Ticket, number: u32, place: usize) -> TicketAnswer
-    requires { 1 ≤ number }
-    ensures { AsTold k (refuses number place) result }
+fn refused(k: Ticket, r: Refused) -> TicketAnswer
+    ensures { AsTold k (refuses (number_of r.refusal) r.place) result }
 {
     let time = Length { sec: 0, ns: 0 };
     TicketAnswer {
-        number,
-        place,
+        number: r.refusal.number(),
+        place: r.place,
         time,
         ticket: k,
     }
@@ -62,7 +62,7 @@ fn elapsed(book: &[u8], pack: &[u8], s: Schedule, k: Ticket, t: Instant) -> Leng
     ensures { Elapsed (schedule_is book.now pack.now s) k t result }
 {
     let done = k.done;
-    if k.state != ticket::RUNNING {
+    if k.state != State::Running {
         return done;
     }
     let since = k.since;
@@ -113,7 +113,13 @@ fn first(k: Ticket, a: Action, t: Instant) -> TicketAnswer
     ensures { TellsFirst k a t result }
 {
     if !ticket::may_begin(a) {
-        return refused(k, refusal::NOT_ALLOWED, 0);
+        return refused(
+            k,
+            Refused {
+                refusal: Refusal::NotAllowed,
+                place: 0,
+            },
+        );
     }
     start(t)
 }
@@ -131,21 +137,45 @@ pub fn command_in(
     requires { ScheduleFits book.now pack.now s }
     ensures { AsTold k (command_with book.now pack.now s k a «sec» «ns») result }
 {
-    let InstantRead::At(t) = instant_signed::instant_of(sec, ns) else {
-        return refused(k, refusal::INSTANT_OUT_OF_RANGE, 0);
+    let Some(t) = instant_signed::instant_of(sec, ns) else {
+        return refused(
+            k,
+            Refused {
+                refusal: Refusal::InstantOutOfRange,
+                place: 0,
+            },
+        );
     };
-    if k.state == ticket::NEW {
+    if k.state == State::New {
         return first(k, a, t);
     }
     if !ticket::is_ticket(k) {
-        return refused(k, refusal::NOT_ALLOWED, 0);
+        return refused(
+            k,
+            Refused {
+                refusal: Refusal::NotAllowed,
+                place: 0,
+            },
+        );
     }
     let last = k.last;
     if instant::precedes(t, last) {
-        return refused(k, refusal::EARLIER_INSTANT, 0);
+        return refused(
+            k,
+            Refused {
+                refusal: Refusal::EarlierInstant,
+                place: 0,
+            },
+        );
     }
     if !ticket::may_follow(k, a) {
-        return refused(k, refusal::NOT_ALLOWED, 0);
+        return refused(
+            k,
+            Refused {
+                refusal: Refusal::NotAllowed,
+                place: 0,
+            },
+        );
     }
     follow(book, pack, s, k, a, t)
 }
@@ -154,10 +184,8 @@ pub fn command_in(
 pub fn command(book: &[u8], pack: &[u8], k: Ticket, a: Action, sec: i64, ns: i64) -> TicketAnswer
     ensures { AsTold k (model.command book.now pack.now (ticket_is k) (action_is a) «sec» «ns») result }
 {
-    let built = build::build(book, pack);
-    if built.number != 0 {
-        return refused(k, built.number, built.place);
+    match build::build(book, pack) {
+        Ok(s) => command_in(book, pack, s, k, a, sec, ns),
+        Err(r) => refused(k, r),
     }
-    let s = built.schedule;
-    command_in(book, pack, s, k, a, sec, ns)
 }

@@ -3,18 +3,15 @@
 // and the window's start) and a log. Writes a line for each question whose answer differs, and at the end how many questions there were.
 #![tactic(auto)]
 
-ghost use Rattle.std.specs.Prelude.{◌≡◌, ◌≤◌, ◌<◌, length};
+ghost use Rattle.std.specs.Prelude.{◌≡◌, ◌<◌, length};
 ghost use Rattle.big_endian.specs.Be.{be32, four_bytes};
-ghost use Rattle.test_cases.specs.Cases.{longest_file};
 ghost use Rattle.test_replay_hardest.specs.Compared.{refusal_at, is_stretch, is_expected};
 
 use anyhow::{Context, Result};
-use schedule_hardest::HardestAnswer;
-use std::io;
-use test_cases::{LONGEST, Seen};
-
-// The parts of a case: 0 the book, 1 the pack, 2 the questions.
-const PARTS: usize = 3;
+use refusal::Refused;
+use schedule_hardest::HardestStretch;
+use std::result;
+use test_cases::{Asked, LONGEST};
 
 // The most numbers that a log of the file has.
 const MOST_NUMBERS: usize = 8194;
@@ -50,35 +47,25 @@ fn refusal_of(q: &[u8]) -> usize
 }
 
 // Is a stretch expected, with this duration and this start?
-fn is_stretch(q: &[u8], d_sec: i64, d_ns: i64, start_sec: i64, start_ns: i64) -> bool
-    ensures { result ≡ is_stretch q.now d_sec d_ns start_sec start_ns }
+#[tactic(auto, unfolding(crate::specs::Compared::is_stretch))]
+fn is_stretch(q: &[u8], h: HardestStretch) -> bool
+    ensures { result ≡ is_stretch q.now h }
 {
-    if refusal_of(q) != 0 {
-        return false;
-    }
-    if !test_cases::is_stored(q, DURATION_SEC, d_sec) {
-        return false;
-    }
-    if !test_cases::is_stored(q, DURATION_NS, d_ns) {
-        return false;
-    }
-    if !test_cases::is_stored(q, START_SEC, start_sec) {
-        return false;
-    }
-    test_cases::is_stored(q, START_NS, start_ns)
+    refusal_of(q) == 0
+        && test_cases::is_stored(q, DURATION_SEC, h.time.secs)
+        && test_cases::is_stored(q, DURATION_NS, h.time.nanos)
+        && test_cases::is_stored(q, START_SEC, h.start.sec)
+        && test_cases::is_stored(q, START_NS, h.start.ns)
 }
 
 // Is the answer the one that is expected?
-fn is_expected(q: &[u8], answer: HardestAnswer) -> bool
+#[tactic(auto, unfolding(crate::specs::Compared::is_expected))]
+fn is_expected(q: &[u8], answer: result::Result<HardestStretch, Refused>) -> bool
     ensures { result ≡ is_expected q.now answer }
 {
     match answer {
-        HardestAnswer::Is(d_sec, d_ns, start_sec, start_ns) => {
-            is_stretch(q, d_sec, d_ns, start_sec, start_ns)
-        }
-        HardestAnswer::Refused(number, place) => {
-            test_cases::is_refusal(q, REFUSAL, number, place)
-        },
+        Ok(stretch) => is_stretch(q, stretch),
+        Err(refused) => test_cases::is_refusal(q, REFUSAL, refused),
     }
 }
 
@@ -91,21 +78,12 @@ fn count_of(q: &[u8]) -> usize
     big_endian::size_at(q, COUNT)
 }
 
-// How long question q is.
-fn length_of(q: &[u8]) -> usize
-    ensures { (0 < result) × (result < 1000000000000) }
-{
-    LOG + 8 * count_of(q)
-}
-
 // The numbers of the log of question q, as many as are lent.
 fn read_log(q: &[u8], numbers: &mut [i64])
     requires { length numbers.old < four_bytes }
 {
-    let mut i: usize = 0;
-    while i < numbers.len() {
-        numbers[i] = test_cases::signed_at(q, LOG + 8 * i);
-        i += 1;
+    for (i, number) in numbers.iter_mut().enumerate() {
+        *number = test_cases::signed_at(q, LOG + 8 * i);
     }
 }
 
@@ -125,94 +103,35 @@ fn asked(book: &[u8], pack: &[u8], q: &[u8], numbers: &mut [i64]) -> bool
     is_expected(q, answer)
 }
 
-// The same with as many of the numbers lent as the log has.
-fn agrees(book: &[u8], pack: &[u8], q: &[u8], numbers: &mut [i64]) -> bool {
-    let n = count_of(q);
-    if numbers.len() < n {
-        return false;
-    }
-    asked(book, pack, q, &mut numbers[..n])
+// The numbers that are lent for a log.
+#[derive(Drop)]
+struct Lent {
+    numbers: [i64; MOST_NUMBERS],
 }
 
-// Asks question q and counts it.
-fn ask<P: Print>(
-    rt: &P,
-    book: &[u8],
-    pack: &[u8],
-    q: &[u8],
-    seen: Seen,
-    numbers: &mut [i64],
-) -> io::Result<Seen> {
-    if !agrees(book, pack, q, numbers) {
-        return test_cases::different(rt, seen, b"stretch");
+impl Asked for Lent {
+    fn length_of(q: &[u8]) -> usize {
+        LOG + 8 * count_of(q)
     }
-    Ok(test_cases::equal(seen, refusal_of(q)))
-}
 
-// Asks all questions.
-fn ask_all<P: Print>(
-    rt: &P,
-    book: &[u8],
-    pack: &[u8],
-    questions: &[u8],
-    seen: Seen,
-    numbers: &mut [i64],
-) -> io::Result<Seen>
-    requires { length questions.now ≤ longest_file }
-{
-    let mut r = seen;
-    let mut at: usize = 0;
-    while at < questions.len() {
-        let q = big_endian::part(questions, at, LONGEST);
-        r = ask(rt, book, pack, q, r, numbers)?;
-        at += length_of(q);
+    fn refusal_of(q: &[u8]) -> usize {
+        refusal_of(q)
     }
-    Ok(r)
-}
 
-// ---- the file of cases
-
-// Asks the questions of the case at the place at.
-fn ask_case<P: Print>(
-    rt: &P,
-    file: &[u8],
-    at: usize,
-    seen: Seen,
-    numbers: &mut [i64],
-) -> io::Result<Seen>
-    requires { (length file.now ≤ longest_file) × (at ≤ longest_file) }
-{
-    let book = test_cases::part_of(file, PARTS, at, 0);
-    let pack = test_cases::part_of(file, PARTS, at, 1);
-    let questions = test_cases::part_of(file, PARTS, at, 2);
-    ask_all(
-        rt,
-        book,
-        pack,
-        questions,
-        test_cases::next_case(seen),
-        numbers,
-    )
-}
-
-// Asks the questions of all cases of a file.
-fn ask_file<P: Print>(rt: &P, file: &[u8], numbers: &mut [i64]) -> io::Result<Seen>
-    requires { length file.now ≤ longest_file }
-{
-    let mut seen = test_cases::nothing();
-    let mut at: usize = 0;
-    while at < file.len() {
-        seen = ask_case(rt, file, at, seen, numbers)?;
-        at = test_cases::place_of(file, PARTS, at, PARTS);
+    // Of the numbers are lent as many as the log has.
+    fn agrees(&mut self, book: &[u8], pack: &[u8], q: &[u8]) -> bool {
+        let n = count_of(q);
+        n <= MOST_NUMBERS && asked(book, pack, q, &mut self.numbers[..n])
     }
-    Ok(seen)
 }
 
 fn main(rt: HostRuntime) -> Result<()> {
     let mut buffer = [0u8; LONGEST];
     let n = test_cases::load(&rt, "hardest.bin", &mut buffer).context("hardest.bin")?;
-    let mut numbers = [0i64; MOST_NUMBERS];
-    let seen = ask_file(&rt, &buffer[..n], &mut numbers)?;
-    test_cases::tell(&rt, seen, b"answers")?;
+    let mut lent = Lent {
+        numbers: [0; MOST_NUMBERS],
+    };
+    let seen = test_cases::ask_file(&rt, &buffer[..n], &mut lent, b"stretch")?;
+    seen.tell(&rt, b"answers")?;
     Ok(())
 }

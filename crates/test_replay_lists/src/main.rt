@@ -4,31 +4,28 @@
 // for each question whose answer differs, and at the end how many questions there were.
 #![tactic(auto)]
 
-ghost use Rattle.std.specs.Prelude.{◌≡◌, ◌+◌, ◌*◌, ◌-◌, ◌≤◌, ◌<◌, length};
+ghost use Rattle.std.specs.Prelude.{◌≡◌, ◌-◌, ◌≤◌, ◌<◌, length};
 ghost use Rattle.big_endian.specs.Walk.{all_from};
-ghost use Rattle.test_cases.specs.Cases.{longest_file};
 ghost use Rattle.test_replay_lists.specs.Compared.{is_mark, is_stored};
 
 use anyhow::{Context, Result};
-use schedule_listing::Listing;
-use std::io;
-use test_cases::{LONGEST, Seen};
+use refusal::Refused;
+use test_cases::{Asked, LONGEST};
 
-// The parts of a case: 0 the book, 1 the pack, 2 the questions.
-const PARTS: usize = 3;
+// The most numbers that a question lends.
+const MOST_NUMBERS: usize = 2048;
 
 // ---- the lent numbers
 
 // Every number gets its mark: its place less 2^63.
 fn mark(out: &mut [i64]) {
-    let mut i: usize = 0;
-    while i < out.len() {
-        out[i] = instant_signed::lower(i as u64);
-        i += 1;
+    for (i, number) in out.iter_mut().enumerate() {
+        *number = instant_signed::lower(i as u64);
     }
 }
 
 // Does number i have its mark?
+#[tactic(auto, unfolding(crate::specs::Compared::is_mark))]
 fn marked_at(out: &[i64], i: usize) -> bool
     requires { i < length out.now }
     ensures { result ≡ is_mark out.now i }
@@ -40,17 +37,16 @@ fn marked_at(out: &[i64], i: usize) -> bool
 fn marked_from(out: &[i64], from: usize) -> bool
     ensures { result ≡ all_from (is_mark out.now) from (length out.now - from) }
 {
-    let mut i = from;
-    while i < out.len() {
+    for i in from..out.len() {
         if !marked_at(out, i) {
             return false;
         }
-        i += 1;
     }
     true
 }
 
 // Is number i the one that question q has?
+#[tactic(auto, unfolding(crate::specs::Compared::is_stored))]
 fn stored_at(out: &[i64], q: &[u8], i: usize) -> bool
     requires { (i < length out.now) × (i < 4294967296) }
     ensures { result ≡ is_stored out.now q.now i }
@@ -63,12 +59,10 @@ fn stored_to(out: &[i64], q: &[u8], n: usize) -> bool
     requires { (n ≤ length out.now) × (n < 4294967296) }
     ensures { result ≡ all_from (is_stored out.now q.now) 0 n }
 {
-    let mut i: usize = 0;
-    while i < n {
+    for i in 0..n {
         if !stored_at(out, q, i) {
             return false;
         }
-        i += 1;
     }
     true
 }
@@ -93,31 +87,18 @@ fn count_of(q: &[u8]) -> usize
 }
 
 // Is the refusal the one that is expected, and has no number changed?
-fn is_refused(out: &[i64], q: &[u8], number: u32, place: usize) -> bool {
-    if !test_cases::is_refusal(q, 36, number, place) {
-        return false;
-    }
-    marked_from(out, 0)
+fn is_refused(out: &[i64], q: &[u8], refused: Refused) -> bool {
+    test_cases::is_refusal(q, 36, refused) && marked_from(out, 0)
 }
 
 // Are the stretches those that are expected, and have the numbers behind them not changed?
 fn is_given(out: &[i64], q: &[u8], count: usize) -> bool {
-    if 0 < refusal_of(q) {
-        return false;
-    }
-    if count != count_of(q) {
-        return false;
-    }
-    if out.len() / 4 < count {
-        return false;
-    }
-    if 1000000000 < count {
-        return false;
-    }
-    if !stored_to(out, q, 4 * count) {
-        return false;
-    }
-    marked_from(out, 4 * count)
+    refusal_of(q) == 0
+        && count == count_of(q)
+        && count <= out.len() / 4
+        && count <= 1000000000
+        && stored_to(out, q, 4 * count)
+        && marked_from(out, 4 * count)
 }
 
 // Asks question q with these numbers lent. Is the answer the one that is expected?
@@ -133,102 +114,43 @@ fn asked(book: &[u8], pack: &[u8], q: &[u8], out: &mut [i64]) -> bool {
         out,
     );
     match r {
-        Listing::Count(count) => is_given(out, q, count),
-        Listing::Refused(number, place) => is_refused(out, q, number, place),
+        Ok(count) => is_given(out, q, count),
+        Err(refused) => is_refused(out, q, refused),
     }
 }
 
-// The same with as many of the numbers lent as the question says.
-fn agrees(book: &[u8], pack: &[u8], q: &[u8], out: &mut [i64]) -> bool {
-    let n = room_of(q);
-    if out.len() < n {
-        return false;
-    }
-    asked(book, pack, q, &mut out[..n])
+// The numbers that are lent for the listings.
+#[derive(Drop)]
+struct Lent {
+    numbers: [i64; MOST_NUMBERS],
 }
 
-// How long the question is.
-fn length_of(q: &[u8]) -> usize
-    ensures { (0 < result) × (result < 1000000000000) }
-{
-    if 0 < refusal_of(q) {
-        return 44;
+impl Asked for Lent {
+    fn length_of(q: &[u8]) -> usize {
+        if 0 < refusal_of(q) {
+            return 44;
+        }
+        44 + 32 * count_of(q)
     }
-    44 + 32 * count_of(q)
-}
 
-// Asks question q and counts it.
-fn ask<P: Print>(
-    rt: &P,
-    book: &[u8],
-    pack: &[u8],
-    q: &[u8],
-    seen: Seen,
-    out: &mut [i64],
-) -> io::Result<Seen> {
-    if !agrees(book, pack, q, out) {
-        return test_cases::different(rt, seen, b"listing");
+    fn refusal_of(q: &[u8]) -> usize {
+        refusal_of(q)
     }
-    Ok(test_cases::equal(seen, refusal_of(q)))
-}
 
-// Asks all questions.
-fn ask_all<P: Print>(
-    rt: &P,
-    book: &[u8],
-    pack: &[u8],
-    questions: &[u8],
-    seen: Seen,
-    out: &mut [i64],
-) -> io::Result<Seen>
-    requires { length questions.now ≤ longest_file }
-{
-    let mut r = seen;
-    let mut at: usize = 0;
-    while at < questions.len() {
-        let q = big_endian::part(questions, at, LONGEST);
-        r = ask(rt, book, pack, q, r, out)?;
-        at += length_of(q);
+    // Of the numbers are lent as many as the question says.
+    fn agrees(&mut self, book: &[u8], pack: &[u8], q: &[u8]) -> bool {
+        let n = room_of(q);
+        n <= MOST_NUMBERS && asked(book, pack, q, &mut self.numbers[..n])
     }
-    Ok(r)
-}
-
-// ---- the file of cases
-
-// Asks the questions of the case at the place at.
-fn ask_case<P: Print>(
-    rt: &P,
-    file: &[u8],
-    at: usize,
-    seen: Seen,
-    out: &mut [i64],
-) -> io::Result<Seen>
-    requires { (length file.now ≤ longest_file) × (at ≤ longest_file) }
-{
-    let book = test_cases::part_of(file, PARTS, at, 0);
-    let pack = test_cases::part_of(file, PARTS, at, 1);
-    let questions = test_cases::part_of(file, PARTS, at, 2);
-    ask_all(rt, book, pack, questions, test_cases::next_case(seen), out)
-}
-
-// Asks the questions of all cases of a file.
-fn ask_file<P: Print>(rt: &P, file: &[u8], out: &mut [i64]) -> io::Result<Seen>
-    requires { length file.now ≤ longest_file }
-{
-    let mut seen = test_cases::nothing();
-    let mut at: usize = 0;
-    while at < file.len() {
-        seen = ask_case(rt, file, at, seen, out)?;
-        at = test_cases::place_of(file, PARTS, at, PARTS);
-    }
-    Ok(seen)
 }
 
 fn main(rt: HostRuntime) -> Result<()> {
     let mut buffer = [0u8; LONGEST];
     let n = test_cases::load(&rt, "lists.bin", &mut buffer).context("lists.bin")?;
-    let mut out = [0i64; 2048];
-    let seen = ask_file(&rt, &buffer[..n], &mut out)?;
-    test_cases::tell(&rt, seen, b"listings")?;
+    let mut lent = Lent {
+        numbers: [0; MOST_NUMBERS],
+    };
+    let seen = test_cases::ask_file(&rt, &buffer[..n], &mut lent, b"listing")?;
+    seen.tell(&rt, b"listings")?;
     Ok(())
 }

@@ -1,5 +1,5 @@
 -- What is asked of an answer: it is the one that the question has.
-use Rattle.std.specs.Prelude.{Bool, List, ℕ, ◌+◌, eqb, ℤ, pos}
+use Rattle.std.specs.Prelude.{Bool, List, ℕ, ◌+◌, eqb, ℤ, pos, Result, Ok, Err}
 use Rattle.model.specs.Bytes.{lifted}
 use Rattle.big_endian.specs.Be.{be32, be64}
 use Rattle.big_endian.specs.Walk.{both}
@@ -7,10 +7,11 @@ use Rattle.instant.specs.declared.Instant.{Instant}
 use Rattle.instant_signed.specs.Signed.{biased}
 use Rattle.instant_signed.specs.Reads.{seconds_from}
 use Rattle.test_cases.specs.Cases.{is_refusal_at}
-use Rattle.zone_calls.specs.declared.ResolveAnswer.{ResolveAnswer}
-use Rattle.zone_calls.specs.declared.ResolveAnswer.TheVariants as R
-use Rattle.schedule_periods.specs.declared.MarkedPeriodAnswer.{MarkedPeriodAnswer}
-use Rattle.schedule_periods.specs.declared.MarkedPeriodAnswer.TheVariants as P
+use Rattle.mark.specs.Marks.{mark_number}
+use Rattle.refusal.specs.declared.Refused.{Refused}
+use Rattle.refusal.specs.Refused.{number_of}
+use Rattle.zone_calls.specs.declared.ResolvedTime.{ResolvedTime}
+use Rattle.schedule_periods.specs.declared.MarkedPeriod.{MarkedPeriod}
 
 -- where the answer's numbers stand in a question: the refusal; an instant and its mark; a period's start, its end and their marks
 abbrev pub refusal_place : ℕ
@@ -55,21 +56,21 @@ abbrev pub is_given : List ℕ → Bool
 is_given q = eqb (be32 q refusal_place) 0
 
 -- no refusal is expected, and the instant of a local time and its mark are those that the question has
-unfoldable pub is_resolved : List ℕ → ℤ → ℤ → ℕ → Bool
-is_resolved q s n m = both (is_given q) (both (is_pair_at q resolved_place s n) (is_mark_at q resolved_mark_place m))
+unfoldable pub is_resolved : List ℕ → ResolvedTime → Bool
+is_resolved q r = both (is_given q) (both (is_pair_at q resolved_place r.at.sec r.at.ns) (is_mark_at q resolved_mark_place (mark_number r.mark)))
 
 -- no refusal is expected, and a period's start, its end and the marks of both are those that the question has
-unfoldable pub is_marked_period : List ℕ → ℤ → ℤ → ℤ → ℤ → ℕ → ℕ → Bool
-is_marked_period q a b c d m n =
+unfoldable pub is_marked_period : List ℕ → MarkedPeriod → Bool
+is_marked_period q p =
     both (is_given q)
-    (both (is_pair_at q period_start_place a b) (both (is_pair_at q period_end_place c d) (both (is_mark_at q start_mark_place m) (is_mark_at q end_mark_place n))))
+    (both (is_pair_at q period_start_place p.period.start.sec p.period.start.ns) (both (is_pair_at q period_end_place p.period.end.sec p.period.end.ns) (both (is_mark_at q start_mark_place (mark_number p.marks.start)) (is_mark_at q end_mark_place (mark_number p.marks.end)))))
 
 -- the answer of `resolve_in` is the one that the question has
-unfoldable pub is_resolve_answer : List ℕ → ResolveAnswer → Bool
-is_resolve_answer q (R.At s n m) = is_resolved q s n m
-is_resolve_answer q (R.Refused number place) = is_refusal_at q refusal_place number place
+unfoldable pub is_resolve_answer : List ℕ → Result ResolvedTime Refused → Bool
+is_resolve_answer q (Ok r) = is_resolved q r
+is_resolve_answer q (Err r) = is_refusal_at q refusal_place (number_of r.refusal) r.place
 
 -- the answer of `next_period` or `previous_period` is the one that the question has
-unfoldable pub is_period_answer : List ℕ → MarkedPeriodAnswer → Bool
-is_period_answer q (P.Is a b c d m n) = is_marked_period q a b c d m n
-is_period_answer q (P.Refused number place) = is_refusal_at q refusal_place number place
+unfoldable pub is_period_answer : List ℕ → Result MarkedPeriod Refused → Bool
+is_period_answer q (Ok p) = is_marked_period q p
+is_period_answer q (Err r) = is_refusal_at q refusal_place (number_of r.refusal) r.place

@@ -5,12 +5,12 @@
 #![tactic(auto)]
 
 ghost use Rattle.std.specs.Prelude.{◌≡◌, true, ◌+◌, ◌*◌, ◌≤◌, ◌<◌, ◌^◌, length};
-ghost use Rattle.big_endian.specs.Be.{be32, four_bytes};
+ghost use Rattle.big_endian.specs.Be.{be32};
 ghost use Rattle.instant.specs.Instant.{InRange, Exact};
+ghost use Rattle.mark.specs.Marks.{mark_number};
 ghost use Rattle.rule.specs.Rules.{ScheduleFits};
 ghost use Rattle.window_dates.specs.Windows.{Window};
 ghost use Rattle.window_memory.specs.Sizes.{most_rules};
-ghost use Rattle.window_week.specs.Room.{HasRoom};
 ghost use Rattle.test_cases.specs.Cases.{longest_file};
 ghost use Rattle.test_replay_marks.specs.Compared.{refusal_place, is_signed_at, is_mark_at, is_pair_at, is_edge_at};
 ghost use Rattle.test_replay_marks.specs.Compared.{is_resolved, is_marked_period, is_resolve_answer, is_period_answer};
@@ -18,16 +18,16 @@ ghost use Rattle.test_replay_marks.specs.Asked.{Within};
 
 use anyhow::{Context, Result};
 use instant::Instant;
-use instant_signed::InstantRead;
+use instant_signed::SignedInstant;
+use mark::Mark;
+use refusal::Refused;
 use rule::Schedule;
-use schedule_periods::MarkedPeriodAnswer;
-use std::io;
-use test_cases::{LONGEST, Seen};
+use schedule_periods::MarkedPeriod;
+use std::result;
+use test_cases::{Asked, LONGEST};
 use window_marks::Border;
-use zone_calls::ResolveAnswer;
-
-// The parts of a case: 0 the book, 1 the pack, 2 the questions.
-const PARTS: usize = 3;
+use window_memory::{ALL, Memory};
+use zone_calls::ResolvedTime;
 
 // The kinds of questions.
 const RESOLVE: usize = 0;
@@ -79,6 +79,7 @@ fn signed(q: &[u8], at: usize) -> i64 {
 }
 
 // Is x the signed number at a place of a question?
+#[tactic(auto, unfolding(crate::specs::Compared::is_signed_at))]
 fn is_signed(q: &[u8], at: usize, x: i64) -> bool
     ensures { result ≡ is_signed_at q.now at «x» }
 {
@@ -86,21 +87,20 @@ fn is_signed(q: &[u8], at: usize, x: i64) -> bool
 }
 
 // Is m the mark at a place of a question?
-fn is_mark(q: &[u8], at: usize, m: u32) -> bool
-    ensures { result ≡ is_mark_at q.now at m }
+#[tactic(auto, unfolding(crate::specs::Compared::is_mark_at))]
+fn is_mark(q: &[u8], at: usize, m: Mark) -> bool
+    ensures { result ≡ is_mark_at q.now at (mark_number m) }
 {
-    m as u64 == big_endian::be64_at(q, at)
+    u64::from(m.number()) == big_endian::be64_at(q, at)
 }
 
 // Are these the two numbers from a place of a question on?
-fn is_pair(q: &[u8], at: usize, sec: i64, ns: i64) -> bool
+#[tactic(auto, unfolding(crate::specs::Compared::is_pair_at))]
+fn is_pair(q: &[u8], at: usize, t: SignedInstant) -> bool
     requires { at ≤ longest_file }
-    ensures { result ≡ is_pair_at q.now at «sec» «ns» }
+    ensures { result ≡ is_pair_at q.now at t.sec t.ns }
 {
-    if !is_signed(q, at, sec) {
-        return false;
-    }
-    is_signed(q, at + NUMBER, ns)
+    is_signed(q, at, t.sec) && is_signed(q, at + NUMBER, t.ns)
 }
 
 // The refusal that question q expects; 0 for none.
@@ -112,26 +112,22 @@ fn refusal_of(q: &[u8]) -> usize
 
 // ---- the instant of a local time
 
-// Is an instant with a mark expected, and are these its numbers?
-fn is_resolved(q: &[u8], sec: i64, ns: i64, m: u32) -> bool
-    ensures { result ≡ is_resolved q.now «sec» «ns» m }
+// Is an instant with a mark expected, and is it this one?
+#[tactic(auto, unfolding(crate::specs::Compared::is_resolved))]
+fn is_resolved(q: &[u8], r: ResolvedTime) -> bool
+    ensures { result ≡ is_resolved q.now r }
 {
-    if refusal_of(q) != 0 {
-        return false;
-    }
-    if !is_pair(q, RESOLVED, sec, ns) {
-        return false;
-    }
-    is_mark(q, RESOLVED_MARK, m)
+    refusal_of(q) == 0 && is_pair(q, RESOLVED, r.at) && is_mark(q, RESOLVED_MARK, r.mark)
 }
 
 // Is the answer the one that is expected?
-fn is_instant(q: &[u8], answer: ResolveAnswer) -> bool
+#[tactic(auto, unfolding(crate::specs::Compared::is_resolve_answer))]
+fn is_instant(q: &[u8], answer: result::Result<ResolvedTime, Refused>) -> bool
     ensures { result ≡ is_resolve_answer q.now answer }
 {
     match answer {
-        ResolveAnswer::At(sec, ns, m) => is_resolved(q, sec, ns, m),
-        ResolveAnswer::Refused(number, place) => test_cases::is_refusal(q, REFUSAL, number, place),
+        Ok(resolved) => is_resolved(q, resolved),
+        Err(refused) => test_cases::is_refusal(q, REFUSAL, refused),
     }
 }
 
@@ -151,33 +147,25 @@ fn resolve_agrees(file: &[u8], q: &[u8]) -> bool {
 // ---- periods
 
 // Is a period expected, with this start, this end and these marks?
-fn is_marked_period(q: &[u8], a: i64, b: i64, c: i64, d: i64, m: u32, n: u32) -> bool
-    ensures { result ≡ is_marked_period q.now «a» «b» «c» «d» m n }
+#[tactic(auto, unfolding(crate::specs::Compared::is_marked_period))]
+fn is_marked_period(q: &[u8], p: MarkedPeriod) -> bool
+    ensures { result ≡ is_marked_period q.now p }
 {
-    if refusal_of(q) != 0 {
-        return false;
-    }
-    if !is_pair(q, PERIOD_START, a, b) {
-        return false;
-    }
-    if !is_pair(q, PERIOD_END, c, d) {
-        return false;
-    }
-    if !is_mark(q, START_MARK, m) {
-        return false;
-    }
-    is_mark(q, END_MARK, n)
+    refusal_of(q) == 0
+        && is_pair(q, PERIOD_START, p.period.start)
+        && is_pair(q, PERIOD_END, p.period.end)
+        && is_mark(q, START_MARK, p.marks.start)
+        && is_mark(q, END_MARK, p.marks.end)
 }
 
 // Is the answer the one that is expected?
-fn is_period(q: &[u8], answer: MarkedPeriodAnswer) -> bool
+#[tactic(auto, unfolding(crate::specs::Compared::is_period_answer))]
+fn is_period(q: &[u8], answer: result::Result<MarkedPeriod, Refused>) -> bool
     ensures { result ≡ is_period_answer q.now answer }
 {
     match answer {
-        MarkedPeriodAnswer::Is(a, b, c, d, m, n) => is_marked_period(q, a, b, c, d, m, n),
-        MarkedPeriodAnswer::Refused(number, place) => {
-            test_cases::is_refusal(q, REFUSAL, number, place)
-        },
+        Ok(period) => is_marked_period(q, period),
+        Err(refused) => test_cases::is_refusal(q, REFUSAL, refused),
     }
 }
 
@@ -206,14 +194,16 @@ fn previous_agrees(book: &[u8], pack: &[u8], q: &[u8]) -> bool {
 // ---- the blocks of a window
 
 // Does question q have the instant u with the mark m at a place?
-fn is_edge(q: &[u8], at: usize, u: Instant, m: u32) -> bool
+#[tactic(auto, unfolding(crate::specs::Compared::is_edge_at))]
+fn is_edge(q: &[u8], at: usize, u: Instant, m: Mark) -> bool
     requires { (at ≤ longest_file) × (u.sec < 2 ^ 63) }
-    ensures { result ≡ is_edge_at q.now at u m }
+    ensures { result ≡ is_edge_at q.now at u (mark_number m) }
 {
-    if !is_pair(q, at, instant_signed::seconds_of(u.sec), u.ns as i64) {
-        return false;
-    }
-    is_mark(q, at + 2 * NUMBER, m)
+    let t = SignedInstant {
+        sec: instant_signed::seconds_of(u.sec),
+        ns: i64::from(u.ns),
+    };
+    is_pair(q, at, t) && is_mark(q, at + 2 * NUMBER, m)
 }
 
 // Does u lie in the window from lo to hi, or at its end?
@@ -221,10 +211,7 @@ fn is_within(lo: Instant, hi: Instant, u: Instant) -> bool
     requires { InRange lo × InRange hi × Exact u }
     ensures { result ≡ true → Within lo hi u }
 {
-    if instant::precedes(u, lo) {
-        return false;
-    }
-    !instant::precedes(hi, u)
+    !instant::precedes(u, lo) && !instant::precedes(hi, u)
 }
 
 // Does question q have the block from u to v at a place, with the marks of its ends in the window from lo to hi?
@@ -253,10 +240,7 @@ fn is_block(
     let start = Border { at: u, lo, hi };
     let end = Border { at: v, lo, hi };
     let marks = window_marks::edge_marks(book, pack, s, start, end);
-    if !is_edge(q, at, u, marks.start) {
-        return false;
-    }
-    is_edge(q, at + EDGE_SIZE, v, marks.end)
+    is_edge(q, at, u, marks.start) && is_edge(q, at + EDGE_SIZE, v, marks.end)
 }
 
 // The instant that is n nanoseconds after lo.
@@ -280,20 +264,18 @@ fn are_blocks(
 ) -> bool
     requires { ScheduleFits book.now pack.now s × Window 7 lo hi × (2 * n ≤ length blocks.now) × (n ≤ 14 * most_rules) }
 {
-    let mut i: usize = 0;
-    while i < n {
+    for i in 0..n {
         let u = after(lo, blocks[2 * i]);
         let v = after(lo, blocks[2 * i + 1]);
         let at = FIRST_BLOCK + BLOCK_SIZE * i;
         if !is_block(book, pack, s, lo, hi, q, at, u, v) {
             return false;
         }
-        i += 1;
     }
     true
 }
 
-// Are the blocks of the window from lo to hi those that question q has? `on`, `off` and `out` are lent for them.
+// Are the blocks of the window from lo to hi those that question q has? The memory is lent for them.
 fn window_agrees(
     book: &[u8],
     pack: &[u8],
@@ -301,17 +283,13 @@ fn window_agrees(
     lo: Instant,
     hi: Instant,
     q: &[u8],
-    on: &mut [u64],
-    off: &mut [u64],
-    out: &mut [u64],
+    memory: &mut Memory<ALL>,
 ) -> bool
-    requires { ScheduleFits book.now pack.now s × Window 7 lo hi × HasRoom s on.old off.old out.old }
+    requires { ScheduleFits book.now pack.now s × Window 7 lo hi }
 {
-    let n = window_week::working_into(book, pack, s, lo, hi, on, off, out);
-    if n as u64 != big_endian::be64_at(q, COUNT) {
-        return false;
-    }
-    are_blocks(book, pack, s, lo, hi, q, out, n)
+    let n = window_week::working_in(book, pack, s, lo, hi, memory);
+    n as u64 == big_endian::be64_at(q, COUNT)
+        && are_blocks(book, pack, s, lo, hi, q, &memory.out, n)
 }
 
 // Is hi not before lo and at most seven days after it?
@@ -333,128 +311,57 @@ fn is_window(lo: Instant, hi: Instant) -> bool
 fn schedule_agrees(book: &[u8], pack: &[u8], s: Schedule, q: &[u8]) -> bool
     requires { ScheduleFits book.now pack.now s }
 {
-    let InstantRead::At(lo) = instant_signed::instant_of(
-        signed(q, ASKED),
-        signed(q, ASKED + NUMBER),
-    ) else {
+    let Some(lo) = instant_signed::instant_of(signed(q, ASKED), signed(q, ASKED + NUMBER)) else {
         return false;
     };
-    let InstantRead::At(hi) = instant_signed::instant_of(
+    let Some(hi) = instant_signed::instant_of(
         signed(q, ASKED + 2 * NUMBER),
         signed(q, ASKED + 3 * NUMBER),
     ) else {
         return false;
     };
-    if !is_window(lo, hi) {
-        return false;
-    }
-    let mut on = [0u64; window_memory::ALL];
-    let mut off = [0u64; window_memory::ALL];
-    let mut out = [0u64; window_memory::ALL];
-    window_agrees(book, pack, s, lo, hi, q, &mut on, &mut off, &mut out)
+    is_window(lo, hi) && window_agrees(book, pack, s, lo, hi, q, &mut Memory::<ALL>::new())
 }
 
 // The same from the bytes of book and pack.
 fn blocks_agree(book: &[u8], pack: &[u8], q: &[u8]) -> bool {
-    let r = build::build(book, pack);
-    if r.number != 0 {
-        return test_cases::is_refusal(q, REFUSAL, r.number, r.place);
+    match build::build(book, pack) {
+        Ok(schedule) => refusal_of(q) == 0 && schedule_agrees(book, pack, schedule, q),
+        Err(refused) => test_cases::is_refusal(q, REFUSAL, refused),
     }
-    if refusal_of(q) != 0 {
-        return false;
-    }
-    let s = r.schedule;
-    schedule_agrees(book, pack, s, q)
 }
 
 // ---- one question
 
-// How long question q is; at least as long as what stands before the numbers.
-fn length_of(q: &[u8]) -> usize
-    ensures { (0 < result) × (result < four_bytes) }
-{
-    let n = big_endian::size_at(q, LENGTH);
-    if n < ASKED {
-        return ASKED;
-    }
-    n
-}
+// The program lends nothing to a question.
+#[derive(Drop)]
+struct Lent;
 
-// Asks question q. Is the answer the one that is expected?
-fn agrees(book: &[u8], pack: &[u8], q: &[u8]) -> bool {
-    let kind = big_endian::size_at(q, KIND);
-    if kind == RESOLVE {
-        return resolve_agrees(pack, q);
+impl Asked for Lent {
+    // At least as long as what stands before the numbers.
+    fn length_of(q: &[u8]) -> usize {
+        big_endian::size_at(q, LENGTH).max(ASKED)
     }
-    if kind == NEXT {
-        return next_agrees(book, pack, q);
-    }
-    if kind == PREVIOUS {
-        return previous_agrees(book, pack, q);
-    }
-    if kind == BLOCKS {
-        return blocks_agree(book, pack, q);
-    }
-    false
-}
 
-// Asks question q and counts it.
-fn ask<P: Print>(rt: &P, book: &[u8], pack: &[u8], q: &[u8], seen: Seen) -> io::Result<Seen> {
-    if !agrees(book, pack, q) {
-        return test_cases::different(rt, seen, b"marked answer");
+    fn refusal_of(q: &[u8]) -> usize {
+        refusal_of(q)
     }
-    Ok(test_cases::equal(seen, refusal_of(q)))
-}
 
-// Asks all questions.
-fn ask_all<P: Print>(
-    rt: &P,
-    book: &[u8],
-    pack: &[u8],
-    questions: &[u8],
-    seen: Seen,
-) -> io::Result<Seen>
-    requires { length questions.now ≤ longest_file }
-{
-    let mut r = seen;
-    let mut at: usize = 0;
-    while at < questions.len() {
-        let q = big_endian::part(questions, at, LONGEST);
-        r = ask(rt, book, pack, q, r)?;
-        at += length_of(q);
+    fn agrees(&mut self, book: &[u8], pack: &[u8], q: &[u8]) -> bool {
+        match big_endian::size_at(q, KIND) {
+            RESOLVE => resolve_agrees(pack, q),
+            NEXT => next_agrees(book, pack, q),
+            PREVIOUS => previous_agrees(book, pack, q),
+            BLOCKS => blocks_agree(book, pack, q),
+            _ => false,
+        }
     }
-    Ok(r)
-}
-
-// ---- the file of cases
-
-// Asks the questions of the case at the place at.
-fn ask_case<P: Print>(rt: &P, file: &[u8], at: usize, seen: Seen) -> io::Result<Seen>
-    requires { (length file.now ≤ longest_file) × (at ≤ longest_file) }
-{
-    let book = test_cases::part_of(file, PARTS, at, 0);
-    let pack = test_cases::part_of(file, PARTS, at, 1);
-    let questions = test_cases::part_of(file, PARTS, at, 2);
-    ask_all(rt, book, pack, questions, test_cases::next_case(seen))
-}
-
-// Asks the questions of all cases of a file.
-fn ask_file<P: Print>(rt: &P, file: &[u8]) -> io::Result<Seen>
-    requires { length file.now ≤ longest_file }
-{
-    let mut seen = test_cases::nothing();
-    let mut at: usize = 0;
-    while at < file.len() {
-        seen = ask_case(rt, file, at, seen)?;
-        at = test_cases::place_of(file, PARTS, at, PARTS);
-    }
-    Ok(seen)
 }
 
 fn main(rt: HostRuntime) -> Result<()> {
     let mut buffer = [0u8; LONGEST];
     let n = test_cases::load(&rt, "marks.bin", &mut buffer).context("marks.bin")?;
-    let seen = ask_file(&rt, &buffer[..n])?;
-    test_cases::tell(&rt, seen, b"answers")?;
+    let seen = test_cases::ask_file(&rt, &buffer[..n], &mut Lent, b"marked answer")?;
+    seen.tell(&rt, b"answers")?;
     Ok(())
 }

@@ -6,9 +6,10 @@
 
 ghost use Rattle.std.specs.Io.{ReadsAtMost};
 
+use refusal::Refused;
 use std::rt::Files;
 use std::{fs, io};
-use zone_calls::{ChangeAnswer, OffsetAnswer, ResolveAnswer};
+use test_cases::signed_at;
 
 // The bytes of a question.
 const QUESTION_SIZE: usize = 52;
@@ -16,16 +17,16 @@ const QUESTION_SIZE: usize = 52;
 // ---- asking
 
 // Writes a refusal's number and place.
-fn refused<P: Print>(rt: &P, number: u32, place: usize) -> io::Result<()> {
-    print!(rt; " no {number} {place}")
+fn refused<P: Print>(rt: &P, r: Refused) -> io::Result<()> {
+    print!(rt; " no {} {}", r.refusal.number(), r.place)
 }
 
 // Asks for the offset at an instant, and writes the question and the answer.
 fn offset<P: Print>(rt: &P, file: &[u8], sec: i64, ns: i64) -> io::Result<()> {
     print!(rt; "offset {sec} {ns}:")?;
     match zone_calls::offset_in(file, sec, ns) {
-        OffsetAnswer::Is(o) => print!(rt; " {o}"),
-        OffsetAnswer::Refused(n, p) => refused(rt, n, p),
+        Ok(o) => print!(rt; " {o}"),
+        Err(r) => refused(rt, r),
     }
 }
 
@@ -33,9 +34,9 @@ fn offset<P: Print>(rt: &P, file: &[u8], sec: i64, ns: i64) -> io::Result<()> {
 fn change<P: Print>(rt: &P, file: &[u8], sec: i64, ns: i64) -> io::Result<()> {
     print!(rt; "change {sec} {ns}:")?;
     match zone_calls::next_change_in(file, sec, ns) {
-        ChangeAnswer::At(s, n) => print!(rt; " {s} {n}"),
-        ChangeAnswer::Never => print!(rt; " never"),
-        ChangeAnswer::Refused(n, p) => refused(rt, n, p),
+        Ok(Some(t)) => print!(rt; " {} {}", t.sec, t.ns),
+        Ok(None) => print!(rt; " never"),
+        Err(r) => refused(rt, r),
     }
 }
 
@@ -51,30 +52,22 @@ fn resolve<P: Print>(
 ) -> io::Result<()> {
     print!(rt; "resolve {year} {month} {day} {second} {ns}:")?;
     match zone_calls::resolve_in(file, year, month, day, second, ns) {
-        ResolveAnswer::At(s, n, m) => print!(rt; " {s} {n} {m}"),
-        ResolveAnswer::Refused(n, p) => refused(rt, n, p),
+        Ok(r) => print!(rt; " {} {} {}", r.at.sec, r.at.ns, r.mark.number()),
+        Err(r) => refused(rt, r),
     }
 }
 
 // ---- the questions
 
-// The signed number at a place of the question.
-fn signed_at(q: &[u8], at: usize) -> i64 {
-    instant_signed::lower(big_endian::be64_at(q, at))
-}
-
 // Asks question q.
 fn ask<P: Print>(rt: &P, zones: &[u8], q: &[u8]) -> io::Result<()> {
-    let call = big_endian::size_at(q, 0);
     let file = big_endian::part(zones, big_endian::size_at(q, 4), big_endian::size_at(q, 8));
     let a = signed_at(q, 12);
     let b = signed_at(q, 20);
-    if call == 1 {
-        offset(rt, file, a, b)?;
-    } else if call == 2 {
-        change(rt, file, a, b)?;
-    } else {
-        resolve(
+    match big_endian::size_at(q, 0) {
+        1 => offset(rt, file, a, b)?,
+        2 => change(rt, file, a, b)?,
+        _ => resolve(
             rt,
             file,
             a,
@@ -82,19 +75,15 @@ fn ask<P: Print>(rt: &P, zones: &[u8], q: &[u8]) -> io::Result<()> {
             signed_at(q, 28),
             signed_at(q, 36),
             signed_at(q, 44),
-        )?;
+        )?,
     }
     println!(rt; "")
 }
 
 // Asks all questions.
 fn ask_all<P: Print>(rt: &P, zones: &[u8], questions: &[u8]) -> io::Result<()> {
-    for i in 0..questions.len() / QUESTION_SIZE {
-        ask(
-            rt,
-            zones,
-            big_endian::part(questions, QUESTION_SIZE * i, QUESTION_SIZE),
-        )?;
+    for q in questions.chunks_exact(QUESTION_SIZE) {
+        ask(rt, zones, q)?;
     }
     Ok(())
 }

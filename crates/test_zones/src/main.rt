@@ -15,8 +15,7 @@ use anyhow::{Context, Result};
 use std::io::Read;
 use std::rt::Files;
 use std::{fs, io};
-use zone::{Zone, ZoneRead};
-use zone_next_change::Next;
+use zone::Zone;
 
 // The most bytes of a file that are read.
 const FILE_SIZE: usize = 65536;
@@ -46,17 +45,16 @@ fn answer_at(a: &[u8], i: usize) -> u64
 }
 
 // Is the next change of the zone's offset after u at v?
+#[tactic(auto, unfolding(crate::specs::Answers::is_next))]
 fn changes_at(f: &[u8], z: Zone, u: u64, v: u64) -> bool
     requires { ZoneOk f.now z }
     ensures { result ≡ is_next (next_change (zone_is f.now z) u) v }
 {
-    let Next::At(w) = zone_next_change::next_change(f, z, u) else {
-        return false;
-    };
-    w == v
+    zone_next_change::next_change(f, z, u) == Some(v)
 }
 
 // Does the zone give pair i's second for its local second, or as its next change?
+#[tactic(auto, unfolding(crate::specs::Answers::agrees_at))]
 fn agrees_at(f: &[u8], z: Zone, a: &[u8], i: usize) -> bool
     requires { ZoneOk f.now z × (i < file_size) }
     ensures { result ≡ agrees_at f.now z a.now i }
@@ -77,11 +75,8 @@ fn agreeing(f: &[u8], z: Zone, a: &[u8], n: usize) -> usize
     ensures { (result ≡ count_below (agrees_at f.now z a.now) n) × (result ≤ n) }
 {
     let mut k: usize = 0;
-    let mut i: usize = 0;
-    while i < n {
-        let yes = agrees_at(f, z, a, i);
-        i += 1;
-        if yes {
+    for i in 0..n {
+        if agrees_at(f, z, a, i) {
             k += 1;
         }
     }
@@ -89,13 +84,6 @@ fn agreeing(f: &[u8], z: Zone, a: &[u8], n: usize) -> usize
 }
 
 // ---- reading and writing
-
-// The digit of k, 0 to 9.
-fn digit(k: usize) -> u8
-    ensures { result < 128 }
-{
-    b'0' + (k % 10) as u8
-}
 
 // Compares with the answers that the file holds.
 fn compare<P: Print, F: Read>(rt: &P, f: &[u8], z: Zone, file: &mut F) -> io::Result<()>
@@ -109,37 +97,24 @@ fn compare<P: Print, F: Read>(rt: &P, f: &[u8], z: Zone, file: &mut F) -> io::Re
 }
 
 // Compares with the answers of zone i, whose file is f, where there are any.
-fn compare_stored<R: Files + Print>(rt: &R, f: &[u8], z: Zone, i: usize) -> io::Result<()>
+fn compare_stored<R: Files + Print + AllocGlobal>(
+    rt: &R,
+    f: &[u8],
+    z: Zone,
+    i: usize,
+) -> io::Result<()>
     requires { ZoneOk f.now z }
 {
-    // answers-KKK.bin
-    let path = [
-        b'a',
-        b'n',
-        b's',
-        b'w',
-        b'e',
-        b'r',
-        b's',
-        b'-',
-        digit(i / 100),
-        digit(i / 10),
-        digit(i),
-        b'.',
-        b'b',
-        b'i',
-        b'n',
-    ];
-    let name = str::from_utf8(&path).unwrap();
-    let Ok(mut file) = fs::open(rt, name) else {
+    let name = format!(in rt.alloc(); "answers-{i:03}.bin")?;
+    let Ok(mut file) = fs::open(rt, &name) else {
         return Ok(());
     };
     compare(rt, f, z, &mut file)
 }
 
 // Writes what comes of zone i, whose file is f.
-fn write_zone<R: Files + Print>(rt: &R, f: &[u8], i: usize) -> io::Result<()> {
-    let ZoneRead::Opened(z) = zone::open(f) else {
+fn write_zone<R: Files + Print + AllocGlobal>(rt: &R, f: &[u8], i: usize) -> io::Result<()> {
+    let Some(z) = zone::open(f) else {
         return println!(rt; "refused");
     };
     print!(rt; "usable")?;
@@ -148,7 +123,7 @@ fn write_zone<R: Files + Print>(rt: &R, f: &[u8], i: usize) -> io::Result<()> {
 }
 
 // Finds zone i by its name, and writes its line.
-fn line<R: Files + Print>(rt: &R, p: &[u8], i: usize) -> io::Result<()>
+fn line<R: Files + Print + AllocGlobal>(rt: &R, p: &[u8], i: usize) -> io::Result<()>
     requires { i < most_zones }
 {
     if !zone_pack::pack_ok(p) {
@@ -157,18 +132,15 @@ fn line<R: Files + Print>(rt: &R, p: &[u8], i: usize) -> io::Result<()>
     let start = directory::start_at(p, i);
     let name = big_endian::part(p, start + 1, big_endian::small_at(p, start));
     rt.write_all(name)?;
-    let mut found = false;
-    let mut at: usize = 0;
-    let f = zone_pack::look_in(p, name, &mut found, &mut at);
-    if !found {
+    let Some(zone) = zone_pack::look_in(p, name) else {
         return println!(rt; ": not found");
-    }
+    };
     print!(rt; ": ")?;
-    write_zone(rt, f, i)
+    write_zone(rt, zone.file, i)
 }
 
 // Writes the lines of the first n zones.
-fn lines<R: Files + Print>(rt: &R, p: &[u8], n: usize) -> io::Result<()>
+fn lines<R: Files + Print + AllocGlobal>(rt: &R, p: &[u8], n: usize) -> io::Result<()>
     requires { n ≤ most_zones }
 {
     for i in 0..n {
@@ -178,7 +150,7 @@ fn lines<R: Files + Print>(rt: &R, p: &[u8], n: usize) -> io::Result<()>
 }
 
 // Writes the lines of a pack.
-fn all_lines<R: Files + Print>(rt: &R, p: &[u8]) -> io::Result<()> {
+fn all_lines<R: Files + Print + AllocGlobal>(rt: &R, p: &[u8]) -> io::Result<()> {
     if !zone_pack::pack_ok(p) {
         return println!(rt; "no pack");
     }

@@ -1,23 +1,26 @@
 -- What the tests of a ticket tell, in the code's order and back; and that each command leaves a ticket.
-use Rattle.std.specs.Prelude.{◌≡◌, refl, Bool, true, false, not, ◌&&◌, List, [], ◌∷◌, map, ℕ, zero, suc, ◌+◌, ◌-◌, ◌≤◌, ◌<◌, leb, ltb, eqb, length, get_or, if◌then◌else◌}
-use Rattle.std.proofs.Common.{sym, ap, ◌∙◌, arith, add-one}
+use Rattle.std.specs.Prelude.{◌≡◌, refl, Bool, true, false, [], ◌∷◌, map, ℕ, ◌+◌, ◌-◌, ◌≤◌, ◌<◌, leb, ltb, length, get_or, if◌then◌else◌, Option, Some, None}
+use Rattle.std.proofs.Common.{sym, ap, ◌∙◌, arith, rules, add-one}
 use Rattle.std.proofs.Math.Option.{none, some}
-use borrow.Author.Tests.{leb-true, ltb-true, ltb-false, le-leb, lt-leb, lt-ltb, le-ltb, eq-eqb, ne_eqb}
-use Rattle.model.specs.Basic.{given, is_in, any, filter}
+use Rattle.std.specs.Option.{IsSome}
+use borrow.Author.Tests.{leb-true, ltb-true, ltb-false, le-leb, lt-leb, lt-ltb}
+use Rattle.model.specs.Basic.{is_in, any}
 use Rattle.model.specs.Instant.{second, first_second, last_second, first_instant}
 use Rattle.laws_base.specs.Test.{by-test, clash, and_both, both-and, in_bounds, within}
 use Rattle.instant.specs.Instant.{nanos, InRange}
 use Rattle.instant.specs.declared.Instant.{Instant}
 use Rattle.model_ticket.specs.History.{names, start, hold, resume, mark, back, up_to}
 use Rattle.model_ticket.specs.Ticket as model
-use Rattle.ticket_marks.specs.Marks.{capacity, latest, marks_in, mark_is, nil, has_name, others, is_within, is_mark_at, are_marks}
+use Rattle.ticket_marks.specs.Marks.{capacity, latest, count_to, marks_in, mark_is, nil, has_name, others, is_within, is_mark_at, are_marks}
 use Rattle.ticket_marks.specs.Laws.{marks-later, marks-set, marks-upto, marks-head, marks-once, marks-below, within-later, others-few, found-any, named-any, named-others, named-upto}
 use Rattle.ticket_marks.specs.declared.Mark.{Mark}
 use Rattle.ticket_marks.specs.declared.Marks.{Marks}
 use Rattle.ticket.specs.declared.Ticket.{Ticket}
+use Rattle.ticket.specs.declared.State.{State}
+use Rattle.ticket.specs.declared.State.TheVariants.{New, Running, Held}
 use Rattle.ticket.specs.declared.Action.{Action}
 use Rattle.ticket.specs.declared.Action.TheVariants as A
-use Rattle.ticket.specs.Tickets.{action_is, is_instant, is_sound, is_running, standing, ticket_is, Begun, Goes, Becomes}
+use Rattle.ticket.specs.Tickets.{action_is, is_instant, is_sound, is_new, is_running, standing, ticket_is, Begun, Goes, Becomes}
 
 -- ---- an instant
 
@@ -48,7 +51,6 @@ module _ (t : Instant) where
 -- ---- a ticket
 
 pub record Sound (k : Ticket) : Type 0 where
-  pub state : k.state ≤ 2
   pub last : InRange k.last
   pub since : InRange k.since
   pub ordered : nanos k.since ≤ nanos k.last
@@ -59,14 +61,12 @@ pub record Sound (k : Ticket) : Type 0 where
 pub sound-facts : (k : Ticket) → is_sound k ≡ true → Sound k
 unfolding is_sound
 sound-facts k e =
-    let a = and_both (leb k.state 2) _ e in
-    let b = and_both (is_instant k.last) _ a.1 in
+    let b = and_both (is_instant k.last) _ e in
     let c = and_both (is_instant k.since) _ b.1 in
     let d = and_both (leb (nanos k.since) (nanos k.last)) _ c.1 in
     let f = and_both (is_within k.done (nanos k.since)) _ d.1 in
     let g = and_both (leb k.marks.len capacity) (are_marks (nanos k.last) (marks_in k.marks)) f.1 in
     record {
-      state = leb-true _ _ a.0;
       last = instant-in k.last b.0;
       since = instant-in k.since c.0;
       ordered = leb-true _ _ d.0;
@@ -79,7 +79,6 @@ pub sound-made : (k : Ticket) → Sound k → is_sound k ≡ true
 unfolding is_sound
 sound-made k s =
     rw (
-      le-leb k.state 2 s.state,
       in-instant k.last s.last,
       in-instant k.since s.since,
       le-leb (nanos k.since) (nanos k.last) s.ordered,
@@ -90,38 +89,33 @@ sound-made k s =
 
 -- the tests in the code's order
 module _ (k : Ticket) where
-  pub sound-state : 2 < k.state → false ≡ is_sound k
+  pub sound-last : is_instant k.last ≡ false → false ≡ is_sound k
   unfolding is_sound
-  sound-state h = rw (lt-leb k.state 2 h)
+  sound-last e = rw e
 
-  module _ (a : k.state ≤ 2) where
-    pub sound-last : is_instant k.last ≡ false → false ≡ is_sound k
+  module _ (b : is_instant k.last ≡ true) where
+    pub sound-since : is_instant k.since ≡ false → false ≡ is_sound k
     unfolding is_sound
-    sound-last e = rw (le-leb k.state 2 a, e)
+    sound-since e = rw (b, e)
 
-    module _ (b : is_instant k.last ≡ true) where
-      pub sound-since : is_instant k.since ≡ false → false ≡ is_sound k
+    module _ (c : is_instant k.since ≡ true) where
+      pub sound-order : ltb (nanos k.last) (nanos k.since) ≡ true → false ≡ is_sound k
       unfolding is_sound
-      sound-since e = rw (le-leb k.state 2 a, b, e)
+      sound-order e = rw (b, c, lt-leb (nanos k.since) (nanos k.last) (ltb-true _ _ e))
 
-      module _ (c : is_instant k.since ≡ true) where
-        pub sound-order : ltb (nanos k.last) (nanos k.since) ≡ true → false ≡ is_sound k
+      module _ (d : ltb (nanos k.last) (nanos k.since) ≡ false) where
+        pub sound-done : is_within k.done (nanos k.since) ≡ false → false ≡ is_sound k
         unfolding is_sound
-        sound-order e = rw (le-leb k.state 2 a, b, c, lt-leb (nanos k.since) (nanos k.last) (ltb-true _ _ e))
+        sound-done e = rw (b, c, le-leb (nanos k.since) (nanos k.last) (ltb-false _ _ d), e)
 
-        module _ (d : ltb (nanos k.last) (nanos k.since) ≡ false) where
-          pub sound-done : is_within k.done (nanos k.since) ≡ false → false ≡ is_sound k
+        module _ (f : is_within k.done (nanos k.since) ≡ true) where
+          pub sound-count : capacity < k.marks.len → false ≡ is_sound k
           unfolding is_sound
-          sound-done e = rw (le-leb k.state 2 a, b, c, le-leb (nanos k.since) (nanos k.last) (ltb-false _ _ d), e)
+          sound-count h = rw (b, c, le-leb (nanos k.since) (nanos k.last) (ltb-false _ _ d), f, lt-leb k.marks.len capacity h)
 
-          module _ (f : is_within k.done (nanos k.since) ≡ true) where
-            pub sound-count : capacity < k.marks.len → false ≡ is_sound k
-            unfolding is_sound
-            sound-count h = rw (le-leb k.state 2 a, b, c, le-leb (nanos k.since) (nanos k.last) (ltb-false _ _ d), f, lt-leb k.marks.len capacity h)
-
-            pub sound-marks : k.marks.len ≤ capacity → are_marks (nanos k.last) (marks_in k.marks) ≡ is_sound k
-            unfolding is_sound
-            sound-marks h = rw (le-leb k.state 2 a, b, c, le-leb (nanos k.since) (nanos k.last) (ltb-false _ _ d), f, le-leb k.marks.len capacity h)
+          pub sound-marks : k.marks.len ≤ capacity → are_marks (nanos k.last) (marks_in k.marks) ≡ is_sound k
+          unfolding is_sound
+          sound-marks h = rw (b, c, le-leb (nanos k.since) (nanos k.last) (ltb-false _ _ d), f, le-leb k.marks.len capacity h)
 
 -- ---- what each command leaves
 
@@ -133,13 +127,12 @@ nothing-within t r = le-leb 0 (nanos t - first_instant) (omega arith)
 module _ (t : Instant) (r : InRange t) where
   pub started-becomes :
       (m : Marks) → marks_in m ≡ [] → m.len ≡ 0 →
-      Becomes (record { state = 1; last = t; since = t; done = record { sec = 0; ns = 0 }; marks = m }) (model.next_ticket start (nanos t) 0 model.new_ticket)
+      Becomes (record { state = Running; last = t; since = t; done = record { sec = 0; ns = 0 }; marks = m }) (model.next_ticket start (nanos t) 0 model.new_ticket)
   unfolding are_marks
   started-becomes m e c = record {
     begun = record {
-      not_new = omega arith;
-      sound = sound-made (record { state = 1; last = t; since = t; done = record { sec = 0; ns = 0 }; marks = m }) (record {
-        state = omega arith;
+      not_new = refl;
+      sound = sound-made (record { state = Running; last = t; since = t; done = record { sec = 0; ns = 0 }; marks = m }) (record {
         last = r;
         since = r;
         ordered = omega arith;
@@ -162,12 +155,11 @@ module _ (k : Ticket) (t : Instant) (g : Goes k t) where
 
   -- a state begins at t, when the time e has elapsed
   from-now :
-      (state : ℕ) (e : Instant) (m : Marks) → 1 ≤ state → state ≤ 2 → is_within e (nanos t) ≡ true → m.len ≤ capacity → are_marks (nanos t) (marks_in m) ≡ true →
+      (state : State) (e : Instant) (m : Marks) → is_new state ≡ false → is_within e (nanos t) ≡ true → m.len ≤ capacity → are_marks (nanos t) (marks_in m) ≡ true →
       Begun (record { state = state; last = t; since = t; done = e; marks = m })
-  from-now state e m a b w c l = record {
+  from-now state e m a w c l = record {
     not_new = a;
     sound = sound-made (record { state = state; last = t; since = t; done = e; marks = m }) (record {
-      state = b;
       last = g.in-range;
       since = g.in-range;
       ordered = omega arith;
@@ -179,16 +171,16 @@ module _ (k : Ticket) (t : Instant) (g : Goes k t) where
 
   pub held-becomes :
       (e : Instant) → is_within e (nanos t) ≡ true →
-      Becomes (record { state = 2; last = t; since = t; done = e; marks = k.marks }) (model.next_ticket hold (nanos t) (nanos e) (standing k))
-  held-becomes e w = record { begun = from-now 2 e k.marks (omega arith) (omega arith) w facts.count marks_then; stands = refl }
+      Becomes (record { state = Held; last = t; since = t; done = e; marks = k.marks }) (model.next_ticket hold (nanos t) (nanos e) (standing k))
+  held-becomes e w = record { begun = from-now Held e k.marks refl w facts.count marks_then; stands = refl }
 
   -- the time done is within at t too
   pub done-then : is_within k.done (nanos t) ≡ true
   done-then = let o = facts.ordered in let l = g.later in within-later k.done (nanos k.since) (nanos t) (omega arith) facts.done
 
   pub resumed-becomes :
-      Becomes (record { state = 1; last = t; since = t; done = k.done; marks = k.marks }) (model.next_ticket resume (nanos t) 0 (standing k))
-  resumed-becomes = record { begun = from-now 1 k.done k.marks (omega arith) (omega arith) done-then facts.count marks_then; stands = refl }
+      Becomes (record { state = Running; last = t; since = t; done = k.done; marks = k.marks }) (model.next_ticket resume (nanos t) 0 (standing k))
+  resumed-becomes = record { begun = from-now Running k.done k.marks refl done-then facts.count marks_then; stands = refl }
 
   -- there is room for a mark
   pub mark-room : (name : ℕ) → name < names → length (others name (marks_in k.marks)) < capacity
@@ -202,7 +194,6 @@ module _ (k : Ticket) (t : Instant) (g : Goes k t) where
     begun = record {
       not_new = g.begun.not_new;
       sound = sound-made (record { state = k.state; last = t; since = k.since; done = k.done; marks = m }) (record {
-        state = facts.state;
         last = g.in-range;
         since = facts.since;
         ordered = (let o = facts.ordered in let l = g.later in omega arith);
@@ -223,8 +214,8 @@ module _ (k : Ticket) (t : Instant) (g : Goes k t) where
 
   -- set back to the last of the first i marks, that of the name
   module _
-      (name i j state : ℕ) (m : Marks) (e : latest i k.marks.items ≡ up_to (has_name name) (marks_in k.marks)) (b : i ≡ j + 1)
-      (c : state ≡ (if (get_or k.marks.items j nil).running then 1 else 2)) (f : marks_in m ≡ latest i k.marks.items) where
+      (name i j : ℕ) (state : State) (m : Marks) (e : latest i k.marks.items ≡ up_to (has_name name) (marks_in k.marks)) (b : i ≡ j + 1)
+      (c : state ≡ (if (get_or k.marks.items j nil).running then Running else Held)) (f : marks_in m ≡ latest i k.marks.items) where
     -- its mark
     abbrev x : Mark
     x = get_or k.marks.items j nil
@@ -236,9 +227,9 @@ module _ (k : Ticket) (t : Instant) (g : Goes k t) where
     marks-left : are_marks (nanos t) (latest i k.marks.items) ≡ true
     marks-left = rw e (marks-upto (nanos t) name (marks_in k.marks) marks_then)
 
-    state-told : (r : Bool) (n : ℕ) → n ≡ (if r then 1 else 2) → (1 ≤ n) × (n ≤ 2) × (is_running n ≡ r)
-    state-told true n p = rw p (omega arith, omega arith, refl)
-    state-told false n p = rw p (omega arith, omega arith, refl)
+    state-told : (r : Bool) (n : State) → n ≡ (if r then Running else Held) → (is_new n ≡ false) × (is_running n ≡ r)
+    state-told true n p = rw p (refl, refl)
+    state-told false n p = rw p (refl, refl)
 
     it-within : is_within x.time (nanos t) ≡ true
     unfolding is_mark_at
@@ -256,8 +247,8 @@ module _ (k : Ticket) (t : Instant) (g : Goes k t) where
     back-becomes d =
         let q = state-told x.running state c in
         record {
-          begun = from-now state x.time m q.0 q.1 it-within d (rw f marks-left);
-          stands = as-set-back (is_running state) q.2 ∙ ap (model.set_back (nanos t)) (ap (map mark_is) e ∙ named-upto name (marks_in k.marks));
+          begun = from-now state x.time m q.0 it-within d (rw f marks-left);
+          stands = as-set-back (is_running state) q.1 ∙ ap (model.set_back (nanos t)) (ap (map mark_is) e ∙ named-upto name (marks_in k.marks));
         }
 
 -- ---- which command may follow
@@ -274,6 +265,11 @@ back-set k name e = e ∙ sym (named-any name (marks_in k.marks))
 -- the mark's place is not the first of none
 pub place_found : (name r : ℕ) (m : Marks) → latest r m.items ≡ up_to (has_name name) (marks_in m) → any (has_name name) (marks_in m) ≡ true → 1 ≤ r
 place_found name r m e f = ltb-true 0 r (set-by name r m e ∙ f)
+
+-- so there is one
+pub place-there : (r : Option ℕ) → 1 ≤ count_to r → IsSome r
+place-there None h = absurd (omega arith)
+place-there (Some i) h = search rules
 
 -- a command that is one of the five
 pub follow-by : (j : model.Ticket) (a b : Action) {r : Bool} → a ≡ b → r ≡ model.may_follow (action_is b) j → r ≡ model.may_follow (action_is a) j
@@ -298,13 +294,18 @@ begin-start (A.Back n) e = clash (model.may_follow (back n) model.new_ticket) e 
 
 pub begun-is : (k : Ticket) → Begun k → ticket_is k ≡ some (standing k)
 unfolding ticket_is
-begun-is k b = rw (ne_eqb k.state 0 (λ e. let h = b.not_new in omega arith), b.sound)
+begun-is k b = rw (b.not_new, b.sound)
 
 -- what is no ticket, and a new one
-pub no-ticket : (k : Ticket) → (k.state ≡ 0 → ⊥) → is_sound k ≡ false → ticket_is k ≡ none
-unfolding ticket_is
-no-ticket k n e = rw (ne_eqb k.state 0 n, e)
+pub not-new : (state : State) → (state ≡ New → ⊥) → is_new state ≡ false
+not-new New n = absurd (n refl)
+not-new Running n = refl
+not-new Held n = refl
 
-pub new_is : (k : Ticket) → k.state ≡ 0 → ticket_is k ≡ some model.new_ticket
+pub no-ticket : (k : Ticket) → (k.state ≡ New → ⊥) → is_sound k ≡ false → ticket_is k ≡ none
 unfolding ticket_is
-new_is k e = rw (eq-eqb k.state 0 e)
+no-ticket k n e = rw (not-new k.state n, e)
+
+pub new_is : (k : Ticket) → k.state ≡ New → ticket_is k ≡ some model.new_ticket
+unfolding ticket_is
+new_is k e = rw e

@@ -1,6 +1,6 @@
 -- What a ticket by value means, and which values are tickets.
-use Rattle.std.specs.Prelude.{◌≡◌, Bool, true, false, not, ◌&&◌, List, map, ℕ, ◌≤◌, leb, ltb, eqb, if◌then◌else◌}
-use Rattle.std.proofs.Math.Option.{Option, none, some}
+use Rattle.std.specs.Prelude.{◌≡◌, Bool, true, false, ◌&&◌, map, ◌≤◌, leb, ltb, if◌then◌else◌}
+use Rattle.std.proofs.Math.Option.{Option, some}
 use Rattle.model.specs.Basic.{given, is_in}
 use Rattle.model.specs.Instant.{second, first_second, last_second}
 use Rattle.instant.specs.Instant.{nanos, InRange}
@@ -9,6 +9,8 @@ use Rattle.model_ticket.specs.History as commands
 use Rattle.model_ticket.specs.Ticket as model
 use Rattle.ticket_marks.specs.Marks.{capacity, marks_in, mark_is, is_within, are_marks}
 use Rattle.ticket.specs.declared.Ticket.{Ticket}
+use Rattle.ticket.specs.declared.State.{State}
+use Rattle.ticket.specs.declared.State.TheVariants.{New, Running, Held}
 use Rattle.ticket.specs.declared.Action.{Action}
 use Rattle.ticket.specs.declared.Action.TheVariants as A
 
@@ -20,9 +22,15 @@ action_is A.Resume = commands.resume
 action_is (A.Mark n) = commands.mark n
 action_is (A.Back n) = commands.back n
 
--- the states: 0 new, 1 running, 2 held
-abbrev pub is_running : ℕ → Bool
-is_running state = eqb state 1
+abbrev pub is_new : State → Bool
+is_new New = true
+is_new Running = false
+is_new Held = false
+
+abbrev pub is_running : State → Bool
+is_running New = false
+is_running Running = true
+is_running Held = false
 
 -- a ticket that is not new: what its numbers say
 abbrev pub standing : Ticket → model.Ticket
@@ -41,22 +49,22 @@ standing k = record {
 unfoldable pub is_instant : Instant → Bool
 is_instant t = is_in first_second last_second t.sec && ltb t.ns second
 
--- what every command leaves: one of the states; instants of the range, in order; the time done within what has passed since the first instant; marks that a ticket
+-- what every command leaves: instants of the range, in order; the time done within what has passed since the first instant; marks that a ticket
 -- may have
 unfoldable pub is_sound : Ticket → Bool
 is_sound k =
-    leb k.state 2 && (is_instant k.last && (is_instant k.since && (leb (nanos k.since) (nanos k.last) && (is_within k.done (nanos k.since) &&
-    (leb k.marks.len capacity && are_marks (nanos k.last) (marks_in k.marks))))))
+    is_instant k.last && (is_instant k.since && (leb (nanos k.since) (nanos k.last) && (is_within k.done (nanos k.since) &&
+    (leb k.marks.len capacity && are_marks (nanos k.last) (marks_in k.marks)))))
 
 -- a value as a ticket of the definitions; none where it is no ticket. A new one has nothing but its state
 unfoldable pub ticket_is : Ticket → Option model.Ticket
-ticket_is k = if eqb k.state 0 then some model.new_ticket else given (is_sound k) (standing k)
+ticket_is k = if is_new k.state then some model.new_ticket else given (is_sound k) (standing k)
 
 -- ---- what the functions promise
 
 -- a ticket that was started
 pub record Begun (k : Ticket) : Type 0 where
-  pub not_new : 1 ≤ k.state
+  pub not_new : is_new k.state ≡ false
   pub sound : is_sound k ≡ true
 
 -- and whose last command was not after t, an instant of the range

@@ -7,22 +7,24 @@ ghost use Rattle.model_ticket.specs.History as commands;
 ghost use Rattle.model_ticket.specs.Ticket as model;
 ghost use Rattle.instant.specs.Instant.{nanos, InRange};
 ghost use Rattle.ticket_marks.specs.Marks.{capacity, marks_in, has_name, is_within};
+ghost use Rattle.ticket.specs.declared.State.TheVariants.{New, Running, Held};
 ghost use Rattle.ticket.specs.Tickets.{action_is, is_instant, is_sound, standing, Begun, Goes, Becomes};
 
 use instant::{Instant, Length};
 use ticket_marks::{Mark, Marks};
 
 // The states of a ticket.
-pub const NEW: u32 = 0;
-
-pub const RUNNING: u32 = 1;
-
-pub const HELD: u32 = 2;
+#[derive(Clone, Copy, PartialEq)]
+pub enum State {
+    New,
+    Running,
+    Held,
+}
 
 // A new ticket has nothing but its state.
 #[derive(Clone, Copy)]
 pub struct Ticket {
-    pub state: u32,
+    pub state: State,
     // the instant of the last command
     pub last: Instant,
     // since when it has been running or held, and the time that had elapsed by then
@@ -43,12 +45,12 @@ pub enum Action {
 
 // A new ticket.
 pub fn new_ticket() -> Ticket
-    ensures { result.state ≡ 0 }
+    ensures { result.state ≡ New }
 {
     let t = Instant { sec: 0, ns: 0 };
     let marks = ticket_marks::no_marks();
     Ticket {
-        state: NEW,
+        state: State::New,
         last: t,
         since: t,
         done: t,
@@ -59,16 +61,11 @@ pub fn new_ticket() -> Ticket
 // ---- which values are tickets
 
 // Whether an instant is one of the range.
+#[tactic(auto, unfolding(crate::specs::Tickets::is_instant))]
 fn is_instant(t: Instant) -> bool
     ensures { result ≡ is_instant t }
 {
-    if t.sec < instant::FIRST {
-        return false;
-    }
-    if instant::LAST < t.sec {
-        return false;
-    }
-    t.ns < instant::SECOND_32
+    instant::FIRST <= t.sec && t.sec <= instant::LAST && t.ns < instant::SECOND_32
 }
 
 // Whether a ticket that is not new keeps what every command leaves: instants of the range, in order; times no longer than what has passed since the first instant;
@@ -80,9 +77,6 @@ pub fn is_ticket(k: Ticket) -> bool
     let since = k.since;
     let done = k.done;
     let marks = k.marks;
-    if HELD < k.state {
-        return false;
-    }
     if !is_instant(last) {
         return false;
     }
@@ -103,15 +97,6 @@ pub fn is_ticket(k: Ticket) -> bool
 
 // ---- which command may follow
 
-// Whether the mark of that name is set.
-fn is_set(marks: Marks, name: u64) -> bool
-    requires { marks.len ≤ capacity }
-    ensures { result ≡ any (has_name name) (marks_in marks) }
-{
-    let n = marks.len;
-    0 < ticket_marks::find(marks, n, name)
-}
-
 // Whether a command may follow, of a ticket that was started.
 pub fn may_follow(k: Ticket, a: Action) -> bool
     requires { Begun k }
@@ -120,10 +105,10 @@ pub fn may_follow(k: Ticket, a: Action) -> bool
     let marks = k.marks;
     match a {
         Action::Start => false,
-        Action::Hold => k.state == RUNNING,
-        Action::Resume => k.state != RUNNING,
+        Action::Hold => k.state == State::Running,
+        Action::Resume => k.state != State::Running,
         Action::Mark(name) => name < ticket_marks::NAMES,
-        Action::Back(name) => is_set(marks, name),
+        Action::Back(name) => ticket_marks::find(marks, marks.len, name).is_some(),
     }
 }
 
@@ -131,13 +116,7 @@ pub fn may_follow(k: Ticket, a: Action) -> bool
 pub fn may_begin(a: Action) -> bool
     ensures { result ≡ model.may_follow (action_is a) model.new_ticket }
 {
-    match a {
-        Action::Start => true,
-        Action::Hold => false,
-        Action::Resume => false,
-        Action::Mark(_) => false,
-        Action::Back(_) => false,
-    }
+    matches!(a, Action::Start)
 }
 
 // ---- what a command leaves
@@ -150,7 +129,7 @@ pub fn started(t: Instant) -> Ticket
     let marks = ticket_marks::no_marks();
     let done = Length { sec: 0, ns: 0 };
     Ticket {
-        state: RUNNING,
+        state: State::Running,
         last: t,
         since: t,
         done,
@@ -165,7 +144,7 @@ pub fn held(k: Ticket, t: Instant, e: Length) -> Ticket
 {
     let marks = k.marks;
     Ticket {
-        state: HELD,
+        state: State::Held,
         last: t,
         since: t,
         done: e,
@@ -181,7 +160,7 @@ pub fn resumed(k: Ticket, t: Instant) -> Ticket
     let marks = k.marks;
     let done = k.done;
     Ticket {
-        state: RUNNING,
+        state: State::Running,
         last: t,
         since: t,
         done,
@@ -199,7 +178,7 @@ pub fn marked(k: Ticket, name: u64, t: Instant, e: Length) -> Ticket
     let before = k.marks;
     let x = Mark {
         name,
-        running: k.state == RUNNING,
+        running: k.state == State::Running,
         time: e,
     };
     let marks = ticket_marks::set(before, x);
@@ -213,13 +192,14 @@ pub fn marked(k: Ticket, name: u64, t: Instant, e: Length) -> Ticket
 }
 
 // The state that a mark restores.
-fn state_at(m: Mark) -> u32
-    ensures { result ≡ (if m.running then 1 else 2) }
+fn state_at(m: Mark) -> State
+    ensures { result ≡ (if m.running then Running else Held) }
 {
     if m.running {
-        return RUNNING;
+        State::Running
+    } else {
+        State::Held
     }
-    HELD
 }
 
 // The ticket is set back to the mark of that name, which is set, and counts on from t.
@@ -228,12 +208,10 @@ pub fn set_back(k: Ticket, name: u64, t: Instant) -> Ticket
     ensures { Becomes result (model.next_ticket (commands.back name) (nanos t) 0 (standing k)) × (result.since ≡ t) }
 {
     let all = k.marks;
-    let n = all.len;
-    let i = ticket_marks::find(all, n, name);
-    let j = i - 1;
+    let j = ticket_marks::find(all, all.len, name).unwrap();
     let m = all.items[j];
     let done = m.time;
-    let marks = ticket_marks::first(all, i);
+    let marks = ticket_marks::first(all, j + 1);
     Ticket {
         state: state_at(m),
         last: t,

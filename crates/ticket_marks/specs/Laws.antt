@@ -1,18 +1,19 @@
 -- Lists of marks: what stays true of them where some are left out, and that eight names give at most eight marks.
-use Rattle.std.specs.Prelude.{◌≡◌, Bool, true, false, not, ◌&&◌, List, [], ◌∷◌, map, ℕ, zero, suc, ◌+◌, ◌-◌, ◌≤◌, ◌<◌, leb, ltb, eqb, length, get_or, set, if◌then◌else◌}
+use Rattle.std.specs.Prelude.{◌≡◌, Bool, true, false, not, ◌&&◌, List, [], ◌∷◌, map, ℕ, zero, suc, ◌+◌, ◌-◌, ◌≤◌, ◌<◌, leb, ltb, length, get_or, set, Option, Some, None}
+use Rattle.std.specs.Option.{is_some}
 use Rattle.std.proofs.Math.Path.{refl}
 use Rattle.std.proofs.Common.{sym, ap, ◌∙◌, arith, get_or-set_same, get_or-set_other}
 use Rattle.std.proofs.Math.Numerals.{add-one}
-use borrow.Author.Tests.{leb-true, leb-false, ltb-true, ltb-false, le-leb, lt-leb, lt-ltb, le-ltb, eq-eqb, ne_eqb, eqb-true, eqb-false}
+use borrow.Author.Tests.{leb-true, ltb-true, ltb-false, le-leb, lt-leb, lt-ltb, le-ltb, eq-eqb, ne_eqb, eqb-true, eqb-false}
 use Rattle.model.specs.Basic.{any, filter}
 use Rattle.model.specs.Instant.{second, first_instant}
-use Rattle.laws_base.specs.Test.{by-test, and_both, both-and, not-true, true-not, clash}
+use Rattle.laws_base.specs.Test.{by-test, and_both, both-and, not-true, clash}
 use Rattle.instant.specs.Instant.{nanos}
 use Rattle.instant.specs.declared.Instant.{Instant}
 use Rattle.model_ticket.specs.History.{names, up_to}
 use Rattle.model_ticket.specs.Ticket as model
 use Rattle.ticket_marks.specs.declared.Mark.{Mark}
-use Rattle.ticket_marks.specs.Marks.{nil, latest, mark_is, has_name, kept, others, is_within, is_mark_at, are_marks}
+use Rattle.ticket_marks.specs.Marks.{nil, latest, count_to, mark_is, has_name, kept, others, is_within, is_mark_at, are_marks}
 
 -- ---- the marks of an array
 
@@ -57,6 +58,11 @@ upto-long p (a ∷ l) = by-test (p a) (λ e. rw e (sym (lt-ltb 0 (suc (length l)
 pub found-any : (name i r : ℕ) (a : List Mark) → latest r a ≡ up_to (has_name name) (latest i a) → any (has_name name) (latest i a) ≡ ltb 0 r
 found-any name i r a e =
     upto-long (has_name name) (latest i a) ∙ ap (λ (l : List Mark). ltb 0 (length l)) (sym e) ∙ ap (ltb 0) (latest-length r a)
+
+-- a place was found just where there is one
+pub place-set : (r : Option ℕ) → is_some r ≡ ltb 0 (count_to r)
+place-set None = refl
+place-set (Some i) = sym (lt-ltb 0 (i + 1) (omega arith))
 
 -- ---- those of other names
 

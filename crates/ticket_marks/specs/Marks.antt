@@ -1,5 +1,5 @@
 -- What the marks of a ticket mean, and which marks a ticket may have.
-use Rattle.std.specs.Prelude.{Bool, true, false, not, ◌&&◌, List, [], ◌∷◌, map, ℕ, zero, suc, ◌-◌, leb, ltb, eqb, get_or, if◌then◌else◌}
+use Rattle.std.specs.Prelude.{Bool, true, false, not, ◌&&◌, List, [], ◌∷◌, ℕ, zero, suc, ◌+◌, ◌-◌, leb, ltb, eqb, get_or, if◌then◌else◌, Option, Some, None}
 use Rattle.model.specs.Basic.{any}
 use Rattle.model.specs.Instant.{second, first_instant}
 use Rattle.instant.specs.Instant.{nanos}
@@ -21,6 +21,11 @@ nil = record { name = 0; running = false; time = record { sec = 0; ns = 0 } }
 unfoldable pub latest : ℕ → List Mark → List Mark
 latest zero a = []
 latest (suc n) a = get_or a n nil ∷ latest n a
+
+-- how many marks there are up to the one at a place, and none where there is no place
+abbrev pub count_to : Option ℕ → ℕ
+count_to None = 0
+count_to (Some i) = i + 1
 
 -- the marks that are set, latest first
 abbrev pub marks_in : Marks → List Mark

@@ -5,7 +5,7 @@
 ghost use Rattle.std.specs.Prelude.{◌≡◌, [], ◌∷◌, ◌+◌, ◌≤◌, ◌<◌, length};
 ghost use Rattle.instant.specs.Instant.{nanos, InRange};
 ghost use Rattle.model_ticket.specs.History.{up_to};
-ghost use Rattle.ticket_marks.specs.Marks.{capacity, latest, marks_in, has_name, kept, others, is_within, is_mark_at, are_marks};
+ghost use Rattle.ticket_marks.specs.Marks.{capacity, latest, count_to, marks_in, has_name, others, is_within, is_mark_at, are_marks};
 
 use instant::{Instant, Length};
 
@@ -22,7 +22,7 @@ pub struct Mark {
     pub time: Length,
 }
 
-// The first `len` items are set, the latest last.
+// The first `len` items are set, the latest last. An array with its count: a ticket is copied, and a vector of a fixed capacity is not `Copy`.
 #[derive(Clone, Copy)]
 pub struct Marks {
     pub items: [Mark; CAPACITY],
@@ -56,21 +56,17 @@ pub fn push(m: Marks, x: Mark) -> Marks
     r
 }
 
-// How many of the first n marks there are up to the latest of that name; 0 where it is not set.
-pub fn find(m: Marks, n: usize, name: u64) -> usize
+// Where among the first n marks the latest of that name stands.
+pub fn find(m: Marks, n: usize, name: u64) -> Option<usize>
     requires { n ≤ capacity }
-    ensures { (latest result m.items ≡ up_to (has_name name) (latest n m.items)) × (result ≤ n) }
+    ensures { (latest (count_to result) m.items ≡ up_to (has_name name) (latest n m.items)) × (count_to result ≤ n) }
 {
-    let mut i = n;
-    while 0 < i {
-        let k = i - 1;
-        let x = m.items[k];
-        if x.name == name {
-            return i;
+    for i in (0..n).rev() {
+        if m.items[i].name == name {
+            return Some(i);
         }
-        i = k;
     }
-    0
+    None
 }
 
 // Those up to the n-th.
@@ -82,29 +78,17 @@ pub fn first(m: Marks, n: usize) -> Marks
     r
 }
 
-// With x, unless that has the name.
-fn keep(m: Marks, x: Mark, name: u64) -> Marks
-    requires { m.len < capacity }
-    ensures { (marks_in result ≡ kept name x (marks_in m)) × (result.len ≤ m.len + 1) }
-{
-    if x.name == name {
-        return m;
-    }
-    push(m, x)
-}
-
 // The marks of other names.
 fn without(m: Marks, name: u64) -> Marks
     requires { m.len ≤ capacity }
     ensures { marks_in result ≡ others name (marks_in m) }
 {
-    let n = m.len;
     let mut r = no_marks();
-    let mut i: usize = 0;
-    while i < n {
+    for i in 0..m.len {
         let x = m.items[i];
-        r = keep(r, x, name);
-        i += 1;
+        if x.name != name {
+            r = push(r, x);
+        }
     }
     r
 }
@@ -124,14 +108,11 @@ pub fn is_within(d: Length, t: Instant) -> bool
     requires { InRange t }
     ensures { result ≡ is_within d (nanos t) }
 {
-    if instant::SECOND_32 <= d.ns {
-        return false;
-    }
     let first = Instant {
         sec: instant::FIRST,
         ns: 0,
     };
-    !instant::precedes(instant::difference(t, first), d)
+    d.ns < instant::SECOND_32 && !instant::precedes(instant::difference(t, first), d)
 }
 
 // Whether a mark has one of the eight names and a time that is within.
@@ -139,11 +120,7 @@ fn is_mark(x: Mark, t: Instant) -> bool
     requires { InRange t }
     ensures { result ≡ is_mark_at (nanos t) x }
 {
-    if NAMES <= x.name {
-        return false;
-    }
-    let d = x.time;
-    is_within(d, t)
+    x.name < NAMES && is_within(x.time, t)
 }
 
 // Whether these can be the marks of a ticket whose last command was at t.
@@ -151,17 +128,11 @@ pub fn are_marks(m: Marks, t: Instant) -> bool
     requires { (m.len ≤ capacity) × InRange t }
     ensures { result ≡ are_marks (nanos t) (marks_in m) }
 {
-    let n = m.len;
-    let mut i: usize = 0;
-    while i < n {
+    for i in 0..m.len {
         let x = m.items[i];
-        if !is_mark(x, t) {
+        if !is_mark(x, t) || find(m, i, x.name).is_some() {
             return false;
         }
-        if find(m, i, x.name) != 0 {
-            return false;
-        }
-        i += 1;
     }
     true
 }

@@ -4,42 +4,33 @@ use mathlib.Core.Bool.{Bool, true, false, ◌&&◌}
 use Prim.Native.Nat.{ℕ, ◌+◌, ◌*◌, ◌-◌, ◌/◌, ◌≤◌, ◌<◌, min}
 use native.Mathlib.Omega.{arith}
 use lib.Dec.{eqb}
+use mathlib.Core.Option.{Option, none, some}
+use Rattle.laws_skip.specs.Skips.{may_reuse}
 use Rattle.model.specs.Instant.{week}
 use Rattle.walk_distance.proofs.WholeWeeks.{part_left, whole-left}
 use Rattle.walk_between.specs.Sums.{Reused}
 
-and_no : (a b : Bool) → (a && (b && false)) ≡ false
-and_no true true = refl
-and_no true false = refl
-and_no false b = refl
+and_no : (b : Bool) → (b && false) ≡ false
+and_no true = refl
+and_no false = refl
 
-and_none : (a b : Bool) → (a && (false && b)) ≡ false
-and_none true b = refl
-and_none false b = refl
+reuse-no : (k : Option ℕ) {test : Bool} → test ≡ false → may_reuse k test ≡ false
+reuse-no none e = refl
+reuse-no (some t) e = e
 
-module _ {known : Bool} (rep : ℕ → Bool) (x end : ℕ) (h : x ≤ end) where
-  pub reused-fresh : known ≡ false → Reused rep known x end 0
-  reused-fresh e = rw e (record { none = λ q. refl; some = λ q. absurd (omega arith); each = λ i q. absurd (omega arith); inside = omega arith })
+module _ (k : Option ℕ) (rep : ℕ → Bool) (x end : ℕ) {n : ℕ} (e : n ≡ (end - x) / week) where
+  -- what is left is no whole window
+  pub reused-part : n ≡ 0 → may_reuse k (eqb (min (x + week) end - x) week && rep x) ≡ false
+  reused-part z = reuse-no k (rw (part_left x end n e z))
 
-  module _ {n : ℕ} (e : n ≡ (end - x) / week) where
-    pub reused-part : n ≡ 0 → Reused rep known x end 0
-    reused-part z = record {
-      none = λ q. rw (part_left x end n e z) (and_none known (rep x));
-      some = λ q. absurd (omega arith);
-      each = λ i q. absurd (omega arith);
-      inside = omega arith;
-    }
+  module _ (z : n ≡ 0 → ⊥) {m r : ℕ} (f : r ≡ min n m) where
+    -- the first does not repeat the one before it
+    pub reused-none : (m ≡ 0 → rep x ≡ false) → r ≡ 0 → may_reuse k (eqb (min (x + week) end - x) week && rep x) ≡ false
+    reused-none fails q = reuse-no k (rw (fails (omega (arith, z))) (and_no (eqb (min (x + week) end - x) week)))
 
-    pub reused-run : known ≡ true → (n ≡ 0 → ⊥) → {m r : ℕ} → (m ≡ 0 → rep x ≡ false) → ((i : ℕ) → i < m → rep (x + i * week) ≡ true) → r ≡ min n m → Reused rep known x end r
-    reused-run k z {m} {r} fails each f = record {
-      none = λ q. none (fails (zero_left n m r z f q));
-      some = λ q. k;
+    pub reused-run : x ≤ end → ((i : ℕ) → i < m → rep (x + i * week) ≡ true) → (r ≡ 0 → ⊥) → Reused rep x end r
+    reused-run h each y = record {
+      some = omega (arith, y);
       each = λ i q. each i (omega arith);
       inside = whole-left x end n r h e (omega arith);
     }
-      where
-        none : rep x ≡ false → (known && (eqb (min (x + week) end - x) week && rep x)) ≡ false
-        none q = rw q (and_no known (eqb (min (x + week) end - x) week))
-
-        zero_left : (n m r : ℕ) → (n ≡ 0 → ⊥) → r ≡ min n m → r ≡ 0 → m ≡ 0
-        zero_left n m r z f q = omega (arith, z)

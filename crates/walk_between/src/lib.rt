@@ -3,12 +3,13 @@
 #![tactic(auto)]
 
 ghost use Rattle.rule.specs.Rules.{schedule_is, ScheduleFits};
-ghost use Rattle.window_week.specs.Room.{HasRoom};
-ghost use Rattle.walk_between.specs.Sums.{Interval, ReusedFrom, Sums};
+ghost use Rattle.window_week.specs.Room.{HasRoom, Lends};
+ghost use Rattle.walk_between.specs.Sums.{Interval, RunFrom, Sums};
 
 use instant::{Instant, Length};
 use rule::Schedule;
-use window_memory::Size;
+use walk_distance::Run;
+use window_memory::{ALL, FOUR, Memory, ONE, Size};
 
 // The working time of several windows, with the number of windows resolved.
 #[derive(Clone, Copy)]
@@ -17,19 +18,28 @@ pub struct Summed {
     pub windows: u64,
 }
 
-// How many windows from lo on have the time of the one before them, if that is known: none only if the first has not.
-fn repeated(book: &[u8], pack: &[u8], s: Schedule, known: bool, lo: Instant, b: Instant) -> u64
+// The windows from lo on that have the time of the one before them, if that time is kept: none only if the first has not.
+fn repeated(
+    book: &[u8],
+    pack: &[u8],
+    s: Schedule,
+    kept: Option<Length>,
+    lo: Instant,
+    b: Instant,
+) -> Option<Run>
     requires { ScheduleFits book.now pack.now s × Interval lo b }
-    ensures { ReusedFrom (schedule_is book.now pack.now s) known lo b result }
+    ensures { RunFrom (schedule_is book.now pack.now s) kept lo b result }
 {
-    if !known {
-        return 0;
-    }
+    let time = kept?;
     let n = walk_distance::weeks(lo, b);
     if n == 0 {
-        return 0;
+        return None;
     }
-    number::minimum(n, walk_skip::borders(book, pack, s, lo, false))
+    let count = n.min(walk_skip::borders(book, pack, s, lo, false));
+    if count == 0 {
+        return None;
+    }
+    Some(Run { count, time })
 }
 
 // The working time from a to b, and how many windows were resolved for it. A window's blocks are found in lent memory.
@@ -43,30 +53,52 @@ pub fn between_into(
     off: &mut [u64],
     out: &mut [u64],
 ) -> Summed
-    requires { ScheduleFits book.now pack.now s × Interval a b × HasRoom s on.old off.old out.old }
+    requires { ScheduleFits book.now pack.now s × Interval a b × Lends s on.old off.old out.old }
     ensures { Sums (schedule_is book.now pack.now s) a b result }
 {
     let mut lo = a;
     let mut sum = Length { sec: 0, ns: 0 };
-    let mut kept = Length { sec: 0, ns: 0 };
-    let mut known = false;
+    let mut kept: Option<Length> = None;
     let mut windows: u64 = 0;
     while instant::precedes(lo, b) {
-        let n = repeated(book, pack, s, known, lo, b);
-        if n == 0 {
+        if let Some(run) = repeated(book, pack, s, kept, lo, b) {
+            sum = instant::sum(sum, walk_distance::times(run.time, run.count));
+            lo = walk_distance::weeks_on(lo, run.count);
+        } else {
             let hi = walk_distance::window_end(lo, b);
             let blocks = window_week::working_into(book, pack, s, lo, hi, on, off, out);
-            kept = instant::from_nanoseconds(block_pairs::total(out, blocks));
-            known = walk_distance::is_week(lo, hi);
-            sum = instant::sum(sum, kept);
+            let time = instant::from_nanoseconds(block_pairs::total(out, blocks));
+            sum = instant::sum(sum, time);
+            kept = walk_distance::is_week(lo, hi).then_some(time);
             windows += 1;
             lo = hi;
-        } else {
-            sum = instant::sum(sum, walk_distance::times(kept, n));
-            lo = walk_distance::weeks_on(lo, n);
         }
     }
     Summed { time: sum, windows }
+}
+
+// The same in a walk's memory.
+pub fn between_in<const N: usize>(
+    book: &[u8],
+    pack: &[u8],
+    s: Schedule,
+    a: Instant,
+    b: Instant,
+    memory: &mut Memory<N>,
+) -> Summed
+    requires { ScheduleFits book.now pack.now s × Interval a b × HasRoom s N }
+    ensures { Sums (schedule_is book.now pack.now s) a b result }
+{
+    between_into(
+        book,
+        pack,
+        s,
+        a,
+        b,
+        &mut memory.on,
+        &mut memory.off,
+        &mut memory.out,
+    )
 }
 
 // The working time from a to b, and how many windows were resolved for it.
@@ -74,25 +106,9 @@ pub fn between(book: &[u8], pack: &[u8], s: Schedule, a: Instant, b: Instant) ->
     requires { ScheduleFits book.now pack.now s × Interval a b }
     ensures { Sums (schedule_is book.now pack.now s) a b result }
 {
-    let size = window_memory::size_for(s.works + s.pauses + s.closings);
-    match size {
-        Size::One => {
-            let mut on = [0u64; window_memory::ONE];
-            let mut off = [0u64; window_memory::ONE];
-            let mut out = [0u64; window_memory::ONE];
-            between_into(book, pack, s, a, b, &mut on, &mut off, &mut out)
-        },
-        Size::Four => {
-            let mut on = [0u64; window_memory::FOUR];
-            let mut off = [0u64; window_memory::FOUR];
-            let mut out = [0u64; window_memory::FOUR];
-            between_into(book, pack, s, a, b, &mut on, &mut off, &mut out)
-        },
-        Size::All => {
-            let mut on = [0u64; window_memory::ALL];
-            let mut off = [0u64; window_memory::ALL];
-            let mut out = [0u64; window_memory::ALL];
-            between_into(book, pack, s, a, b, &mut on, &mut off, &mut out)
-        },
+    match window_memory::size_for(s.works + s.pauses + s.closings) {
+        Size::One => between_in(book, pack, s, a, b, &mut Memory::<ONE>::new()),
+        Size::Four => between_in(book, pack, s, a, b, &mut Memory::<FOUR>::new()),
+        Size::All => between_in(book, pack, s, a, b, &mut Memory::<ALL>::new()),
     }
 }

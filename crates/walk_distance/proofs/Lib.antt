@@ -1,3 +1,4 @@
+pub mod Blocks
 pub mod Borders
 pub mod Near
 pub mod WholeWeeks

@@ -1,6 +1,6 @@
 -- What the functions on the windows of a walk are asked and answer.
-use Rattle.std.specs.Prelude.{◌≡◌, Bool, true, false, List, ℕ, ◌+◌, ◌*◌, ◌-◌, ◌≤◌, ◌<◌}
-use Rattle.model.specs.Blocks.{Block}
+use Rattle.std.specs.Prelude.{◌≡◌, Bool, true, false, List, ◌∷◌, ℕ, ◌+◌, ◌*◌, ◌-◌, ◌≤◌, ◌<◌}
+use Rattle.model.specs.Blocks.{Block, block}
 use Rattle.model.specs.Instant.{week}
 use Rattle.model.specs.Walk.{Way, on, back, reach, ahead, backward}
 use Rattle.laws_blocks.specs.Move.{moves}
@@ -10,9 +10,10 @@ use Rattle.instant.specs.declared.Instant.{Instant}
 use Rattle.rule.specs.Rules.{schedule_is, ScheduleFits}
 use Rattle.rule.specs.declared.Schedule.{Schedule}
 use Rattle.window_dates.specs.Windows.{Window}
-use Rattle.block_pairs.specs.Pairs.{pairs}
+use Rattle.block_pairs.specs.Pairs.{part, pairs}
 use Rattle.window_week.specs.Room.{records, HasRoom}
 use Rattle.walk_distance.specs.declared.Ends.{Ends}
+use Rattle.walk_distance.specs.declared.NearBlock.{NearBlock}
 
 -- the way of a walk: back where the flag is set
 abbrev pub way_of : Bool → Way
@@ -45,8 +46,8 @@ abbrev pub WindowWithin : Instant → Bool → Instant → Instant → Type 0
 WindowWithin t b x y = InRange t × WindowAhead (way_of b) (nanos t) x y
 
 -- such a window of a schedule that fits, and memory for its blocks
-abbrev pub WindowReady : List ℕ → List ℕ → Schedule → Instant → Bool → Instant → Instant → List ℕ → List ℕ → List ℕ → Type 0
-WindowReady book pack s t b x y k m n = ScheduleFits book pack s × WindowWithin t b x y × HasRoom s k m n
+abbrev pub WindowReady : List ℕ → List ℕ → Schedule → Instant → Bool → Instant → Instant → ℕ → Type 0
+WindowReady book pack s t b x y n = ScheduleFits book pack s × WindowWithin t b x y × HasRoom s n
 
 -- the window between the distances x and y from t lies from lo to hi
 pub data WindowPlaced : Way → ℕ → ℕ → ℕ → ℕ → ℕ → Type 0 where
@@ -67,3 +68,12 @@ abbrev pub ResolvedAt : List ℕ → List ℕ → Schedule → Instant → Bool 
 ResolvedAt book pack s t b x y n out =
     (moves (nanos x) (seen (way_of b) (nanos y - nanos x) (pairs n out)) ≡ ahead (way_of b) (schedule_is book pack s) (nanos t) (nanos x) (nanos y))
     × Inside 0 (nanos y - nanos x) (pairs n out) × (n ≤ 14 * records s)
+
+-- those of the first n blocks that are left behind the i nearest
+unfoldable pub rest : Way → ℕ → ℕ → ℕ → List ℕ → List Block
+rest on w n i l = part i (n - i) l
+rest back w n i l = backward w (pairs (n - i) l)
+
+-- r is the nearest of the first n blocks behind the i nearest
+abbrev pub IsNearest : Bool → ℕ → ℕ → ℕ → List ℕ → NearBlock → Type 0
+IsNearest b w n i l r = rest (way_of b) w n i l ≡ block r.from r.to ∷ rest (way_of b) w n (i + 1) l

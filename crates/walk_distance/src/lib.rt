@@ -2,14 +2,15 @@
 // range's end.
 #![tactic(auto)]
 
-ghost use Rattle.std.specs.Prelude.{◌≡◌, ◌+◌, ◌*◌, ◌-◌, ◌/◌, ◌≤◌, ◌<◌, min, eqb};
+ghost use Rattle.std.specs.Prelude.{◌≡◌, ◌+◌, ◌*◌, ◌-◌, ◌/◌, ◌≤◌, ◌<◌, min, eqb, length};
 ghost use Rattle.instant.specs.Instant.{nanos, most, Exact, InRange};
 ghost use Rattle.model.specs.Instant.{week};
 ghost use Rattle.model.specs.Walk as way;
-ghost use Rattle.walk_distance.specs.Distances.{way_of, range_seconds, most_weeks, Short, WindowWithin, WindowReady, PlacedAt, ResolvedAt};
+ghost use Rattle.walk_distance.specs.Distances.{way_of, range_seconds, most_weeks, Short, WindowWithin, WindowReady, PlacedAt, ResolvedAt, IsNearest};
 
 use instant::{Instant, Length};
 use rule::Schedule;
+use window_memory::Memory;
 
 // The end of the window that begins at x: a week further, or `end` if that is nearer. Both may be distances, or both instants.
 pub fn window_end(x: Length, end: Length) -> Length
@@ -38,6 +39,13 @@ pub fn is_week(x: Length, y: Length) -> bool
 }
 
 // ---- many windows at once
+
+// Whole windows in a row that have the time of the one before them, and that time.
+#[derive(Clone, Copy)]
+pub struct Run {
+    pub count: u64,
+    pub time: Length,
+}
 
 // How many whole windows lie from x to `end`.
 pub fn weeks(x: Length, end: Length) -> u64
@@ -72,6 +80,8 @@ pub fn times(x: Length, n: u64) -> Length
 }
 
 // ---- distances from an instant
+
+// The way is a `bool`, set where a walk goes back: all contracts say it by `way_of`, to which an enum of two variants would add nothing.
 
 // The instant that is x away from t, be it in the range or not.
 pub fn away(t: Instant, back: bool, x: Length) -> Instant
@@ -135,9 +145,9 @@ pub fn place(t: Instant, back: bool, x: Length, y: Length) -> Ends
     Ends { lo: near, hi: far }
 }
 
-// The blocks of the window between two distances from t, as pairs of numbers in `out`: how many it has afterwards, as distances from the window's start.
-// `on` and `off` are lent for the work.
-pub fn window_into(
+// The blocks of the window between two distances from t, as pairs of numbers in `memory.out`: how many it has afterwards, as distances from the window's
+// start.
+pub fn window_into<const N: usize>(
     book: &[u8],
     pack: &[u8],
     s: Schedule,
@@ -145,13 +155,36 @@ pub fn window_into(
     back: bool,
     x: Length,
     y: Length,
-    on: &mut [u64],
-    off: &mut [u64],
-    out: &mut [u64],
+    memory: &mut Memory<N>,
 ) -> usize
-    requires { WindowReady book.now pack.now s t back x y on.old off.old out.old }
-    ensures { ResolvedAt book.now pack.now s t back x y result out.new }
+    requires { WindowReady book.now pack.now s t back x y N }
+    ensures { ResolvedAt book.now pack.now s t back x y result memory.new.out }
 {
     let at = place(t, back, x, y);
-    window_week::working_into(book, pack, s, at.lo, at.hi, on, off, out)
+    window_week::working_in(book, pack, s, at.lo, at.hi, memory)
+}
+
+// ---- the blocks of a window
+
+// A block's nearer and further border, as distances from the window's nearer border.
+#[derive(Clone, Copy)]
+pub struct NearBlock {
+    pub from: u64,
+    pub to: u64,
+}
+
+// The i-th nearest of the first n blocks, which are pairs of numbers, distances from the start of a window that is w long.
+pub fn nearest(l: &[u64], n: usize, back: bool, w: u64, i: usize) -> NearBlock
+    requires { (i < n) × (2 * n ≤ length l.now) }
+    ensures { IsNearest back w n i l.now result }
+{
+    if back {
+        let k = n - i;
+        let from = w.saturating_sub(l[2 * k - 1]);
+        let to = w.saturating_sub(l[2 * k - 2]);
+        return NearBlock { from, to };
+    }
+    let from = l[2 * i];
+    let to = l[2 * i + 1];
+    NearBlock { from, to }
 }

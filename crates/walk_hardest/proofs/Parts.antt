@@ -16,7 +16,6 @@ use Rattle.laws_hardest.specs.Windows.{log_time, time-none, time-short, starts-r
 use Rattle.instant.specs.Instant.{nanos, Exact}
 use Rattle.instant.specs.declared.Instant.{Instant}
 use Rattle.rule.specs.declared.Schedule as rule
-use Rattle.window_week.specs.Room.{HasRoom}
 use Rattle.walk_between.specs.Sums.{Interval}
 use Rattle.walk_hardest.specs.Held.{LogPart, LogAsked, PartAsked, part_of}
 
@@ -83,20 +82,3 @@ module _ (s : Schedule) (t : ℕ) (log : List ℤ) (w i k : ℕ) where
 
   pub part-some : k < run_count log → {from to : ℕ} → from ≡ run_start log k → to ≡ run_start log i + w → log_time s t from to ≡ part_of s t log w i k
   part-some h p q = rw (lt-ltb k (run_count log) h, p, q)
-
--- ---- the lent memory
-
--- three slices are as long as three others
-abbrev pub AsLong : List ℕ → List ℕ → List ℕ → List ℕ → List ℕ → List ℕ → Type 0
-AsLong x y z a b c = (length x ≡ length a) × (length y ≡ length b) × (length z ≡ length c)
-
--- so there is room still
-pub still-room : (s : rule.Schedule) (x y z a b c : List ℕ) → AsLong x y z a b c → HasRoom s a b c → HasRoom s x y z
-still-room s x y z a b c e h =
-    let p = e.0 in
-    let q = e.1 in
-    let r = e.2 in
-    let u = h.0 in
-    let v = h.1 in
-    let w = h.2 in
-    (omega arith, omega arith, omega arith)

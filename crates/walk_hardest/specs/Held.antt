@@ -11,7 +11,6 @@ use Rattle.instant.specs.Instant.{nanos, InRange}
 use Rattle.instant.specs.declared.Instant.{Instant}
 use Rattle.rule.specs.declared.Schedule as rule
 use Rattle.rule.specs.Rules.{schedule_is, ScheduleFits}
-use Rattle.window_week.specs.Room.{HasRoom}
 use Rattle.walk_hardest.specs.declared.Held.{Held}
 use Rattle.walk_hardest.specs.declared.Stretch.{Stretch}
 
@@ -29,9 +28,9 @@ pub record LogAsked (t : Instant) (log : List ℤ) (w : ℕ) : Type 0 where
   pub few : length log ≤ most_numbers
   pub width : w ≤ most_width
 
--- its parts can be walked, with memory for the blocks of a window
-abbrev pub CanWalkLog : List ℕ → List ℕ → rule.Schedule → Instant → List ℤ → ℕ → List ℕ → List ℕ → List ℕ → Type 0
-CanWalkLog book pack s t log w on off out = ScheduleFits book pack s × LogAsked t log w × HasRoom s on off out
+-- its parts can be walked
+abbrev pub CanWalkLog : List ℕ → List ℕ → rule.Schedule → Instant → List ℤ → ℕ → Type 0
+CanWalkLog book pack s t log w = ScheduleFits book pack s × LogAsked t log w
 
 -- ---- the runs' times
 

@@ -9,12 +9,12 @@ ghost use Rattle.rule.specs.Rules.{schedule_is, ScheduleFits};
 ghost use Rattle.model.specs.Hardest.{most_width};
 ghost use Rattle.laws_hardest.specs.Logs.{run_count, run_start, LogFits};
 ghost use Rattle.laws_hardest.specs.Windows.{log_time};
-ghost use Rattle.window_week.specs.Room.{HasRoom};
 ghost use Rattle.walk_hardest.specs.Held.{LogPart, LogAsked, CanWalkLog, whole_time, KnownTimes, CanGoOn, HoldsRuns, HoldsNoMore, PartAsked, part_of};
 ghost use Rattle.walk_hardest.specs.Held.{FirstStart, harder_of, FindsHardest};
 
 use instant::{Instant, Length};
 use rule::Schedule;
+use window_memory::{ALL, Memory};
 
 // The runs that a window holds whole end before run `next`; their time in nanoseconds.
 #[derive(Clone, Copy)]
@@ -32,7 +32,7 @@ pub struct Stretch {
 
 // ---- working time of a part of the log
 
-// The working time from one second to another, in nanoseconds. `on`, `off` and `out` are lent for the blocks of one window of the walk.
+// The working time from one second to another, in nanoseconds. The memory is lent for the blocks of one window of the walk.
 fn time_of(
     book: &[u8],
     pack: &[u8],
@@ -40,16 +40,14 @@ fn time_of(
     t: Instant,
     from: u64,
     to: u64,
-    on: &mut [u64],
-    off: &mut [u64],
-    out: &mut [u64],
+    memory: &mut Memory<ALL>,
 ) -> u64
-    requires { ScheduleFits book.now pack.now s × LogPart t from to × HasRoom s on.old off.old out.old }
+    requires { ScheduleFits book.now pack.now s × LogPart t from to }
     ensures { result ≡ log_time (schedule_is book.now pack.now s) (nanos t) from to }
 {
     let a = instant::sum(t, Length { sec: from, ns: 0 });
     let b = instant::sum(t, Length { sec: to, ns: 0 });
-    let r = walk_between::between_into(book, pack, s, a, b, on, off, out);
+    let r = walk_between::between_in(book, pack, s, a, b, memory);
     instant::nanoseconds(r.time)
 }
 
@@ -62,11 +60,9 @@ fn whole_time(
     log: &[i64],
     width: u64,
     j: usize,
-    on: &mut [u64],
-    off: &mut [u64],
-    out: &mut [u64],
+    memory: &mut Memory<ALL>,
 ) -> u64
-    requires { CanWalkLog book.now pack.now s t log.now width on.old off.old out.old
+    requires { CanWalkLog book.now pack.now s t log.now width
         × (j < run_count log.now) }
     ensures { result ≡ whole_time (schedule_is book.now pack.now s)
         (nanos t) log.now width j }
@@ -75,7 +71,7 @@ fn whole_time(
     if width < run.end - run.start {
         return 0;
     }
-    time_of(book, pack, s, t, run.start, run.end, on, off, out)
+    time_of(book, pack, s, t, run.start, run.end, memory)
 }
 
 // The working times of all runs, without those that are longer than the width.
@@ -87,19 +83,15 @@ fn whole_times(
     log: &[i64],
     width: u64,
     whole: &mut [u64],
-    on: &mut [u64],
-    off: &mut [u64],
-    out: &mut [u64],
+    memory: &mut Memory<ALL>,
 )
-    requires { CanWalkLog book.now pack.now s t log.now width on.old off.old out.old
+    requires { CanWalkLog book.now pack.now s t log.now width
         × (run_count log.now ≤ length whole.old) }
     ensures { KnownTimes (schedule_is book.now pack.now s)
         (nanos t) log.now width whole.new }
 {
-    let mut j = 0;
-    while j < run_log::count(log) {
-        whole[j] = whole_time(book, pack, s, t, log, width, j, on, off, out);
-        j += 1;
+    for j in 0..run_log::count(log) {
+        whole[j] = whole_time(book, pack, s, t, log, width, j, memory);
     }
 }
 
@@ -121,17 +113,16 @@ fn take_up(log: &[i64], width: u64, whole: &[u64], i: usize, held: Held) -> Held
         × HoldsNoMore log.now width i result.next }
 {
     let end = window_end(log, width, i);
-    let mut next = held.next;
+    let count = run_log::count(log);
     let mut time = held.time;
-    while next < run_log::count(log) {
+    for next in held.next..count {
         let run = run_log::run_at(log, next);
         if end < run.end {
             return Held { next, time };
         }
         time += whole[next];
-        next += 1;
     }
-    Held { next, time }
+    Held { next: count, time }
 }
 
 // Leaves run i behind, for the window that starts with the next one.
@@ -161,11 +152,9 @@ fn part_time(
     width: u64,
     i: usize,
     k: usize,
-    on: &mut [u64],
-    off: &mut [u64],
-    out: &mut [u64],
+    memory: &mut Memory<ALL>,
 ) -> u64
-    requires { CanWalkLog book.now pack.now s t log.now width on.old off.old out.old
+    requires { CanWalkLog book.now pack.now s t log.now width
         × PartAsked log.now width i k }
     ensures { result ≡ part_of (schedule_is book.now pack.now s)
         (nanos t) log.now width i k }
@@ -178,7 +167,7 @@ fn part_time(
     if to <= run.start {
         return 0;
     }
-    time_of(book, pack, s, t, run.start, to, on, off, out)
+    time_of(book, pack, s, t, run.start, to, memory)
 }
 
 // ---- all windows
@@ -214,11 +203,9 @@ fn hardest_by(
     log: &[i64],
     width: u64,
     whole: &[u64],
-    on: &mut [u64],
-    off: &mut [u64],
-    out: &mut [u64],
+    memory: &mut Memory<ALL>,
 ) -> Stretch
-    requires { CanWalkLog book.now pack.now s t log.now width on.old off.old out.old
+    requires { CanWalkLog book.now pack.now s t log.now width
         × KnownTimes (schedule_is book.now pack.now s) (nanos t) log.now width whole.now }
     ensures { FindsHardest book.now pack.now s t log.now width result }
 {
@@ -227,14 +214,12 @@ fn hardest_by(
         start: first_start(log),
     };
     let mut held = Held { next: 0, time: 0 };
-    let mut i = 0;
-    while i < run_log::count(log) {
+    for i in 0..run_log::count(log) {
         held = take_up(log, width, whole, i, held);
-        let part = part_time(book, pack, s, t, log, width, i, held.next, on, off, out);
+        let part = part_time(book, pack, s, t, log, width, i, held.next, memory);
         let run = run_log::run_at(log, i);
         best = harder(best, held.time + part, run.start);
         held = leave(log, width, whole, i, held);
-        i += 1;
     }
     best
 }
@@ -252,13 +237,7 @@ pub fn hardest(
     ensures { FindsHardest book.now pack.now s t log.now width result }
 {
     let mut whole = [0u64; run_log::MOST_RUNS];
-    let mut on = [0u64; window_memory::ALL];
-    let mut off = [0u64; window_memory::ALL];
-    let mut out = [0u64; window_memory::ALL];
-    whole_times(
-        book, pack, s, t, log, width, &mut whole, &mut on, &mut off, &mut out,
-    );
-    hardest_by(
-        book, pack, s, t, log, width, &whole, &mut on, &mut off, &mut out,
-    )
+    let mut memory = Memory::<ALL>::new();
+    whole_times(book, pack, s, t, log, width, &mut whole, &mut memory);
+    hardest_by(book, pack, s, t, log, width, &whole, &mut memory)
 }

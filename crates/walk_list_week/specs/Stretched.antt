@@ -1,5 +1,5 @@
 -- Stretches as they are found block by block: those that are ended, the one that is still open, and the numbers that are written of them.
-use Rattle.std.specs.Prelude.{◌≡◌, Bool, true, false, List, [], ◌∷◌, ◌++◌, map, ℕ, ◌+◌, ◌*◌, ◌≤◌, ◌<◌, max, leb, ℤ, length, take, drop, get_or, if◌then◌else◌}
+use Rattle.std.specs.Prelude.{◌≡◌, Bool, true, false, List, [], ◌∷◌, ◌++◌, map, ℕ, ◌+◌, ◌*◌, ◌≤◌, ◌<◌, max, leb, ℤ, length, take, drop, get_or, if◌then◌else◌, Option, Some, None}
 use Rattle.model.specs.Basic.{joined}
 use Rattle.model.specs.Blocks.{Block, block, merged, merged_from}
 use Rattle.model.specs.Instant.{instant}
@@ -8,38 +8,34 @@ use Rattle.laws_blocks.specs.Count672.{most_blocks}
 use Rattle.instant.specs.Instant.{nanos, most}
 use Rattle.instant.specs.declared.Instant.{Instant}
 use Rattle.block.specs.Counted.{block_of}
+use Rattle.block.specs.declared.Block.{Block as Item}
 use Rattle.block_pairs.specs.Pairs.{pairs}
 use Rattle.walk_list_week.specs.declared.Open.{Open}
 
 -- ---- stretches
 
--- the stretches of an open one, where there is one, and the blocks behind it
-unfoldable pub on_from : Bool → Block → List Block → List Block
-on_from true b l = merged_from b l
-on_from false b l = merged l
+-- the stretches of an open one, if there is one, and the blocks behind it
+unfoldable pub on_from : Option Block → List Block → List Block
+on_from (Some b) l = merged_from b l
+on_from None l = merged l
 
 -- of these, the ones that end before the last: a block behind them is apart from them
-unfoldable pub ended : Bool → Block → List Block → List Block
-ended known b [] = []
-ended false b (c ∷ l) = ended true c l
-ended true b (c ∷ l) =
-    let joins = ended true (block b.start (max b.end c.end)) l in
-    let apart = ended true c l in
+unfoldable pub ended : Option Block → List Block → List Block
+ended o [] = []
+ended None (c ∷ l) = ended (Some c) l
+ended (Some b) (c ∷ l) =
+    let joins = ended (Some (block b.start (max b.end c.end))) l in
+    let apart = ended (Some c) l in
     if leb c.start b.end then joins else b ∷ apart
 
--- and the last, which is still open behind all blocks
-unfoldable pub still_open : Bool → Block → List Block → Block
-still_open known b [] = b
-still_open false b (c ∷ l) = still_open true c l
-still_open true b (c ∷ l) =
-    let joins = still_open true (block b.start (max b.end c.end)) l in
-    let apart = still_open true c l in
+-- and the last, if there is one, which is still open behind all blocks
+unfoldable pub still_open : Option Block → List Block → Option Block
+still_open o [] = o
+still_open None (c ∷ l) = still_open (Some c) l
+still_open (Some b) (c ∷ l) =
+    let joins = still_open (Some (block b.start (max b.end c.end))) l in
+    let apart = still_open (Some c) l in
     if leb c.start b.end then joins else apart
-
--- whether there is one
-abbrev pub any_open : Bool → List Block → Bool
-any_open known [] = known
-any_open known (c ∷ l) = true
 
 -- ---- numbers
 
@@ -76,41 +72,50 @@ most_stretches = 1000000000000
 abbrev pub SmallBlock : Block → Type 0
 SmallBlock b = (b.start < most) × (b.end < most)
 
+-- and those of a block, if there is one
+abbrev pub SmallOpen : Option Block → Type 0
+SmallOpen (Some b) = SmallBlock b
+SmallOpen None = Unit {0}
+
 -- and those of all blocks
 abbrev pub Below : List Block → Type 0
 Below [] = Unit {0}
 Below (b ∷ l) = SmallBlock b × Below l
 
+-- the stretch that is open, if there is one
+abbrev pub open_of : Option Item → Option Block
+open_of (Some b) = Some (block_of b)
+open_of None = None
+
 -- the blocks l of a window, and the lent numbers: those that are written have room
 pub record StretchReady (l : List Block) (o : Open) (write : Bool) (e : List ℤ) : Type 0 where
   pub few : length l ≤ most_blocks
-  pub small : SmallBlock (block_of o.block)
+  pub small : SmallOpen (open_of o.block)
   pub below : Below l
   pub count : o.count < most_stretches
-  pub room : write ≡ true → 4 * (o.count + length (ended o.known (block_of o.block) l)) ≤ length e
+  pub room : write ≡ true → 4 * (o.count + length (ended (open_of o.block) l)) ≤ length e
 
 -- what a window leaves: the stretch that is open, and how many have ended
 pub record Left (l : List Block) (o r : Open) : Type 0 where
-  pub known : r.known ≡ any_open o.known l
-  pub last : block_of r.block ≡ still_open o.known (block_of o.block) l
-  pub small : SmallBlock (block_of r.block)
-  pub count : r.count ≡ o.count + length (ended o.known (block_of o.block) l)
+  pub last : open_of r.block ≡ still_open (open_of o.block) l
+  pub small : SmallOpen (open_of r.block)
+  pub count : r.count ≡ o.count + length (ended (open_of o.block) l)
 
 -- a window's blocks l are joined to the open stretch o: r is what it leaves, and the stretches that end are written where they are to be
 abbrev pub Joins : List Block → Open → Bool → List ℤ → List ℤ → Open → Type 0
 Joins l o write before after r =
-    Left l o r × (after ≡ stored write o.count (ended o.known (block_of o.block) l) before)
+    Left l o r × (after ≡ stored write o.count (ended (open_of o.block) l) before)
 
 -- ---- the end of a listing
 
--- the stretch that is open, where there is one
+-- the stretch that is open, if there is one
 abbrev pub last_of : Open → List Block
-last_of o = on_from o.known (block_of o.block) []
+last_of o = on_from (open_of o.block) []
 
 -- it has room where it is to be written
 abbrev pub CanFinish : Open → Bool → List ℤ → Type 0
 CanFinish o write e =
-    SmallBlock (block_of o.block) × (o.count < most_stretches) × (write ≡ true → 4 * (o.count + length (last_of o)) ≤ length e)
+    SmallOpen (open_of o.block) × (o.count < most_stretches) × (write ≡ true → 4 * (o.count + length (last_of o)) ≤ length e)
 
 -- r is the number of all stretches, and the last is written where it is to be
 abbrev pub Finishes : Open → Bool → List ℤ → List ℤ → ℕ → Type 0

@@ -18,11 +18,10 @@ pub const STRETCH_SIZE: usize = 4;
 
 const END_AT: usize = 2;
 
-// How many stretches have ended, and the one that is still open, where `known` says that there is one.
+// How many stretches have ended, and the one that is still open, if there is one.
 #[derive(Clone, Copy)]
 pub struct Open {
-    pub known: bool,
-    pub block: Block,
+    pub block: Option<Block>,
     pub count: usize,
 }
 
@@ -108,31 +107,23 @@ pub fn join_window(
     requires { StretchReady (blocks_from lo n l.now) prev write out.old × (2 * n ≤ length l.now) × InRange lo }
     ensures { Joins (blocks_from lo n l.now) prev write out.old out.new result }
 {
-    let mut known = prev.known;
     let mut last = prev.block;
     let mut count = prev.count;
-    let mut i = 0;
-    while i < n {
+    for i in 0..n {
         let x = block_at(l, i, lo);
-        i += 1;
-        if known {
-            if is_apart(last, x) {
-                put(out, write, count, last);
+        if let Some(b) = last {
+            if is_apart(b, x) {
+                put(out, write, count, b);
                 count += 1;
-                last = x;
+                last = Some(x);
             } else {
-                last = block::join(last, x);
+                last = Some(block::join(b, x));
             }
         } else {
-            known = true;
-            last = x;
+            last = Some(x);
         }
     }
-    Open {
-        known,
-        block: last,
-        count,
-    }
+    Open { block: last, count }
 }
 
 // Ends the stretch that is open, where there is one, and tells how many stretches there are.
@@ -140,10 +131,9 @@ pub fn finish(last: Open, write: bool, out: &mut [i64]) -> usize
     requires { CanFinish last write out.old }
     ensures { Finishes last write out.old out.new result }
 {
-    if !last.known {
+    let Some(b) = last.block else {
         return last.count;
-    }
-    let b = last.block;
+    };
     put(out, write, last.count, b);
     last.count + 1
 }

@@ -1,4 +1,5 @@
 -- The loop of `period_walk`: its invariant, and that a turn keeps it. Assumes nothing.
+use Rattle.std.specs.Prelude.{Option, Some, None}
 use Rattle.instant.specs.Instant.{nanos, most}
 use mathlib.Core.Path.{◌≡◌, refl, sym, ◌∙◌, ap}
 use mathlib.Core.Bool.{Bool, true, false, not, ◌||◌}
@@ -17,11 +18,11 @@ use Rattle.laws_base.specs.Test.{by-test}
 use Rattle.laws_blocks.specs.Move.{moves}
 use Rattle.laws_skip.specs.WindowEnds.{Inside}
 use Rattle.instant.specs.declared.Instant.{Instant}
-use Rattle.walk_period_week.specs.SoFars.{so_far, so_far_is}
-use Rattle.walk_period_week.specs.declared.SoFar.{SoFar}
+use Rattle.walk_period_week.specs.SoFars.{so_far}
+use Rattle.walk_period_week.specs.declared.Period.{Period}
 use Rattle.walk_distance.proofs.Near.{into-placed}
 use Rattle.walk_distance.specs.Distances.{Short, WindowPlaced, seen}
-use Rattle.walk_period.specs.Found.{PeriodFits}
+use Rattle.walk_period.specs.Found.{PeriodFits, IsCut}
 use Rattle.laws_skip.specs.Loops.{begun-less}
 
 -- ---- the definition turn by turn
@@ -96,97 +97,101 @@ period-in-upto limit x y (ended f e) (b ∷ l) i u = u
 period-in-upto limit x y too_far (b ∷ l) i u = u
 
 -- there is a period
-abbrev Some : PeriodSoFar → Type 0
-Some nothing = ⊥
-Some (growing f e) = Unit {0}
-Some (ended f e) = Unit {0}
-Some too_far = ⊥
+abbrev IsThere : PeriodSoFar → Type 0
+IsThere nothing = ⊥
+IsThere (growing f e) = Unit {0}
+IsThere (ended f e) = Unit {0}
+IsThere too_far = ⊥
+
+-- the cut of a period is given
+cut-gives : (limit : ℕ) (r c : Period) → IsCut limit r c → gives (block (nanos c.near) (nanos c.far)) ≡ gives (capped limit (nanos r.near) (nanos r.far))
+cut-gives limit r c u = λ i. gives (block (u.0 i) (u.1 i))
 
 -- a period that there is stays
-still-some : (limit f e : ℕ) (l : List Block) → Some (period_in limit (growing f e) l)
+still-some : (limit f e : ℕ) (l : List Block) → IsThere (period_in limit (growing f e) l)
 unfolding period_in
 still-some limit f e [] = tt
 still-some limit f e (b ∷ l) = by-test (eqb b.start e) (λ u. rw u (still-some limit f b.end l)) (λ u. rw u tt)
 
-still-none : (limit : ℕ) (some : Bool) (f e : ℕ) (l : List Block) → period_in limit (so_far some f e) l ≡ nothing → some ≡ false
-still-none limit true f e l q = absurd (rw q at (still-some limit f e l))
-still-none limit false f e l q = refl
+still-none : (limit : ℕ) (known : Option Period) (l : List Block) → period_in limit (so_far known) l ≡ nothing → known ≡ None
+still-none limit (Some p) l q = absurd (rw q at (still-some limit (nanos p.near) (nanos p.far) l))
+still-none limit None l q = refl
 
 -- ---- the loop
 
 module _ (look : ℕ → ℕ → List Block) (limit end : ℕ) where
-  -- at the distance x, with the period from f to e if there is one: the walk from there is the whole walk
-  pub record Walking (x : ℕ) (some : Bool) (f e : ℕ) : Type 0 where
+  -- at the distance x, with the period that there is so far: the walk from there is the whole walk
+  pub record Walking (x : ℕ) (known : Option Period) : Type 0 where
     pub upto : x ≤ end
-    pub inside : Upto x (so_far some f e)
-    pub same : period_rest look limit end x (so_far some f e) ≡ period_rest look limit end 0 nothing
+    pub inside : Upto x (so_far known)
+    pub same : period_rest look limit end x (so_far known) ≡ period_rest look limit end 0 nothing
 
-  pub walking-starts : Walking 0 false 0 0
+  pub walking-starts : Walking 0 None
   walking-starts = record { upto = omega arith; inside = tt; same = refl }
 
-  module _ (x : ℕ) (some : Bool) (f e : ℕ) (m : Walking x some f e) where
+  module _ (x : ℕ) (known : Option Period) (m : Walking x known) where
     module _ (h : x < end) (y : ℕ) (p : y ≡ min (x + week) end) where
-      pub walking-nothing : nothing ≡ period_in limit (so_far some f e) (look x y) → ltb limit y ≡ false → Walking y some f e
+      pub walking-nothing : nothing ≡ period_in limit (so_far known) (look x y) → ltb limit y ≡ false → Walking y known
       walking-nothing q u =
-          let z = still-none limit some f e (look x y) (sym q) in
+          let z = still-none limit known (look x y) (sym q) in
           record {
             upto = omega arith;
             inside = rw z tt;
             same = rw z (moved z);
           }
         where
-          moved : some ≡ false → period_rest look limit end y nothing ≡ period_rest look limit end 0 nothing
-          moved z = rw p (sym (rest-nothing look limit end x (so_far some f e) h (rw p at (sym q)) (rw p at u)) ∙ m.same)
+          moved : known ≡ None → period_rest look limit end y nothing ≡ period_rest look limit end 0 nothing
+          moved z = rw p (sym (rest-nothing look limit end x (so_far known) h (rw p at (sym q)) (rw p at u)) ∙ m.same)
 
-      pub walking-no-work : nothing ≡ period_in limit (so_far some f e) (look x y) → ltb limit y ≡ true → refuses 6 0 ≡ period_rest look limit end 0 nothing
-      walking-no-work q u = sym (rest-no-work look limit end x (so_far some f e) h (rw p at (sym q)) (rw p at u)) ∙ m.same
+      pub walking-no-work : nothing ≡ period_in limit (so_far known) (look x y) → ltb limit y ≡ true → refuses 6 0 ≡ period_rest look limit end 0 nothing
+      walking-no-work q u = sym (rest-no-work look limit end x (so_far known) h (rw p at (sym q)) (rw p at u)) ∙ m.same
 
-      pub walking-far : too_far ≡ period_in limit (so_far some f e) (look x y) → refuses 6 0 ≡ period_rest look limit end 0 nothing
-      walking-far q = sym (rest-far look limit end x (so_far some f e) h (rw p at (sym q))) ∙ m.same
+      pub walking-far : too_far ≡ period_in limit (so_far known) (look x y) → refuses 6 0 ≡ period_rest look limit end 0 nothing
+      walking-far q = sym (rest-far look limit end x (so_far known) h (rw p at (sym q))) ∙ m.same
 
-      module _ (i : Inside x y (look x y)) (a b : ℕ) where
-        pub ended-upto : ended a b ≡ period_in limit (so_far some f e) (look x y) → (a ≤ b) × (b ≤ end)
+      module _ (i : Inside x y (look x y)) (r : Period) where
+        pub ended-upto : ended (nanos r.near) (nanos r.far) ≡ period_in limit (so_far known) (look x y) → (nanos r.near ≤ nanos r.far) × (nanos r.far ≤ end)
         ended-upto q =
-            let u : Upto y (ended a b) = rw (← q) at (period-in-upto limit x y (so_far some f e) (look x y) i (upto-more x y (so_far some f e) (omega arith) m.inside)) in
+            let u : Upto y (ended (nanos r.near) (nanos r.far)) = rw (← q) at (period-in-upto limit x y (so_far known) (look x y) i (upto-more x y (so_far known) (omega arith) m.inside)) in
             (u.0, omega arith)
 
-        pub growing-upto : growing a b ≡ period_in limit (so_far some f e) (look x y) → (a ≤ b) × (b ≤ y) × (b ≤ end)
+        pub growing-upto : growing (nanos r.near) (nanos r.far) ≡ period_in limit (so_far known) (look x y) → (nanos r.near ≤ nanos r.far) × (nanos r.far ≤ y) × (nanos r.far ≤ end)
         growing-upto q =
-            let u : Upto y (growing a b) = rw (← q) at (period-in-upto limit x y (so_far some f e) (look x y) i (upto-more x y (so_far some f e) (omega arith) m.inside)) in
+            let u : Upto y (growing (nanos r.near) (nanos r.far)) = rw (← q) at (period-in-upto limit x y (so_far known) (look x y) i (upto-more x y (so_far known) (omega arith) m.inside)) in
             (u.0, u.1, omega arith)
 
-        -- a period that has ended, its further border cut to c
-        pub walking-ended : ended a b ≡ period_in limit (so_far some f e) (look x y) → (c : ℕ) → c ≡ min b (a + limit) → gives (block a c) ≡ period_rest look limit end 0 nothing
-        walking-ended q c u = ap (λ z. gives (block a z)) u ∙ sym (rest_ended look limit end x (so_far some f e) h a b (rw p at (sym q))) ∙ m.same
+        -- a period that has ended, cut to c
+        pub walking-ended : ended (nanos r.near) (nanos r.far) ≡ period_in limit (so_far known) (look x y) → (c : Period) → IsCut limit r c → gives (block (nanos c.near) (nanos c.far)) ≡ period_rest look limit end 0 nothing
+        walking-ended q c u = cut-gives limit r c u ∙ sym (rest_ended look limit end x (so_far known) h (nanos r.near) (nanos r.far) (rw p at (sym q))) ∙ m.same
 
-        module _ (q : growing a b ≡ period_in limit (so_far some f e) (look x y)) {test : Bool} (o : test ≡ (ltb b y || leb limit (b - a))) where
+        module _ (q : growing (nanos r.near) (nanos r.far) ≡ period_in limit (so_far known) (look x y)) {test : Bool} (o : test ≡ (ltb (nanos r.far) y || leb limit (nanos r.far - nanos r.near))) where
           -- one that goes no further
-          pub walking-whole : test ≡ true → (c : ℕ) → c ≡ min b (a + limit) → gives (block a c) ≡ period_rest look limit end 0 nothing
-          walking-whole v c u = ap (λ z. gives (block a z)) u ∙ sym (rest-whole look limit end x (so_far some f e) h a b (rw p at (sym q)) (rw p at (sym o ∙ v))) ∙ m.same
+          pub walking-whole : test ≡ true → (c : Period) → IsCut limit r c → gives (block (nanos c.near) (nanos c.far)) ≡ period_rest look limit end 0 nothing
+          walking-whole v c u = cut-gives limit r c u ∙ sym (rest-whole look limit end x (so_far known) h (nanos r.near) (nanos r.far) (rw p at (sym q)) (rw p at (sym o ∙ v))) ∙ m.same
 
           -- one that may go on in the next window
-          pub walking-grows : test ≡ false → Walking y true a b
+          pub walking-grows : test ≡ false → Walking y (Some r)
           walking-grows v =
               let u = growing-upto q in
               record {
                 upto = omega arith;
                 inside = (u.0, u.1);
-                same = rw p (sym (rest-grows look limit end x (so_far some f e) h a b (rw p at (sym q)) (rw p at (sym o ∙ v))) ∙ m.same);
+                same = rw p (sym (rest-grows look limit end x (so_far known) h (nanos r.near) (nanos r.far) (rw p at (sym q)) (rw p at (sym o ∙ v))) ∙ m.same);
               }
 
     module _ (h : end ≤ x) where
-      done : at_range_end limit (so_far some f e) ≡ period_rest look limit end 0 nothing
-      done = sym (rest-done look limit end x (so_far some f e) h) ∙ m.same
+      done : at_range_end limit (so_far known) ≡ period_rest look limit end 0 nothing
+      done = sym (rest-done look limit end x (so_far known) h) ∙ m.same
 
       -- a period that goes on to the range's end
-      pub walking-last : some ≡ true → (c : ℕ) → c ≡ min e (f + limit) → gives (block f c) ≡ period_rest look limit end 0 nothing
-      walking-last q c u = ap (λ z. gives (block f z)) u ∙ (rw q at done)
+      pub walking-last : (r : Period) → known ≡ Some r → (c : Period) → IsCut limit r c → gives (block (nanos c.near) (nanos c.far)) ≡ period_rest look limit end 0 nothing
+      walking-last r q c u = cut-gives limit r c u ∙ (rw q at done)
 
-      pub last-upto : some ≡ true → (f ≤ e) × (e ≤ end)
-      last-upto q = let u : Upto x (growing f e) = rw q at m.inside in let o = m.upto in (u.0, omega arith)
+      pub last-upto : (r : Period) → known ≡ Some r → (nanos r.near ≤ nanos r.far) × (nanos r.far ≤ end)
+      last-upto r q = let u : Upto x (growing (nanos r.near) (nanos r.far)) = rw q at m.inside in let o = m.upto in (u.0, omega arith)
 
       -- no period up to the range's end
-      pub walking-ends : some ≡ false → refuses 7 0 ≡ period_rest look limit end 0 nothing
+      pub walking-ends : known ≡ None → refuses 7 0 ≡ period_rest look limit end 0 nothing
       walking-ends q = rw q at done
 
 -- ---- the answer
@@ -213,19 +218,19 @@ reaches limit len n q =
 
 -- the blocks that were found in the window are those ahead
 module _ (limit : ℕ) (h : PeriodSoFar) (v : Way) (s : Schedule) (t x y lo hi w : ℕ) (p : List Block) where
-  pub looked : {r r' : SoFar} → r ≡ r' → so_far_is r ≡ period_in limit h (moves x (seen v w p)) → w ≡ y - x → (end : ℕ) → x ≤ end → y ≡ min (x + week) end → WindowPlaced v t x y lo hi → p ≡ onward lo (working s lo hi)
-      → so_far_is r' ≡ period_in limit h (ahead v s t x y)
-  looked e q f end k m g o = let z : moves x (seen v (y - x) p) ≡ ahead v s t x y = into-placed v s t x y lo hi p (omega arith) g o in rw (← e, ← z, ← f) q
+  pub looked : {r : PeriodSoFar} → r ≡ period_in limit h (moves x (seen v w p)) → w ≡ y - x → (end : ℕ) → x ≤ end → y ≡ min (x + week) end → WindowPlaced v t x y lo hi → p ≡ onward lo (working s lo hi)
+      → r ≡ period_in limit h (ahead v s t x y)
+  looked q f end k m g o = let z : moves x (seen v (y - x) p) ≡ ahead v s t x y = into-placed v s t x y lo hi p (omega arith) g o in rw (← z, ← f) q
 
 -- ---- what fits
 
--- a period of the windows passed, its further border cut to c
-pub fits : (w : Way) (t : ℕ) (f c : Instant) (e limit end : ℕ) → f.ns < 1000000000 → c.ns < 1000000000 → (nanos f ≤ e) × (e ≤ end) → end ≡ reach w t → nanos c ≡ min e (nanos f + limit) → PeriodFits w t f c
-fits w t f c e limit end h k o p q = let i = o.0 in let j = o.1 in record { start-ns = h; end-ns = k; order = omega arith; near = omega arith }
+-- a period of the windows passed, cut to c
+pub fits : (w : Way) (t : ℕ) (limit end : ℕ) (r c : Period) → IsCut limit r c → (nanos r.near ≤ nanos r.far) × (nanos r.far ≤ end) → end ≡ reach w t → PeriodFits w t c.near c.far
+fits w t limit end r c u o p = let i = o.0 in let j = o.1 in let e = u.0 in let f = u.1 in record { start-ns = u.2; end-ns = u.3; order = omega arith; near = omega arith }
 
 -- the cut's sum stays small
-pub cut_fits : (f e end : Instant) (limit : ℕ) → (nanos f ≤ nanos e) × (nanos e ≤ nanos end) → Short end → limit ≤ 341280000 → nanos f + (limit * 1000000000 + 0) < most
-cut_fits f e end limit o h k = let i = o.0 in let j = o.1 in let x = h.sec in let y = h.ns in omega arith
+pub cut_fits : (r : Period) (end : Instant) (limit : ℕ) → (nanos r.near ≤ nanos r.far) × (nanos r.far ≤ nanos end) → Short end → limit ≤ 341280000 → nanos r.near + (limit * 1000000000 + 0) < most
+cut_fits r end limit o h k = let i = o.0 in let j = o.1 in let x = h.sec in let y = h.ns in omega arith
 
 pub end_fits : (e end : Instant) → nanos e ≤ nanos end → Short end → nanos e < most
 end_fits e end o h = let x = h.sec in let y = h.ns in omega arith

@@ -1,22 +1,26 @@
 -- What the walk for a period answers.
-use Rattle.std.specs.Prelude.{◌≡◌, Bool, List, ℕ, ◌≤◌, ◌<◌, length}
+use Rattle.std.specs.Prelude.{◌≡◌, Bool, List, ℕ, ◌+◌, ◌≤◌, ◌<◌, min, Result, Ok, Err}
 use Rattle.std.proofs.Common.{arith}
 use Rattle.model.specs.Answer.{Answer, gives, refuses}
 use Rattle.model.specs.Blocks.{Block, block}
 use Rattle.model.specs.Walk.{Way, on, back, reach, period}
 use Rattle.instant.specs.Instant.{nanos, Exact, InRange}
 use Rattle.instant.specs.declared.Instant.{Instant}
+use Rattle.refusal.specs.declared.SearchError.{SearchError}
 use Rattle.rule.specs.declared.Schedule.{Schedule}
 use Rattle.rule.specs.Rules.{schedule_is}
 use Rattle.walk_distance.specs.Distances.{way_of, Short}
-use Rattle.walk_period.specs.declared.Found.{Found}
-use Rattle.walk_period.specs.declared.Found.TheVariants as F
+use Rattle.walk_period_week.specs.declared.Period.{Period}
+
+-- the period r is p, its further border at most the limit from its nearer one
+abbrev pub IsCut : ℕ → Period → Period → Type 0
+IsCut limit p r = (nanos r.near ≡ nanos p.near) × (nanos r.far ≡ min (nanos p.far) (nanos p.near + limit)) × Exact r.near × Exact r.far
 
 -- the answer of the walk
-abbrev pub found_is : Found → Answer Block
-found_is (F.Period f e) = gives (block (nanos f) (nanos e))
-found_is F.NoWork = refuses 6 0
-found_is F.OutOfRange = refuses 7 0
+abbrev pub found_is : Result Period SearchError → Answer Block
+found_is (Ok p) = gives (block (nanos p.near) (nanos p.far))
+found_is (Err SearchError.NoWork) = refuses 6 0
+found_is (Err SearchError.RangeEnds) = refuses 7 0
 
 -- two distances in the range, in order, their nanoseconds below a second
 pub record PeriodFits (w : Way) (t : ℕ) (f e : Instant) : Type 0 where
@@ -26,16 +30,9 @@ pub record PeriodFits (w : Way) (t : ℕ) (f e : Instant) : Type 0 where
   pub near : nanos e ≤ reach w t
 
 -- a period that is found lies in the range
-pub data FoundFits (w : Way) (t : ℕ) : Found → Type 0 where
-  found-period : {f e : Instant} → PeriodFits w t f e → FoundFits w t (F.Period f e)
-  no-work : FoundFits w t F.NoWork
-  out_of_range : FoundFits w t F.OutOfRange
-
-pub period-fits : {w : Way} {t : ℕ} {r : Found} {f e : Instant} → FoundFits w t r → r ≡ F.Period f e → PeriodFits w t f e
-period-fits {w} {t} {r} {f} {e} x p = go (rw p at x)
-  where
-    go : FoundFits w t (F.Period f e) → PeriodFits w t f e
-    go (found-period h) = h
+abbrev pub FoundFits : Way → ℕ → Result Period SearchError → Type 0
+FoundFits w t (Ok p) = PeriodFits w t p.near p.far
+FoundFits w t (Err e) = Unit {0}
 
 -- ---- both are short of the range
 
@@ -53,6 +50,6 @@ module _ {w : Way} {f e : Instant} where
 -- ---- the walk's answer
 
 -- r is the nearest period to t, going on or back
-abbrev pub FindsPeriod : List ℕ → List ℕ → Schedule → Instant → Bool → Found → Type 0
+abbrev pub FindsPeriod : List ℕ → List ℕ → Schedule → Instant → Bool → Result Period SearchError → Type 0
 FindsPeriod book pack s t b r =
     (found_is r ≡ period (way_of b) (schedule_is book pack s) (nanos t)) × FoundFits (way_of b) (nanos t) r

@@ -19,6 +19,7 @@ use Rattle.model.specs.Marks.{plain, start_mark_at, end_mark_at, marked_working,
 use Rattle.instant.specs.Instant.{nanos, InRange}
 use Rattle.walk_distance.specs.declared.Ends.{Ends}
 use Rattle.walk_period_marks.specs.PeriodMarked.{IsBorder, IsSpan, span-on, span-back}
+use Rattle.mark.specs.Marks.{mark_number}
 use Rattle.window_marks.specs.Whole.{MarksWanted, IsMarks}
 use Rattle.window_marks.specs.declared.Border.{Border}
 use Rattle.window_marks.specs.declared.Marks.{Marks}
@@ -77,12 +78,12 @@ module _ (b : Bool) {t x y f e : ℕ} {near far start end : Border} (n : IsBorde
           let i = n.instant in let j = m.instant in
           record { start-window = n.window; end-window = m.window; start-in = n.in-range; end-in = m.in-range; order = omega arith; from = (border-within on n).0; upto = (border-within on m).1 }
 
-  pub borders-told : (s : Schedule) {r : Marks} → x ≡ window_of_start f → y ≡ window_of_end e → IsMarks s start end r
-      → (r.start ≡ start_of_period (way_of b) s t (block f e)) × (r.end ≡ end_of_period (way_of b) s t (block f e))
-  borders-told s {r} u v h = go b n m (rw (p, q) at h)
+  pub borders-told : (s : Schedule) (r : Marks) → x ≡ window_of_start f → y ≡ window_of_end e → IsMarks s start end r
+      → (mark_number r.start ≡ start_of_period (way_of b) s t (block f e)) × (mark_number r.end ≡ end_of_period (way_of b) s t (block f e))
+  borders-told s r u v h = go b n m (rw (p, q) at h)
     where
       go : (c : Bool) → IsBorder (way_of c) t x f near → IsBorder (way_of c) t y e far → IsMarks s (if c then far else near) (if c then near else far) r
-          → (r.start ≡ start_of_period (way_of c) s t (block f e)) × (r.end ≡ end_of_period (way_of c) s t (block f e))
+          → (mark_number r.start ≡ start_of_period (way_of c) s t (block f e)) × (mark_number r.end ≡ end_of_period (way_of c) s t (block f e))
       go true n m h = (rw v at (start-there back m s h.0), rw u at (end-there back n s h.1))
       go false n m h = (rw u at (start-there on n s h.0), rw v at (end-there on m s h.1))
 

@@ -4,6 +4,7 @@ use Rattle.model.specs.Blocks.{block}
 use Rattle.model.specs.Instant.{week}
 use Rattle.model.specs.Walk.{Way, on, back, at, reach}
 use Rattle.model.specs.Marks.{plain, start_of_period, end_of_period}
+use Rattle.mark.specs.Marks.{mark_number}
 use Rattle.instant.specs.Instant.{nanos, InRange}
 use Rattle.instant.specs.declared.Instant.{Instant}
 use Rattle.rule.specs.Rules.{schedule_is}
@@ -36,8 +37,8 @@ pub record IsBorder (w : Way) (t x d : ℕ) (r : Border) : Type 0 where
 -- r has the marks of the period between the distances f and e from t
 abbrev pub IsPeriodMarks : List ℕ → List ℕ → Schedule → Instant → Bool → Instant → Instant → Marks → Type 0
 IsPeriodMarks book pack s t b f e r =
-    (r.start ≡ start_of_period (way_of b) (schedule_is book pack s) (nanos t) (block (nanos f) (nanos e)))
-    × (r.end ≡ end_of_period (way_of b) (schedule_is book pack s) (nanos t) (block (nanos f) (nanos e)))
+    (mark_number r.start ≡ start_of_period (way_of b) (schedule_is book pack s) (nanos t) (block (nanos f) (nanos e)))
+    × (mark_number r.end ≡ end_of_period (way_of b) (schedule_is book pack s) (nanos t) (block (nanos f) (nanos e)))
 
 -- r has the instants between which the period lies, in the range
 pub data IsSpan : Way → ℕ → ℕ → ℕ → Ends → Type 0 where

@@ -3,6 +3,7 @@
 
 ghost use Rattle.std.specs.Prelude.{◌≡◌, if◌then◌else◌};
 ghost use Rattle.model.specs.Marks.{plain, window_of_start, window_of_end};
+ghost use Rattle.mark.specs.Marks.{mark_number};
 ghost use Rattle.instant.specs.Instant.{nanos, InRange};
 ghost use Rattle.rule.specs.Rules.{ScheduleFits};
 ghost use Rattle.walk_distance.specs.Distances.{way_of, Short};
@@ -10,6 +11,7 @@ ghost use Rattle.walk_period.specs.Found.{PeriodFits};
 ghost use Rattle.walk_period_marks.specs.PeriodMarked.{InWindow, IsBorder, IsSpan, PlainWhere, IsPeriodMarks};
 
 use instant::{Instant, Length};
+use mark::Mark;
 use rule::Schedule;
 use walk_distance::Ends;
 use window_marks::{Border, Marks};
@@ -50,9 +52,10 @@ fn ends_of(t: Instant, back: bool, f: Length, e: Length) -> Ends
     let near = walk_distance::at(t, back, f);
     let far = walk_distance::at(t, back, e);
     if back {
-        return Ends { lo: far, hi: near };
+        Ends { lo: far, hi: near }
+    } else {
+        Ends { lo: near, hi: far }
     }
-    Ends { lo: near, hi: far }
 }
 
 // The border at the distance d from t, in the window that begins at the distance x.
@@ -62,20 +65,18 @@ fn border_at(t: Instant, back: bool, x: Length, d: Length) -> Border
 {
     let y = walk_distance::window_end(x, walk_distance::reach(t, back));
     let window = walk_distance::place(t, back, x, y);
-    let at = walk_distance::at(t, back, d);
-    let lo = window.lo;
-    let hi = window.hi;
-    Border { at, lo, hi }
+    Border {
+        at: walk_distance::at(t, back, d),
+        lo: window.lo,
+        hi: window.hi,
+    }
 }
 
 // The second of two borders, or else the first.
 fn second_if(second: bool, a: Border, b: Border) -> Border
     ensures { result ≡ (if second then b else a) }
 {
-    if second {
-        return b;
-    }
-    a
+    if second { b } else { a }
 }
 
 // Are both ends of the period plain at once, because all zones keep one offset from before its start to after its end?
@@ -97,11 +98,11 @@ pub fn is_plain(
 
 // The marks of a period whose ends are plain.
 pub fn plain_marks() -> Marks
-    ensures { (result.start ≡ plain) × (result.end ≡ plain) }
+    ensures { (mark_number result.start ≡ plain) × (mark_number result.end ≡ plain) }
 {
     Marks {
-        start: mark::PLAIN,
-        end: mark::PLAIN,
+        start: Mark::Plain,
+        end: Mark::Plain,
     }
 }
 

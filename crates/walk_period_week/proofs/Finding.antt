@@ -1,50 +1,22 @@
 -- The search through the blocks of a window: the nearest block, those behind it, and the same from the search's instant. Assumes nothing.
-use Rattle.std.specs.Prelude.{if◌then◌else◌}
+use Rattle.std.specs.Prelude.{Option, Some, None}
 use mathlib.Core.Path.{◌≡◌, refl, sym, ◌∙◌, ap}
 use mathlib.Core.Bool.{Bool, true, false, not}
 use mathlib.Core.List.{List, [], ◌∷◌}
 use Prim.Native.Nat.{ℕ, ◌+◌, ◌*◌, ◌-◌, ◌≤◌, ◌<◌}
 use native.Mathlib.Omega.{arith}
 use lib.Dec.{ltb, eqb}
-use lib.ListN.{get_or}
 use borrow.Author.Tests.{not-true, not-false, eq-eqb, ne_eqb, eqb-true, eqb-false}
 use Rattle.laws_base.specs.Test.{by-test}
 use Rattle.laws_blocks.specs.Move.{moves}
 use Rattle.model.specs.Blocks.{Block, block}
-use Rattle.model.specs.Walk.{Way, on, back, backward, PeriodSoFar, nothing, growing, ended, too_far, period_in}
-use Rattle.block_pairs.specs.Pairs.{part, pairs}
-use Rattle.block_pairs.proofs.Parts.{from_first}
-use Rattle.walk_search_week.proofs.Looks.{back_at, back_end}
-use Rattle.walk_distance.specs.Distances.{seen}
-use Rattle.walk_period_week.specs.SoFars.{so_far, rest, tail_is}
-use Rattle.walk_period_week.specs.declared.Tail.{Tail}
-use Rattle.walk_period_week.specs.declared.Tail.TheVariants as T
-
--- ---- the blocks, nearest first
-
--- one block less is left behind it
-pub rest_back : (w n i : ℕ) (l : List ℕ) (k from to : ℕ) → i < n → k ≡ n - i → from ≡ w - get_or l (2 * k - 1) 0 → to ≡ w - get_or l (2 * k - 2) 0
-    → rest back w n i l ≡ block from to ∷ rest back w n (i + 1) l
-unfolding rest
-rest_back w n i l k from to h e p q =
-    let f : k - 1 ≡ n - (i + 1) = omega arith in
-    ap (λ (j : ℕ). backward w (pairs j l)) (sym e) ∙ back_at w k l from to (omega arith) p q ∙ ap (λ (j : ℕ). block from to ∷ backward w (pairs j l)) f
-
-pub rest-on : (w n i : ℕ) (l : List ℕ) → i < n → rest on w n i l ≡ block (get_or l (2 * i) 0) (get_or l (2 * i + 1) 0) ∷ rest on w n (i + 1) l
-unfolding rest
-rest-on w n i l h = from_first i n l h
-
--- none is left
-pub rest-none : (v : Way) (w n i : ℕ) (l : List ℕ) → n ≤ i → rest v w n i l ≡ []
-unfolding part rest
-rest-none on w n i l h = let e : n - i ≡ 0 = omega arith in rw e
-rest-none back w n i l h = back_end w (n - i) l (omega arith)
-
--- all of them
-pub rest_all : (v : Way) (w n : ℕ) (l : List ℕ) → seen v w (pairs n l) ≡ rest v w n 0 l
-unfolding rest
-rest_all on w n l = let e : n - 0 ≡ n = omega arith in rw e
-rest_all back w n l = let e : n - 0 ≡ n = omega arith in rw e
+use Rattle.model.specs.Walk.{Way, PeriodSoFar, nothing, growing, ended, too_far, period_in}
+use Rattle.block_pairs.specs.Pairs.{pairs}
+use Rattle.instant.specs.Instant.{nanos}
+use Rattle.walk_distance.specs.Distances.{seen, rest}
+use Rattle.walk_distance.proofs.Blocks.{rest-none, rest_all}
+use Rattle.walk_period_week.specs.SoFars.{so_far, is_stopped, start_with}
+use Rattle.walk_period_week.specs.declared.Period.{Period}
 
 -- ---- those behind the nearest
 
@@ -85,55 +57,55 @@ period-in-moved c limit f e (b ∷ l) =
     (λ p. rw (p, eqb-moved c b.start e ∙ p) (period-in-moved c limit f b.end l))
     (λ p. rw (p, eqb-moved c b.start e ∙ p))
 
-module _ (v : Way) (w n : ℕ) (l : List ℕ) (limit c : ℕ) (some : Bool) (f e : ℕ) where
+module _ (v : Way) (w n : ℕ) (l : List ℕ) (limit c : ℕ) (known : Option Period) where
   -- a window without a block
-  window-none : n ≡ 0 → so_far some f e ≡ period_in limit (so_far some f e) (moves c (seen v w (pairs n l)))
+  window-none : n ≡ 0 → so_far known ≡ period_in limit (so_far known) (moves c (seen v w (pairs n l)))
   unfolding period_in moves
-  window-none h = let q : seen v w (pairs n l) ≡ [] = rest_all v w n l ∙ rest-none v w n 0 l (omega arith) in rw q (go some)
+  window-none h = let q : seen v w (pairs n l) ≡ [] = rest_all v w n l ∙ rest-none v w n 0 l (omega arith) in rw q (go known)
     where
-      go : (a : Bool) → so_far a f e ≡ period_in limit (so_far a f e) []
-      go true = refl
-      go false = refl
+      go : (k : Option Period) → so_far k ≡ period_in limit (so_far k) []
+      go (Some p) = refl
+      go None = refl
 
-  pub window-grows : n ≡ 0 → some ≡ true → growing f e ≡ period_in limit (so_far some f e) (moves c (seen v w (pairs n l)))
-  window-grows h x = rw x (rw x at (window-none h))
+  pub window-grows : n ≡ 0 → (p : Period) → known ≡ Some p → growing (nanos p.near) (nanos p.far) ≡ period_in limit (so_far known) (moves c (seen v w (pairs n l)))
+  window-grows h p x = rw x (rw x at (window-none h))
 
-  pub window-nothing : n ≡ 0 → some ≡ false → nothing ≡ period_in limit (so_far some f e) (moves c (seen v w (pairs n l)))
+  pub window-nothing : n ≡ 0 → known ≡ None → nothing ≡ period_in limit (so_far known) (moves c (seen v w (pairs n l)))
   window-nothing h x = rw x (rw x at (window-none h))
 
-  module _ (from to : ℕ) (q : rest v w n 0 l ≡ block from to ∷ rest v w n 1 l) (a : ℕ) (u : a ≡ from + c) {test : Bool} (t : test ≡ (if some then not (eqb a e) else ltb limit a)) where
-    whole : period_in limit (so_far some f e) (block a (to + c) ∷ moves c (rest v w n 1 l)) ≡ period_in limit (so_far some f e) (moves c (seen v w (pairs n l)))
+  module _ (from to : ℕ) (q : rest v w n 0 l ≡ block from to ∷ rest v w n 1 l) (a : ℕ) (u : a ≡ from + c) {test : Bool} (t : test ≡ is_stopped limit known a) where
+    whole : period_in limit (so_far known) (block a (to + c) ∷ moves c (rest v w n 1 l)) ≡ period_in limit (so_far known) (moves c (seen v w (pairs n l)))
     unfolding moves
     whole = rw (rest_all v w n l, q, u)
 
     -- a nearest block that does not touch the period
-    pub window-ended : test ≡ true → some ≡ true → ended f e ≡ period_in limit (so_far some f e) (moves c (seen v w (pairs n l)))
+    pub window-ended : test ≡ true → (p : Period) → known ≡ Some p → ended (nanos p.near) (nanos p.far) ≡ period_in limit (so_far known) (moves c (seen v w (pairs n l)))
     unfolding period_in
-    window-ended x y = let z : not (eqb a e) ≡ true = rw y at (sym t ∙ x) in rw y (rw (not-true (eqb a e) z) at (rw y at whole))
+    window-ended x p y = let z : not (eqb a (nanos p.far)) ≡ true = rw y at (sym t ∙ x) in rw y (rw (not-true (eqb a (nanos p.far)) z) at (rw y at whole))
 
     -- one beyond the limit
-    pub window-far : test ≡ true → some ≡ false → too_far ≡ period_in limit (so_far some f e) (moves c (seen v w (pairs n l)))
+    pub window-far : test ≡ true → known ≡ None → too_far ≡ period_in limit (so_far known) (moves c (seen v w (pairs n l)))
     unfolding period_in
     window-far x y = let z : ltb limit a ≡ true = rw y at (sym t ∙ x) in rw y (rw z at (rw y at whole))
 
-    module _ (x : test ≡ false) (start : ℕ) (y : start ≡ (if some then f else a)) where
+    module _ (x : test ≡ false) (start : ℕ) (y : start ≡ start_with known a) where
       -- one that is the first, or touches the period
-      window_on : carried c start (period_in 0 (growing 0 to) (rest v w n 1 l)) ≡ period_in limit (so_far some f e) (moves c (seen v w (pairs n l)))
+      window_on : carried c start (period_in 0 (growing 0 to) (rest v w n 1 l)) ≡ period_in limit (so_far known) (moves c (seen v w (pairs n l)))
       unfolding period_in
-      window_on = sym (period-in-moved c limit start to (rest v w n 1 l)) ∙ go some refl
+      window_on = sym (period-in-moved c limit start to (rest v w n 1 l)) ∙ go known refl
         where
-          go : (b : Bool) → some ≡ b → period_in limit (growing start (to + c)) (moves c (rest v w n 1 l)) ≡ period_in limit (so_far some f e) (moves c (seen v w (pairs n l)))
-          go true z = let o : not (eqb a e) ≡ false = rw z at (sym t ∙ x) in let g : start ≡ f = rw z at y in rw (z, g) (rw (not-false (eqb a e) o) at (rw z at whole))
-          go false z = let o : ltb limit a ≡ false = rw z at (sym t ∙ x) in let g : start ≡ a = rw z at y in rw (z, g) (rw o at (rw z at whole))
+          go : (k : Option Period) → known ≡ k → period_in limit (growing start (to + c)) (moves c (rest v w n 1 l)) ≡ period_in limit (so_far known) (moves c (seen v w (pairs n l)))
+          go (Some p) z = let o : not (eqb a (nanos p.far)) ≡ false = rw z at (sym t ∙ x) in let g : start ≡ nanos p.near = rw z at y in rw (z, g) (rw (not-false (eqb a (nanos p.far)) o) at (rw z at whole))
+          go None z = let o : ltb limit a ≡ false = rw z at (sym t ∙ x) in let g : start ≡ a = rw z at y in rw (z, g) (rw o at (rw z at whole))
 
-      module _ {r : Tail} (p : tail_is r ≡ period_in 0 (growing 0 to) (rest v w n 1 l)) (d b : ℕ) (g : b ≡ d + c) where
+      module _ (d b : ℕ) (g : b ≡ d + c) where
         -- the period may go on in the next window
-        pub window-open : r ≡ T.Open d → growing start b ≡ period_in limit (so_far some f e) (moves c (seen v w (pairs n l)))
-        window-open k = let z : growing 0 d ≡ period_in 0 (growing 0 to) (rest v w n 1 l) = rw k at p in rw g (ap (carried c start) z ∙ window_on)
+        pub window-open : growing 0 d ≡ period_in 0 (growing 0 to) (rest v w n 1 l) → growing start b ≡ period_in limit (so_far known) (moves c (seen v w (pairs n l)))
+        window-open z = rw g (ap (carried c start) z ∙ window_on)
 
         -- it has ended
-        pub window-closed : r ≡ T.Closed d → ended start b ≡ period_in limit (so_far some f e) (moves c (seen v w (pairs n l)))
-        window-closed k = let z : ended 0 d ≡ period_in 0 (growing 0 to) (rest v w n 1 l) = rw k at p in rw g (ap (carried c start) z ∙ window_on)
+        pub window-closed : ended 0 d ≡ period_in 0 (growing 0 to) (rest v w n 1 l) → ended start b ≡ period_in limit (so_far known) (moves c (seen v w (pairs n l)))
+        window-closed z = rw g (ap (carried c start) z ∙ window_on)
 
 -- ---- equal lengths
 

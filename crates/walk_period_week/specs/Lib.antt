@@ -1,1 +1,2 @@
 pub mod SoFars
+pub mod ExactLaws

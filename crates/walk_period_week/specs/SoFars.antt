@@ -1,54 +1,53 @@
 -- What the code's values mean to the definitions' search for a period.
-use Rattle.std.specs.Prelude.{◌≡◌, Bool, true, false, List, ◌∷◌, ℕ, ◌+◌, ◌-◌}
+use Rattle.std.specs.Prelude.{◌≡◌, Bool, not, List, ℕ, ltb, eqb, Option, Some, None, Result, Ok, Err}
 use Rattle.model.specs.Blocks as model
-use Rattle.model.specs.Walk.{Way, on, back, backward, nothing, growing, ended, too_far}
+use Rattle.model.specs.Walk.{nothing, growing, ended, too_far}
 use Rattle.model.specs.Walk as walk
 use Rattle.instant.specs.Instant.{nanos, Exact}
 use Rattle.instant.specs.declared.Instant.{Instant}
 use Rattle.laws_blocks.specs.Move.{moves}
-use Rattle.block_pairs.specs.Pairs.{part, pairs}
+use Rattle.block_pairs.specs.Pairs.{pairs}
+use Rattle.refusal.specs.declared.SearchError.{SearchError}
 use Rattle.walk_distance.specs.Distances.{way_of, seen}
-use Rattle.walk_period_week.specs.declared.Borders.{Borders}
+use Rattle.walk_period_week.specs.declared.Period.{Period}
 use Rattle.walk_period_week.specs.declared.SoFar.{SoFar}
 use Rattle.walk_period_week.specs.declared.SoFar.TheVariants as K
 use Rattle.walk_period_week.specs.declared.Tail.{Tail}
 use Rattle.walk_period_week.specs.declared.Tail.TheVariants as T
 
 -- a period that may go on, if there is one
-abbrev pub so_far : Bool → ℕ → ℕ → walk.PeriodSoFar
-so_far true f e = growing f e
-so_far false f e = nothing
+abbrev pub so_far : Option Period → walk.PeriodSoFar
+so_far (Some p) = growing (nanos p.near) (nanos p.far)
+so_far None = nothing
 
 -- what is known after a window
 abbrev pub so_far_is : SoFar → walk.PeriodSoFar
 so_far_is K.Nothing = nothing
-so_far_is (K.Growing f e) = growing (nanos f) (nanos e)
-so_far_is (K.Ended f e) = ended (nanos f) (nanos e)
-so_far_is K.TooFar = too_far
+so_far_is (K.Growing p) = growing (nanos p.near) (nanos p.far)
+so_far_is (K.Ended p) = ended (nanos p.near) (nanos p.far)
 
--- its nanoseconds are less than a second
-pub data ExactSoFar : SoFar → Type 0 where
-  exact-nothing : ExactSoFar K.Nothing
-  exact-growing : {f e : Instant} → Exact f → Exact e → ExactSoFar (K.Growing f e)
-  exact-ended : {f e : Instant} → Exact f → Exact e → ExactSoFar (K.Ended f e)
-  exact-far : ExactSoFar K.TooFar
+-- the nanoseconds of a period's borders are less than a second
+abbrev pub PeriodExact : Period → Type 0
+PeriodExact p = Exact p.near × Exact p.far
 
-pub growing-exact : {r : SoFar} {f e : Instant} → ExactSoFar r → r ≡ K.Growing f e → Exact f × Exact e
-growing-exact {r} {f} {e} x p = go (rw p at x)
-  where
-    go : ExactSoFar (K.Growing f e) → Exact f × Exact e
-    go (exact-growing h k) = (h, k)
+abbrev pub KnownExact : Option Period → Type 0
+KnownExact (Some p) = PeriodExact p
+KnownExact None = Unit {0}
 
-pub ended-exact : {r : SoFar} {f e : Instant} → ExactSoFar r → r ≡ K.Ended f e → Exact f × Exact e
-ended-exact {r} {f} {e} x p = go (rw p at x)
-  where
-    go : ExactSoFar (K.Ended f e) → Exact f × Exact e
-    go (exact-ended h k) = (h, k)
+abbrev pub ExactSoFar : SoFar → Type 0
+ExactSoFar K.Nothing = Unit {0}
+ExactSoFar (K.Growing p) = PeriodExact p
+ExactSoFar (K.Ended p) = PeriodExact p
 
--- those of the first n blocks that are left behind the i nearest
-unfoldable pub rest : Way → ℕ → ℕ → ℕ → List ℕ → List model.Block
-rest on w n i l = part i (n - i) l
-rest back w n i l = backward w (pairs (n - i) l)
+-- a block that begins at the distance a ends the search: it does not touch the period, or it is further than the limit
+abbrev pub is_stopped : ℕ → Option Period → ℕ → Bool
+is_stopped limit (Some p) a = not (eqb a (nanos p.far))
+is_stopped limit None a = ltb limit a
+
+-- the nearer border of the period with a block that begins at the distance a
+abbrev pub start_with : Option Period → ℕ → ℕ
+start_with (Some p) a = nanos p.near
+start_with None a = a
 
 -- how far a period goes on, its start left out
 abbrev pub tail_is : Tail → walk.PeriodSoFar
@@ -59,10 +58,7 @@ tail_is (T.Closed e) = ended 0 e
 abbrev pub window_blocks : Bool → ℕ → Instant → ℕ → List ℕ → List model.Block
 window_blocks b w x n l = moves (nanos x) (seen (way_of b) w (pairs n l))
 
--- r is the nearest of the first n blocks behind the i nearest
-abbrev pub IsNearest : Bool → ℕ → ℕ → ℕ → List ℕ → Borders → Type 0
-IsNearest b w n i l r = rest (way_of b) w n i l ≡ model.block r.from r.to ∷ rest (way_of b) w n (i + 1) l
-
--- r is what is known behind the blocks l, of the period from f to e before them, if there is one
-abbrev pub Known : Instant → Bool → Instant → Instant → List model.Block → SoFar → Type 0
-Known limit some f e l r = (so_far_is r ≡ walk.period_in (nanos limit) (so_far some (nanos f) (nanos e)) l) × ExactSoFar r
+-- r is what is known behind the blocks l, of the period before them, if there is one; there is no work where the first is too far off
+abbrev pub Known : Instant → Option Period → List model.Block → Result SoFar SearchError → Type 0
+Known limit k l (Ok r) = (so_far_is r ≡ walk.period_in (nanos limit) (so_far k) l) × ExactSoFar r
+Known limit k l (Err e) = (e ≡ SearchError.NoWork) × (too_far ≡ walk.period_in (nanos limit) (so_far k) l)

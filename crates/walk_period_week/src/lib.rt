@@ -2,29 +2,28 @@
 // window the numbers are nanoseconds from its nearer border; what is known of a period is lengths of time from the instant.
 #![tactic(auto)]
 
-ghost use Rattle.std.specs.Prelude.{◌≡◌, not, ◌+◌, ◌*◌, ◌≤◌, ◌<◌, ltb, eqb, length, if◌then◌else◌};
+ghost use Rattle.std.specs.Prelude.{◌≡◌, ◌+◌, ◌*◌, ◌≤◌, ◌<◌, eqb, length};
 ghost use Rattle.model.specs.Walk as model;
 ghost use Rattle.instant.specs.Instant.{nanos, Exact};
-ghost use Rattle.walk_distance.specs.Distances.{way_of, Short};
-ghost use Rattle.walk_period_week.specs.SoFars.{rest, tail_is, window_blocks, IsNearest, Known};
+ghost use Rattle.walk_distance.specs.Distances.{way_of, rest, Short};
+ghost use Rattle.walk_period_week.specs.SoFars.{tail_is, window_blocks, is_stopped, start_with, KnownExact, Known};
 
 use instant::Length;
+use refusal::SearchError;
 
-// What is known after a window: nothing so far, a period that may go on, one that has ended, or a first block that is too far off. A period is the
-// distances of its nearer and its further border.
+// A period: the distances of its nearer and its further border.
+#[derive(Clone, Copy)]
+pub struct Period {
+    pub near: Length,
+    pub far: Length,
+}
+
+// What is known after a window: nothing so far, a period that may go on, or one that has ended.
 #[derive(Clone, Copy)]
 pub enum SoFar {
     Nothing,
-    Growing(Length, Length),
-    Ended(Length, Length),
-    TooFar,
-}
-
-// A block's nearer and further border, as distances from the window's nearer border.
-#[derive(Clone, Copy)]
-struct Borders {
-    from: u64,
-    to: u64,
+    Growing(Period),
+    Ended(Period),
 }
 
 // How far a period goes on in a window: up to a distance, where it may go on in the next one, or where it has ended.
@@ -45,59 +44,41 @@ fn same(a: Length, b: Length) -> bool
     false
 }
 
-// A block that begins at `from` ends the search: it does not touch the period that ends at `end`, or, where there is no period yet, it is further
-// than the limit.
-fn stops(some: bool, limit: Length, end: Length, from: Length) -> bool
-    requires { Exact end × Exact from }
-    ensures { result ≡ (if some then not (eqb (nanos from) (nanos end)) else ltb (nanos limit) (nanos from)) }
+// A block that begins at `from` ends the search: it does not touch the period that there is so far, or, where there is none yet, it is further than the
+// limit.
+fn stops(known: Option<Period>, limit: Length, from: Length) -> bool
+    requires { KnownExact known × Exact from }
+    ensures { result ≡ is_stopped (nanos limit) known (nanos from) }
 {
-    if some {
-        return !same(from, end);
+    match known {
+        Some(period) => !same(from, period.far),
+        None => instant::precedes(limit, from),
     }
-    instant::precedes(limit, from)
 }
 
 // The nearer border of the period with a block that begins at `from`.
-fn start_of(some: bool, start: Length, from: Length) -> Length
-    requires { Exact start × Exact from }
-    ensures { (nanos result ≡ (if some then nanos start else nanos from)) × Exact result }
+fn start_of(known: Option<Period>, from: Length) -> Length
+    requires { KnownExact known × Exact from }
+    ensures { (nanos result ≡ start_with known (nanos from)) × Exact result }
 {
-    if some {
-        return start;
+    match known {
+        Some(period) => period.near,
+        None => from,
     }
-    from
-}
-
-// The i-th nearest of the first n blocks, in a window that is w long.
-fn nearest(l: &[u64], n: usize, back: bool, w: u64, i: usize) -> Borders
-    requires { (i < n) × (2 * n ≤ length l.now) }
-    ensures { IsNearest back w n i l.now result }
-{
-    if back {
-        let k = n - i;
-        let from = number::difference(w, l[2 * k - 1]);
-        let to = number::difference(w, l[2 * k - 2]);
-        return Borders { from, to };
-    }
-    let from = l[2 * i];
-    let to = l[2 * i + 1];
-    Borders { from, to }
 }
 
 // How far a period that ends at `end`, with the nearest block, goes on through the others.
 fn joined(l: &[u64], n: usize, back: bool, w: u64, end: u64) -> Tail
-    requires { 2 * n ≤ length l.now }
+    requires { (1 ≤ n) × (2 * n ≤ length l.now) }
     ensures { tail_is result ≡ model.period_in 0 (model.growing 0 end) (rest (way_of back) w n 1 l.now) }
 {
     let mut e = end;
-    let mut i: usize = 1;
-    while i < n {
-        let b = nearest(l, n, back, w, i);
+    for i in 1..n {
+        let b = walk_distance::nearest(l, n, back, w, i);
         if b.from != e {
             return Tail::Closed(e);
         }
         e = b.to;
-        i += 1;
     }
     Tail::Open(e)
 }
@@ -110,8 +91,8 @@ fn further(x: Length, d: u64) -> Length
     instant::sum(x, instant::from_nanoseconds(d))
 }
 
-// Goes on through the first n blocks of a window that is w long and begins at the distance x, from the period between two distances, if there is one
-// so far. Only the nearest block can touch that period or be too far off.
+// Goes on through the first n blocks of a window that is w long and begins at the distance x, from the period that there is so far, if there is one.
+// Only the nearest block can touch that period; where there is none, and that block is further than the limit, there is no work.
 pub fn period_in_window(
     l: &[u64],
     n: usize,
@@ -119,30 +100,34 @@ pub fn period_in_window(
     w: u64,
     x: Length,
     limit: Length,
-    some: bool,
-    f: Length,
-    e: Length,
-) -> SoFar
-    requires { (2 * n ≤ length l.now) × Short x × Exact f × Exact e }
-    ensures { Known limit some f e (window_blocks back w x n l.now) result }
+    known: Option<Period>,
+) -> Result<SoFar, SearchError>
+    requires { (2 * n ≤ length l.now) × Short x × KnownExact known }
+    ensures { Known limit known (window_blocks back w x n l.now) result }
 {
     if n == 0 {
-        if some {
-            return SoFar::Growing(f, e);
-        }
-        return SoFar::Nothing;
+        return match known {
+            Some(period) => Ok(SoFar::Growing(period)),
+            None => Ok(SoFar::Nothing),
+        };
     }
-    let first = nearest(l, n, back, w, 0);
+    let first = walk_distance::nearest(l, n, back, w, 0);
     let from = further(x, first.from);
-    if stops(some, limit, e, from) {
-        if some {
-            return SoFar::Ended(f, e);
-        }
-        return SoFar::TooFar;
+    if stops(known, limit, from) {
+        return match known {
+            Some(period) => Ok(SoFar::Ended(period)),
+            None => Err(SearchError::NoWork),
+        };
     }
-    let start = start_of(some, f, from);
+    let near = start_of(known, from);
     match joined(l, n, back, w, first.to) {
-        Tail::Open(to) => SoFar::Growing(start, further(x, to)),
-        Tail::Closed(to) => SoFar::Ended(start, further(x, to)),
+        Tail::Open(to) => Ok(SoFar::Growing(Period {
+            near,
+            far: further(x, to),
+        })),
+        Tail::Closed(to) => Ok(SoFar::Ended(Period {
+            near,
+            far: further(x, to),
+        })),
     }
 }

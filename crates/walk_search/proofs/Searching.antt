@@ -63,9 +63,13 @@ module _ (look : ℕ → ℕ → List Block) (rep : ℕ → Bool) (limit end d :
           same = sym (ap (counted_more windows) (search-run look rep limit end n x last rest t idle m.since i r u)) ∙ (rw f at m.same);
         }
 
-    pub searching-runs : (b : Bool) (t n : ℕ) → k ≡ keep b t idle → b ≡ true → 0 < n → x + n * week ≤ end → ((i : ℕ) → i < n → rep (x + i * week) ≡ true) → n * t < rest
-        → (x' last' rest' : ℕ) → x' ≡ x + n * week → last' ≡ last + n * week → rest' ≡ rest - n * t → Searching x' last' rest' windows idle k
-    searching-runs b t n f q j i r u x' last' rest' ex el er = let g : k ≡ known t idle = rw q at f in rw (g, ex, el, er) (runs_on t n g j i r u)
+    pub searching-runs : (t n : ℕ) → k ≡ known t idle → 0 < n → x + n * week ≤ end → ((i : ℕ) → i < n → rep (x + i * week) ≡ true) → n * t < rest
+        → (x' last' rest' : ℕ) → x' ≡ x + n * week → last' ≡ last + n * week → rest' ≡ rest - n * t
+        → (idle' : ℕ) → idle' ≡ x' - last' → (k' : Previous) → k' ≡ known t idle' → Searching x' last' rest' windows idle' k'
+    searching-runs t n g j i r u x' last' rest' ex el er idle' ei k' ek =
+        let o = m.since in
+        let w : idle' ≡ idle = omega arith in
+        rw (ek, w, ex, el, er) (runs_on t n g j i r u)
 
     module _ (h : x < end) (y : ℕ) (e : y ≡ min (x + week) end) where
       -- one that is resolved

@@ -1,7 +1,6 @@
 -- What a search keeps of a window, and how many windows like it may be skipped. Assumes nothing.
 use mathlib.Core.Path.{◌≡◌, refl, sym, ◌∙◌, ap}
 use mathlib.Core.Bool.{Bool, true, false, ◌&&◌}
-use mathlib.Core.Logic.{◌⊎◌, inl, inr}
 use Prim.Native.Nat.{ℕ, ◌+◌, ◌*◌, ◌-◌, ◌/◌, ◌≤◌, ◌<◌, min}
 use native.Mathlib.Nat.{mul_assoc, mul-le-mul_right, mul-lt-mul_of_pos_left, div-mul-le_self}
 use native.Mathlib.Omega.{arith}
@@ -10,30 +9,31 @@ use borrow.Author.Tests.{le-ltb}
 use Rattle.model.specs.Instant.{second, week}
 use Rattle.model.specs.Working.{Schedule}
 use Rattle.model.specs.Walk.{at}
-use Rattle.model.specs.Walk as walk
 use Rattle.model.specs.Skip.{repeats}
-use Rattle.laws_skip.specs.Skips.{fresh, keep, may_skip}
-use Rattle.instant.specs.Instant.{nanos}
+use Rattle.laws_skip.specs.Skips.{keep, may_skip}
+use Rattle.std.specs.Prelude.{if◌then◌else◌, Option, Some, None}
+use Rattle.instant.specs.Instant.{nanos, Exact}
+use Rattle.instant.specs.declared.Instant.{Instant}
 use Rattle.walk_skip.specs.Repeating.{beyond, Repeating}
 use Rattle.walk_distance.specs.Distances.{way_of}
 use Rattle.walk_distance.proofs.WholeWeeks.{part_left, whole-left, some_of}
-use Rattle.walk_search.specs.declared.Previous.{Previous}
-use Rattle.walk_search.specs.declared.Step.{Step}
-use Rattle.walk_search.specs.Searches.{Skipped}
-use Rattle.walk_search.specs.Steps.{step_is}
+use Rattle.walk_search.specs.Searches.{Skipped, previous_is, keep_of, KeptExact}
 
 -- ---- what is kept of a window
 
-pub kept_whole : (known w : Bool) (t e t' e' : ℕ) → w ≡ true → known ≡ ltb 0 t → t ≡ t' → e ≡ e' → keep known t e ≡ keep (w && ltb 0 t') t' e'
-kept_whole known w t e t' e' p q f g = rw (p, ← f, ← g, q)
+pub kept-rest : (o : Option Instant) (w : ℕ) (time : Instant) (n idle : ℕ) → o ≡ keep_of w time → nanos time ≡ n → previous_is o idle ≡ keep (eqb w week && ltb 0 n) n idle
+kept-rest o w time n idle e f = rw (e, ← f) (go (eqb w week && ltb 0 (nanos time)))
+  where
+    go : (b : Bool) → previous_is (if b then Some time else None) idle ≡ keep b (nanos time) idle
+    go true = refl
+    go false = refl
 
-pub kept-part : (w : Bool) {t t' e e' : ℕ} → t ≡ t' → e ≡ e' → w ≡ false → fresh ≡ keep (w && ltb 0 t') t' e'
-kept-part w f g p = rw p
-
--- ---- what is answered of a window
-
-pub took : {r r' : Step} {x : walk.Step} → r ≡ r' → step_is r ≡ x → step_is r' ≡ x
-took p q = rw (← p) q
+pub kept-exact : (o : Option Instant) (w : ℕ) (time : Instant) → o ≡ keep_of w time → Exact time → KeptExact o
+kept-exact o w time e h = rw e (go (eqb w week && ltb 0 (nanos time)))
+  where
+    go : (b : Bool) → KeptExact (if b then Some time else None)
+    go true = h
+    go false = tt
 
 -- ---- many windows at once
 
@@ -51,71 +51,47 @@ pub beyond-at : (w : Bool) (t x y : ℕ) → beyond w (at (way_of w) t x) y ≡ 
 beyond-at true t x y = omega arith
 beyond-at false t x y = omega arith
 
-may-not : (b : Bool) (t g left : ℕ) (test : Bool) → (b ≡ false) ⊎ ((ltb t left ≡ false) ⊎ (test ≡ false)) → may_skip (keep b t g) left test ≡ false
-may-not b t g left test (inl e) = rw e
-may-not true t g left test (inr (inl e)) = rw e
-may-not false t g left test (inr (inl e)) = refl
-may-not true t g left test (inr (inr e)) = rw e (only (ltb t left))
-  where
-    only : (a : Bool) → (a && false) ≡ false
-    only true = refl
-    only false = refl
-may-not false t g left test (inr (inr e)) = refl
+-- ---- windows that may not be skipped, and those that are
 
-module _ (k : Previous) (left : ℕ) (rep : ℕ → Bool) (x end : ℕ) (h : x ≤ end) where
-  no-skip : (k.known ≡ false) ⊎ ((ltb (nanos k.time) left ≡ false) ⊎ ((eqb (min (x + week) end - x) week && rep x) ≡ false)) → Skipped k left rep x end 0
-  no-skip w = record {
-    none = λ q. may-not k.known (nanos k.time) (nanos k.idle) left (eqb (min (x + week) end - x) week && rep x) w;
-    some = λ q. absurd (omega arith);
-    less = λ q. absurd (omega arith);
-    each = λ i q. absurd (omega arith);
-    inside = omega arith;
-  }
+only : (a : Bool) → (a && false) ≡ false
+only true = refl
+only false = refl
 
-  pub skipped-fresh : k.known ≡ false → Skipped k left rep x end 0
-  skipped-fresh e = no-skip (inl e)
+may-not : (k : Option Instant) (idle left : ℕ) {test : Bool} → test ≡ false → may_skip (previous_is k idle) left test ≡ false
+may-not None idle left e = refl
+may-not (Some t) idle left e = rw e (only (ltb (nanos t) left))
 
-  pub skipped-full : left ≤ nanos k.time → Skipped k left rep x end 0
-  skipped-full e = no-skip (inr (inl (le-ltb (nanos k.time) left e)))
+module _ (k : Option Instant) (left : ℕ) (rep : ℕ → Bool) (x end : ℕ) where
+  pub skipped-fresh : k ≡ None → (idle : ℕ) → may_skip (previous_is k idle) left (eqb (min (x + week) end - x) week && rep x) ≡ false
+  skipped-fresh e idle = rw e
+
+  pub skipped-full : (t : Instant) → k ≡ Some t → left ≤ nanos t → (idle : ℕ) → may_skip (previous_is k idle) left (eqb (min (x + week) end - x) week && rep x) ≡ false
+  skipped-full t e h idle = rw (e, le-ltb (nanos t) left h)
 
   module _ {n : ℕ} (e : n ≡ (end - x) / week) where
-    pub skipped-part : n ≡ 0 → Skipped k left rep x end 0
-    skipped-part z = no-skip (inr (inr (rw (part_left x end n e z))))
+    pub skipped-part : n ≡ 0 → (idle : ℕ) → may_skip (previous_is k idle) left (eqb (min (x + week) end - x) week && rep x) ≡ false
+    skipped-part z idle = may-not k idle left (rw (part_left x end n e z))
 
-    pub skipped-run : k.known ≡ true → (n ≡ 0 → ⊥) → {f : ℕ} → (f ≡ 0 → ⊥) → (0 < f → f * nanos k.time < left) → {m p r : ℕ} → (m ≡ 0 → rep x ≡ false) → ((i : ℕ) → i < m → rep (x + i * week) ≡ true)
-        → p ≡ min f n → r ≡ min p m → Skipped k left rep x end r
-    skipped-run w z {f} y less {m} {p} {r} fails each ep er = record {
-      none = λ q. may-not k.known (nanos k.time) (nanos k.idle) left (eqb (min (x + week) end - x) week && rep x) (inr (inr (none (fails (zero_left f n p m r z y ep er q)))));
-      some = λ q. w;
-      less = λ q. fewer f r (nanos k.time) (fit ep er) (less (some_of f y));
-      each = λ i q. each i (under er q);
-      inside = whole-left x end n r h e (few ep er);
-    }
-      where
-        none : rep x ≡ false → (eqb (min (x + week) end - x) week && rep x) ≡ false
-        none q = rw q (only (eqb (min (x + week) end - x) week))
-          where
-            only : (a : Bool) → (a && false) ≡ false
-            only true = refl
-            only false = refl
+    module _ (z : n ≡ 0 → ⊥) {f : ℕ} (y : f ≡ 0 → ⊥) {m p r : ℕ} (ep : p ≡ min f n) (er : r ≡ min p m) where
+      pub skipped-none : (m ≡ 0 → rep x ≡ false) → r ≡ 0 → (idle : ℕ) → may_skip (previous_is k idle) left (eqb (min (x + week) end - x) week && rep x) ≡ false
+      skipped-none fails q idle = may-not k idle left (none (fails (zero_left (some_of f y) (some_of n z) q)))
+        where
+          none : rep x ≡ false → (eqb (min (x + week) end - x) week && rep x) ≡ false
+          none q = rw q (only (eqb (min (x + week) end - x) week))
 
-        zero_left : (f n p m r : ℕ) → (n ≡ 0 → ⊥) → (f ≡ 0 → ⊥) → p ≡ min f n → r ≡ min p m → r ≡ 0 → m ≡ 0
-        zero_left f n p m r z y a b q = let i = some_of f y in let j = some_of n z in least f n p m r i j a b q
-          where
-            least : (f n p m r : ℕ) → 0 < f → 0 < n → p ≡ min f n → r ≡ min p m → r ≡ 0 → m ≡ 0
-            least f n p m r i j a b q = omega arith
+          zero_left : 0 < f → 0 < n → r ≡ 0 → m ≡ 0
+          zero_left i j q = omega arith
 
-        fit : p ≡ min f n → r ≡ min p m → r ≤ f
-        fit a b = omega arith
-
-        few : p ≡ min f n → r ≡ min p m → r ≤ n
-        few a b = omega arith
-
-        under : {i : ℕ} → r ≡ min p m → i < r → i < m
-        under b q = omega arith
-
-        fewer : (f r t : ℕ) → r ≤ f → f * t < left → r * t < left
-        fewer f r t a b = let q = mul-le-mul_right t a in omega arith
+      pub skipped-run : x ≤ end → (t : Instant) → (0 < f → f * nanos t < left) → ((i : ℕ) → i < m → rep (x + i * week) ≡ true) → (r ≡ 0 → ⊥) → Skipped left rep x end (record { count = r; time = t })
+      skipped-run h t less each w = record {
+        some = some_of r w;
+        less = fewer f r (nanos t) (omega arith) (less (some_of f y));
+        each = λ i q. each i (omega arith);
+        inside = whole-left x end n r h e (omega arith);
+      }
+        where
+          fewer : (f r t : ℕ) → r ≤ f → f * t < left → r * t < left
+          fewer f r t a b = let q = mul-le-mul_right t a in omega arith
 
 -- the borders from an instant on, as distances
 pub skipped-from : (s : Schedule) (w : Bool) (t x p : ℕ) {m : ℕ} → p ≡ at (way_of w) t x → Repeating w s p m

@@ -1,5 +1,6 @@
 -- The search in one window: its blocks in lent memory, by their distances from where work last ended. Assumes nothing.
 use mathlib.Core.Path.{◌≡◌, sym, ◌∙◌, ap}
+use mathlib.Core.Bool.{Bool, true, false}
 use mathlib.Core.List.{List, [], ◌∷◌}
 use Prim.Native.Nat.{ℕ, ◌+◌, ◌-◌, ◌≤◌, min}
 use native.Mathlib.Omega.{arith}
@@ -15,9 +16,8 @@ use Rattle.laws_blocks.specs.Turn.{seen_from, behind, onward-lists, backward-lis
 use Rattle.laws_skip.specs.WindowEnds.{Inside}
 use Rattle.laws_skip.specs.Schedules.{working-lists}
 use Rattle.block_pairs.specs.Pairs.{pairs}
-use Rattle.walk_search_week.specs.Steps.{week_step_is, rest_of, step_after, with_left}
-use Rattle.walk_search_week.specs.declared.WeekStep.{WeekStep}
-use Rattle.walk_search_week.specs.declared.WeekStep.TheVariants as T
+use Rattle.walk_distance.specs.Distances.{way_of, seen}
+use Rattle.walk_search_week.specs.Steps.{step_after, with_left}
 use Rattle.walk_search_week.proofs.Moved.{search-blocks-near}
 
 -- ---- the blocks
@@ -57,34 +57,33 @@ limit_is y last D P e = ap (λ (k : ℕ). search_blocks k y last D P) e
 
 -- from where work last ended to t
 module _ (s : Schedule) (t limit x y last D g w d : ℕ) (h : x ≤ y) (i : y ≤ x + week) (j : last ≤ x) (a : g ≡ x - last) (b : w ≡ y - x) (e : d ≡ min D (week + 1)) (q : walk.Step) (P : List Block) where
-  pub window_on : y ≤ reach on t → moves x P ≡ ahead on s t x y → q ≡ search_blocks limit (w + g) 0 d (moves g P) → step_after last (with_left (D - d) q) ≡ search_blocks limit y last D (ahead on s t x y)
+  window_on : y ≤ reach on t → moves x P ≡ ahead on s t x y → q ≡ search_blocks limit (w + g) 0 d (moves g P) → step_after last (with_left (D - d) q) ≡ search_blocks limit y last D (ahead on s t x y)
   window_on k f r =
       let m = ahead-most on s t x y h k in
       ap (λ (z : walk.Step). step_after last (with_left (D - d) z)) r
       ∙ sym (search-blocks-near (week + 1) limit x y last g w D d (ahead on s t x y) P f (omega arith) (omega arith) (omega arith) e)
 
-  pub window-back : y ≤ reach back t → moves x (backward (y - x) P) ≡ ahead back s t x y → q ≡ search_blocks limit (w + g) 0 d (moves g (backward w P)) → step_after last (with_left (D - d) q) ≡ search_blocks limit y last D (ahead back s t x y)
+  window-back : y ≤ reach back t → moves x (backward (y - x) P) ≡ ahead back s t x y → q ≡ search_blocks limit (w + g) 0 d (moves g (backward w P)) → step_after last (with_left (D - d) q) ≡ search_blocks limit y last D (ahead back s t x y)
   window-back k f r =
       let m = ahead-most back s t x y h k in
       let v : moves x (backward w P) ≡ ahead back s t x y = ap (λ (z : ℕ). moves x (backward z P)) b ∙ f in
       ap (λ (z : walk.Step). step_after last (with_left (D - d) z)) r
       ∙ sym (search-blocks-near (week + 1) limit x y last g w D d (ahead back s t x y) (backward w P) v (omega arith) (omega arith) (omega arith) e)
 
+  -- either way
+  pub window_at : (v : Bool) → y ≤ reach (way_of v) t → moves x (seen (way_of v) (y - x) P) ≡ ahead (way_of v) s t x y → q ≡ search_blocks limit (w + g) 0 d (moves g (seen (way_of v) w P))
+      → step_after last (with_left (D - d) q) ≡ search_blocks limit y last D (ahead (way_of v) s t x y)
+  window_at true k f r = window-back k f r
+  window_at false k f r = window_on k f r
+
 -- ---- from where work last ended, one answer
 
-module _ {r : WeekStep} (last k : ℕ) where
-  pub further-found : {z x : ℕ} → r ≡ T.Found z → x ≡ last + z → walk.found x ≡ step_after last (with_left k (week_step_is r))
-  further-found {z} p q = let e : last + z ≡ z + last = omega arith in rw p (ap walk.found (q ∙ e))
+module _ (last k : ℕ) where
+  pub further-found : (z x : ℕ) → x ≡ last + z → walk.found x ≡ step_after last (with_left k (walk.found z))
+  further-found z x q = let e : last + z ≡ z + last = omega arith in ap walk.found (q ∙ e)
 
-  pub further-gap : r ≡ T.Gap → walk.gap ≡ step_after last (with_left k (week_step_is r))
-  further-gap p = rw p
-
-pub further-rest : {r : WeekStep} {rest m d : ℕ} → r ≡ T.Left rest m → rest_of r ≤ d → rest ≤ d
-further-rest p h = rw p at h
-
-pub further-left : {r : WeekStep} (last D d : ℕ) {rest m a x : ℕ} → r ≡ T.Left rest m → rest_of r ≤ d → d ≤ D → a ≡ D - (d - rest) → x ≡ last + m → walk.left a x ≡ step_after last (with_left (D - d) (week_step_is r))
-further-left {r} last D d {rest} {m} {a} {x} p h k e f =
-    let i : rest ≤ d = further-rest p h in
+pub further-left : (last D d rest m a x : ℕ) → rest ≤ d → d ≤ D → a ≡ D - (d - rest) → x ≡ last + m → walk.left a x ≡ step_after last (with_left (D - d) (walk.left rest m))
+further-left last D d rest m a x i k e f =
     let u : a ≡ rest + (D - d) = omega arith in
     let v : x ≡ m + last = omega arith in
-    rw p (λ i. walk.left (u i) (v i))
+    λ i. walk.left (u i) (v i)

@@ -10,35 +10,27 @@ ghost use Rattle.window_week.specs.Room.{HasRoom};
 ghost use Rattle.walk_distance.specs.Distances.{way_of, Short};
 ghost use Rattle.walk_search_week.specs.Steps.{rest_of};
 ghost use Rattle.walk_search.specs.Steps.{Further, Leaves};
-ghost use Rattle.walk_search.specs.Searches.{KeepsWindow, SkipAsked, SkippedFrom, InWindow, ToFind, SearchAnswered};
+ghost use Rattle.walk_search.specs.Searches.{keep_of, SkipAsked, SkippedFrom, InWindow, ToFind, SearchAnswered};
 
 use instant::{Instant, Length};
+use refusal::SearchError;
 use rule::Schedule;
+use walk_distance::Run;
 use walk_search_week::WeekStep;
-use window_memory::Size;
+use window_memory::{ALL, FOUR, Memory, ONE, Size};
 
-// What a window leaves: the distance that answers, a gap that is too long, or time left to find with the distance where work last ended.
+// What a window leaves: the distance that answers, or time left to find with the distance where work last ended.
 #[derive(Clone, Copy)]
 pub enum Step {
     Found(Length),
-    Gap,
     Left(Length, Length),
 }
 
-// What is kept of a whole window with working time: that time, and the distance from where its work last ended to its end.
+// What a search reaches: a distance, and the number of windows resolved on the way.
 #[derive(Clone, Copy)]
-pub struct Previous {
-    pub known: bool,
-    pub time: Length,
-    pub idle: Length,
-}
-
-// What a search reaches: a distance and the number of windows resolved on the way, no work within the limit, or the range's end.
-#[derive(Clone, Copy)]
-pub enum Reached {
-    At(Length, u64),
-    NoWork,
-    OutOfRange,
+pub struct Reached {
+    pub distance: Length,
+    pub windows: u64,
 }
 
 // ---- many windows at once
@@ -58,53 +50,48 @@ fn fitting(time: Length, left: Length) -> u64
     n
 }
 
-// How many windows from the distance x on are as the one before them, of which k is kept, and take less than what is left to find: none only if
-// the first is not, or takes as much.
+// The windows from the distance x on that have the time of the one before them, if that time is kept, and take less than what is left to find: none
+// only if the first has not, or takes as much.
 fn skips(
     book: &[u8],
     pack: &[u8],
     s: Schedule,
     t: Instant,
     back: bool,
-    k: Previous,
+    kept: Option<Length>,
     left: Length,
     x: Length,
     end: Length,
-) -> u64
-    requires { ScheduleFits book.now pack.now s × SkipAsked t back k left x end }
-    ensures { SkippedFrom (schedule_is book.now pack.now s) t back k left x end result }
+) -> Option<Run>
+    requires { ScheduleFits book.now pack.now s × SkipAsked t back kept left x end }
+    ensures { SkippedFrom (schedule_is book.now pack.now s) t back kept left x end result }
 {
-    if !k.known {
-        return 0;
-    }
-    let time = k.time;
+    let time = kept?;
     let n = fitting(time, left);
     if n == 0 {
-        return 0;
+        return None;
     }
     let m = walk_distance::weeks(x, end);
     if m == 0 {
-        return 0;
+        return None;
     }
     let p = walk_distance::at(t, back, x);
-    number::minimum(
-        number::minimum(n, m),
-        walk_skip::borders(book, pack, s, p, back),
-    )
+    let count = n.min(m).min(walk_skip::borders(book, pack, s, p, back));
+    if count == 0 {
+        return None;
+    }
+    Some(Run { count, time })
 }
 
-// What is kept of the window from x to y, where `left` was to find before it, and `rest` after it, and work last ended at m.
-fn keep(x: Length, y: Length, left: Length, rest: Length, m: Length) -> Previous
-    requires { Short x × Short y × (nanos left < most) }
-    ensures { KeepsWindow (nanos y - nanos x) (nanos left - nanos rest) (nanos y - nanos m) result }
+// What is kept of the window from x to y, in which so much time was found: that time, of a whole window with working time.
+fn keep(x: Length, y: Length, time: Length) -> Option<Length>
+    requires { Short x × Short y }
+    ensures { result ≡ keep_of (nanos y - nanos x) time }
 {
-    let time = instant::difference(left, rest);
-    let idle = instant::difference(y, m);
-    let mut known = false;
-    if walk_distance::is_week(x, y) {
-        known = instant::precedes(Length { sec: 0, ns: 0 }, time);
+    if walk_distance::is_week(x, y) && instant::precedes(Length { sec: 0, ns: 0 }, time) {
+        return Some(time);
     }
-    Previous { known, time, idle }
+    None
 }
 
 // ---- one window
@@ -120,7 +107,7 @@ fn wanted(left: Length) -> u64
     if instant::WEEK < left.sec {
         return WEEK_AND_MORE;
     }
-    number::minimum(instant::nanoseconds(left), WEEK_AND_MORE)
+    instant::nanoseconds(left).min(WEEK_AND_MORE)
 }
 
 // What a window leaves, its distances from where work last ended, as distances from t. Of what is left to find, d was looked for.
@@ -130,7 +117,6 @@ fn further(r: WeekStep, last: Length, left: Length, d: u64) -> Step
 {
     match r {
         WeekStep::Found(z) => Step::Found(instant::sum(last, instant::from_nanoseconds(z))),
-        WeekStep::Gap => Step::Gap,
         WeekStep::Left(rest, m) => {
             let time = instant::from_nanoseconds(d - rest);
             Step::Left(
@@ -143,7 +129,7 @@ fn further(r: WeekStep, last: Length, left: Length, d: u64) -> Step
 
 // What the window from x to y leaves, where `left` is to find and work last ended at `last`, no more than the limit before x. Its blocks are found
 // in lent memory. `gap` is the limit in nanoseconds.
-fn search_window(
+fn search_window<const N: usize>(
     book: &[u8],
     pack: &[u8],
     s: Schedule,
@@ -154,38 +140,24 @@ fn search_window(
     last: Length,
     left: Length,
     gap: u64,
-    on: &mut [u64],
-    off: &mut [u64],
-    out: &mut [u64],
-) -> Step
-    requires { InWindow book.now pack.now s gap t back x y last left × HasRoom s on.old off.old out.old }
+    memory: &mut Memory<N>,
+) -> Result<Step, SearchError>
+    requires { InWindow book.now pack.now s gap t back x y last left × HasRoom s N }
     ensures { Leaves (schedule_is book.now pack.now s) (way_of back) t x y last left result }
 {
     let g = instant::nanoseconds(instant::difference(x, last));
     let w = instant::nanoseconds(instant::difference(y, x));
     let d = wanted(left);
-    let n = walk_distance::window_into(book, pack, s, t, back, x, y, on, off, out);
-    if back {
-        return further(
-            walk_search_week::search_backward(out, n, gap, g, w, d),
-            last,
-            left,
-            d,
-        );
-    }
-    further(
-        walk_search_week::search_forward(out, n, gap, g, w, d),
-        last,
-        left,
-        d,
-    )
+    let n = walk_distance::window_into(book, pack, s, t, back, x, y, memory);
+    let r = walk_search_week::search(&memory.out, n, back, gap, g, w, d)?;
+    Ok(further(r, last, left, d))
 }
 
 // ---- the walk
 
 // The distance from t at which d of working time is spent, d not zero. A window's blocks are found in lent memory. `gap` is the limit in
 // nanoseconds: the caller works it out, because a schedule of which a field is read here would be copied for each window once more.
-fn search_into(
+fn search_into<const N: usize>(
     book: &[u8],
     pack: &[u8],
     s: Schedule,
@@ -193,11 +165,9 @@ fn search_into(
     back: bool,
     d: Length,
     gap: u64,
-    on: &mut [u64],
-    off: &mut [u64],
-    out: &mut [u64],
-) -> Reached
-    requires { ScheduleFits book.now pack.now s × ToFind s gap t d × HasRoom s on.old off.old out.old }
+    memory: &mut Memory<N>,
+) -> Result<Reached, SearchError>
+    requires { ScheduleFits book.now pack.now s × ToFind s gap t d × HasRoom s N }
     ensures { SearchAnswered (way_of back) (schedule_is book.now pack.now s) t d result }
 {
     let end = walk_distance::reach(t, back);
@@ -205,67 +175,55 @@ fn search_into(
     let mut x = zero;
     let mut last = zero;
     let mut left = d;
-    let mut kept = Previous {
-        known: false,
-        time: zero,
-        idle: zero,
-    };
-    let mut resolved: u64 = 0;
+    let mut kept: Option<Length> = None;
+    let mut windows: u64 = 0;
     while instant::precedes(x, end) {
-        let n = skips(book, pack, s, t, back, kept, left, x, end);
-        if n == 0 {
+        if let Some(run) = skips(book, pack, s, t, back, kept, left, x, end) {
+            left = instant::difference(left, walk_distance::times(run.time, run.count));
+            last = walk_distance::weeks_on(last, run.count);
+            x = walk_distance::weeks_on(x, run.count);
+        } else {
             let y = walk_distance::window_end(x, end);
-            let step = search_window(book, pack, s, t, back, x, y, last, left, gap, on, off, out);
-            resolved += 1;
+            let step = search_window(book, pack, s, t, back, x, y, last, left, gap, memory)?;
+            windows += 1;
             match step {
-                Step::Found(z) => return Reached::At(z, resolved),
-                Step::Gap => return Reached::NoWork,
+                Step::Found(distance) => return Ok(Reached { distance, windows }),
                 Step::Left(rest, m) => {
-                    kept = keep(x, y, left, rest, m);
+                    kept = keep(x, y, instant::difference(left, rest));
                     left = rest;
                     last = m;
                     x = y;
                 },
             }
-        } else {
-            let time = kept.time;
-            left = instant::difference(left, walk_distance::times(time, n));
-            last = walk_distance::weeks_on(last, n);
-            x = walk_distance::weeks_on(x, n);
         }
     }
-    Reached::OutOfRange
+    Err(SearchError::RangeEnds)
 }
 
 // The distance from t at which d of working time is spent.
-pub fn search(book: &[u8], pack: &[u8], s: Schedule, t: Instant, back: bool, d: Length) -> Reached
+pub fn search(
+    book: &[u8],
+    pack: &[u8],
+    s: Schedule,
+    t: Instant,
+    back: bool,
+    d: Length,
+) -> Result<Reached, SearchError>
     requires { ScheduleFits book.now pack.now s × InRange t × (nanos d < most) × Exact d }
     ensures { SearchAnswered (way_of back) (schedule_is book.now pack.now s) t d result }
 {
     let zero = Length { sec: 0, ns: 0 };
     if !instant::precedes(zero, d) {
-        return Reached::At(zero, 0);
+        let at_once = Reached {
+            distance: zero,
+            windows: 0,
+        };
+        return Ok(at_once);
     }
     let gap = s.limit * instant::SECOND;
-    let size = window_memory::size_for(s.works + s.pauses + s.closings);
-    match size {
-        Size::One => {
-            let mut on = [0u64; window_memory::ONE];
-            let mut off = [0u64; window_memory::ONE];
-            let mut out = [0u64; window_memory::ONE];
-            search_into(book, pack, s, t, back, d, gap, &mut on, &mut off, &mut out)
-        },
-        Size::Four => {
-            let mut on = [0u64; window_memory::FOUR];
-            let mut off = [0u64; window_memory::FOUR];
-            let mut out = [0u64; window_memory::FOUR];
-            search_into(book, pack, s, t, back, d, gap, &mut on, &mut off, &mut out)
-        },
-        Size::All => {
-            let mut on = [0u64; window_memory::ALL];
-            let mut off = [0u64; window_memory::ALL];
-            let mut out = [0u64; window_memory::ALL];
-            search_into(book, pack, s, t, back, d, gap, &mut on, &mut off, &mut out)
-        },
+    match window_memory::size_for(s.works + s.pauses + s.closings) {
+        Size::One => search_into(book, pack, s, t, back, d, gap, &mut Memory::<ONE>::new()),
+        Size::Four => search_into(book, pack, s, t, back, d, gap, &mut Memory::<FOUR>::new()),
+        Size::All => search_into(book, pack, s, t, back, d, gap, &mut Memory::<ALL>::new()),
     }
 }

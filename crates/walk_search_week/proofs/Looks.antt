@@ -1,20 +1,23 @@
 -- The loops of the search: what a turn keeps. Assumes nothing.
 use Rattle.std.specs.Prelude.{if◌then◌else◌}
 use mathlib.Core.Path.{◌≡◌, refl, sym, ◌∙◌, ap}
-use mathlib.Core.Bool.{true, false}
-use mathlib.Core.List.{List, [], ◌∷◌, ◌++◌, map, reverse, reverse-append}
+use mathlib.Core.Bool.{Bool, true, false}
+use mathlib.Core.List.{List, [], ◌∷◌}
 use Prim.Native.Nat.{ℕ, zero, suc, ◌+◌, ◌*◌, ◌-◌, ◌≤◌, ◌<◌}
 use native.Mathlib.Omega.{arith}
 use borrow.Author.Tests.{le-leb, lt-leb, ltb-true, ltb-false}
 use lib.Dec.{ltb, leb}
 use lib.ListN.{get_or}
 use Rattle.model.specs.Blocks.{Block, block}
-use Rattle.model.specs.Walk.{Step, search_blocks, found, gap, left, backward}
+use Rattle.model.specs.Walk.{Way, on, back, Step, search_blocks, found, gap, left}
 use Rattle.laws_base.specs.Test.{by-test}
 use Rattle.laws_blocks.specs.Members.{NonEmpty, Ends}
 use Rattle.laws_blocks.specs.Move.{moves}
 use Rattle.block_pairs.specs.Pairs.{part, pairs}
-use Rattle.block_pairs.proofs.Parts.{block_same, block_to, from_first, from-none, pairs-last}
+use Rattle.walk_distance.specs.Distances.{way_of, rest, IsNearest}
+use Rattle.walk_distance.proofs.Blocks.{rest_back, rest-on}
+use Rattle.walk_distance.specs.declared.NearBlock.{NearBlock}
+use Rattle.walk_search_week.specs.Steps.{WindowBlocks}
 
 -- ---- one block
 
@@ -53,13 +56,7 @@ pub none-moved : (g : ℕ) {k : List Block} → k ≡ [] → moves g k ≡ []
 unfolding moves
 none-moved g e = rw e
 
--- ---- on
-
-pub on-starts : (l : List ℕ) (n limit y last d g : ℕ) → search_blocks limit y last d (moves g (part 0 (n - 0) l)) ≡ search_blocks limit y last d (moves g (pairs n l))
-on-starts l n limit y last d g = let e : n - 0 ≡ n = omega arith in rw e
-
-pub on-end : (l : List ℕ) (n i : ℕ) → i ≤ n → n ≤ i → part i (n - i) l ≡ []
-on-end l n i h k = let z : i ≡ n = omega arith in ap (λ (x : ℕ). part x (n - x) l) z ∙ from-none n l
+-- ---- the borders of the nearest block
 
 -- the borders of a block lie in the window
 ends_at : (w a n i : ℕ) (l : List ℕ) → NonEmpty (part a n l) → Ends w (part a n l) → a ≤ i → i < a + n → (get_or l (2 * i) 0 ≤ w) × (get_or l (2 * i + 1) 0 ≤ w)
@@ -76,19 +73,21 @@ ends_at w a (suc n) i l f e h k =
 pub on-upto : (w n i : ℕ) (l : List ℕ) → NonEmpty (pairs n l) → Ends w (pairs n l) → i < n → (get_or l (2 * i) 0 ≤ w) × (get_or l (2 * i + 1) 0 ≤ w)
 on-upto w n i l f e h = ends_at w 0 n i l f e (omega arith) (omega arith)
 
--- ---- back
+first_of : List Block → Block
+first_of [] = block 0 0
+first_of (b ∷ l) = b
 
--- the last block comes first
-pub back-first : (t i : ℕ) (l : List ℕ) → 0 < i → backward t (pairs i l) ≡ block (t - get_or l (2 * i - 1) 0) (t - get_or l (2 * i - 2) 0) ∷ backward t (pairs (i - 1) l)
-unfolding backward
-back-first t i l h = ap (λ (x : List Block). map (λ (b : Block). block (t - b.end) (t - b.start)) (reverse x)) (pairs-last i l h) ∙ rw (reverse-append (pairs (i - 1) l) (block_to l i ∷ []))
+same_first : (a b c d : ℕ) (k l : List Block) → block a b ∷ k ≡ block c d ∷ l → (a ≡ c) × (b ≡ d)
+unfolding first_of
+same_first a b c d k l e = (ap (λ (x : List Block). (first_of x).start) e, ap (λ (x : List Block). (first_of x).end) e)
 
-pub back_end : (t i : ℕ) (l : List ℕ) → i ≤ 0 → backward t (pairs i l) ≡ []
-unfolding backward part
-back_end t i l h = let z : i ≡ 0 = omega arith in rw z
-
--- the same by the distances that the code found
-pub back_at : (t i : ℕ) (l : List ℕ) (from to : ℕ) → 0 < i → from ≡ t - get_or l (2 * i - 1) 0 → to ≡ t - get_or l (2 * i - 2) 0
-    → backward t (pairs i l) ≡ block from to ∷ backward t (pairs (i - 1) l)
-back_at t i l from to h p q =
-    back-first t i l h ∙ ap (λ (b : Block). b ∷ backward t (pairs (i - 1) l)) (sym (block_same from to (t - get_or l (2 * i - 1) 0) (t - get_or l (2 * i - 2) 0) p q))
+-- they lie in the window
+pub nearest-upto : (v : Bool) (n w g i : ℕ) (l : List ℕ) (r : NearBlock) → WindowBlocks v n w g l → i < n → IsNearest v w n i l r → (r.from ≤ w) × (r.to ≤ w)
+nearest-upto true n w g i l r h k e =
+    let s = same_first r.from r.to (w - get_or l (2 * (n - i) - 1) 0) (w - get_or l (2 * (n - i) - 2) 0) (rest back w n (i + 1) l) (rest back w n (i + 1) l)
+    (sym e ∙ rest_back w n i l (n - i) (w - get_or l (2 * (n - i) - 1) 0) (w - get_or l (2 * (n - i) - 2) 0) k refl refl refl) in
+    (let a = s.0 in omega arith, let a = s.1 in omega arith)
+nearest-upto false n w g i l r h k e =
+    let s = same_first r.from r.to (get_or l (2 * i) 0) (get_or l (2 * i + 1) 0) (rest on w n (i + 1) l) (rest on w n (i + 1) l) (sym e ∙ rest-on w n i l k) in
+    let u = on-upto w n i l (h.2 refl).0 (h.2 refl).1 k in
+    (let a = s.0 in let b = u.0 in omega arith, let a = s.1 in let b = u.1 in omega arith)

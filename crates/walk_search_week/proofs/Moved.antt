@@ -85,7 +85,6 @@ search-blocks-rest limit y last d (b ∷ l) r m e =
 -- the same of an answer
 pub taken-rest : (limit y last d : ℕ) (l : List Block) (r : WeekStep) → week_step_is r ≡ search_blocks limit y last d l → rest_of r ≤ d
 taken-rest limit y last d l (T.Found z) e = omega arith
-taken-rest limit y last d l T.Gap e = omega arith
 taken-rest limit y last d l (T.Left rest m) e = (search-blocks-rest limit y last d l rest m (sym e)).0
 
 -- ---- a window's look, from where work last ended

@@ -3,7 +3,7 @@ use Rattle.std.specs.Prelude.{if◌then◌else◌}
 use mathlib.Core.Path.{◌≡◌, refl, sym, ◌∙◌, ap}
 use mathlib.Core.Bool.{Bool, true, false, not}
 use mathlib.Core.List.{List, ◌∷◌}
-use Prim.Native.Nat.{ℕ, zero, suc, ◌+◌, ◌-◌, ◌≤◌, ◌<◌}
+use Prim.Native.Nat.{ℕ, zero, suc, ◌+◌, ◌*◌, ◌-◌, ◌≤◌, ◌<◌}
 use native.Mathlib.Omega.{arith}
 use lib.Dec.{leb, ltb}
 use lib.IntN.{ℤ}
@@ -15,8 +15,7 @@ use Rattle.model.specs.Basic.{any}
 use Rattle.model.specs.DayNumber.{day_of}
 use Rattle.laws_base.specs.Test.{by-test, never}
 use Rattle.laws_calendar.specs.Numbers.{IsDayNumber, is_before, is-fits}
-use Rattle.civil.specs.declared.DayRead.{DayRead}
-use Rattle.civil.specs.declared.DayRead.TheVariants.{Day, NoDate}
+use Rattle.std.specs.Prelude.{Option, Some, None}
 use Rattle.book_dates.specs.Days.{date_at}
 use Rattle.book_dates.proofs.Dates.{day-there, no-day-there}
 use Rattle.book.specs.Meaning.{day_at, dates_at}
@@ -97,23 +96,23 @@ met-told back va vb e q = sym (rw (to_z-of_z (is-fits va), to_z-of_z (is-fits vb
 alone : (a : Bool) → a ≡ either a false
 alone a = sym (only a)
 
-pub numbered-none : Numbered NoDate
+pub numbered-none : Numbered None
 numbered-none = record { number = λ z e. never cc }
 
-numbered-day : {r : DayRead} {z : ℤ} → Numbered r → r ≡ Day z → Numbered (Day z)
+numbered-day : {r : Option ℤ} {z : ℤ} → Numbered r → r ≡ Some z → Numbered (Some z)
 numbered-day n e = record { number = λ y q. n.number y (e ∙ q) }
 
-module _ (back : Bool) (from : ℕ) {date : DayRead} where
+module _ (back : Bool) (from : ℕ) {date : Option ℤ} where
   -- there is no second one
-  pub near-only : {near : DayRead} → Numbered near → date ≡ NoDate → Nearer back from near date near
+  pub near-only : {near : Option ℤ} → Numbered near → date ≡ None → Nearer back from near date near
   near-only {near} n e = record { numbered = n; met = λ y. rw e (alone (met_by back near y)) }
 
-  module _ {d : ℤ} (e : date ≡ Day d) where
+  module _ {d : ℤ} (e : date ≡ Some d) where
     on-way-to : (y : ℕ) → read_on_way back from y date ≡ (if is_met back from (day_of d) then is_met back (day_of d) y else false)
     on-way-to y = rw e (on-way back from y (day_of d))
 
     -- it is not met
-    pub near-outside : {near : DayRead} → Numbered near → is_met back from (day_of d) ≡ false → Nearer back from near date near
+    pub near-outside : {near : Option ℤ} → Numbered near → is_met back from (day_of d) ≡ false → Nearer back from near date near
     near-outside {near} n f = record { numbered = n; met = λ y. rw (on-way-to y, f) (alone (met_by back near y)) }
 
     module _ (f : is_met back from (day_of d) ≡ true) where
@@ -121,17 +120,17 @@ module _ (back : Bool) (from : ℕ) {date : DayRead} where
       way-is y = on-way-to y ∙ rw f
 
       -- there is no first one
-      pub near_first : {near : DayRead} → Numbered date → near ≡ NoDate → Nearer back from near date (Day d)
+      pub near_first : {near : Option ℤ} → Numbered date → near ≡ None → Nearer back from near date (Some d)
       near_first n g = record { numbered = numbered-day n e; met = λ y. rw g (sym (way-is y)) }
 
-      module _ {near : DayRead} {x : ℤ} (g : near ≡ Day x) where
-        pub near-further : Numbered near → is_met back (day_of x) (day_of d) ≡ true → Nearer back from near date (Day x)
+      module _ {near : Option ℤ} {x : ℤ} (g : near ≡ Some x) where
+        pub near-further : Numbered near → is_met back (day_of x) (day_of d) ≡ true → Nearer back from near date (Some x)
         near-further n h = record {
           numbered = numbered-day n g;
           met = λ y. rw (way-is y, g) (by-test (is_met back (day_of x) y) (λ u. rw u) (λ u. rw (u, met-no back (day_of x) (day_of d) y h u)));
         }
 
-        pub near-nearer : Numbered date → is_met back (day_of x) (day_of d) ≡ false → Nearer back from near date (Day d)
+        pub near-nearer : Numbered date → is_met back (day_of x) (day_of d) ≡ false → Nearer back from near date (Some d)
         near-nearer n h = record {
           numbered = numbered-day n e;
           met = λ y. rw (way-is y, g) (by-test (is_met back (day_of d) y)
@@ -146,31 +145,31 @@ none-on-way : (back : Bool) (from y : ℕ) → 0 < from → 0 < y → is_on_way 
 none-on-way false from y h k = rw (lt-leb from 0 h)
 none-on-way true from y h k = rw (lt-leb y 0 k)
 
-read-way : (back : Bool) (from y : ℕ) (b : List ℕ) (p : ℕ) {date : DayRead} → 0 < from → 0 < y → date ≡ date_at b p → is_on_way back from y (day_at b p) ≡ read_on_way back from y date
+read-way : (back : Bool) (from y : ℕ) (b : List ℕ) (p : ℕ) {date : Option ℤ} → 0 < from → 0 < y → date ≡ date_at b p → is_on_way back from y (day_at b p) ≡ read_on_way back from y date
 read-way back from y b p {date} h k e = go date (sym e)
   where
-    go : (r : DayRead) → date_at b p ≡ r → is_on_way back from y (day_at b p) ≡ read_on_way back from y r
-    go (Day z) q = ap (is_on_way back from y) (day-there b p z q).day
-    go NoDate q = ap (is_on_way back from y) (no-day-there b p q) ∙ none-on-way back from y h k
+    go : (r : Option ℤ) → date_at b p ≡ r → is_on_way back from y (day_at b p) ≡ read_on_way back from y r
+    go (Some z) q = ap (is_on_way back from y) (day-there b p z q).day
+    go None q = ap (is_on_way back from y) (no-day-there b p q) ∙ none-on-way back from y h k
 
 -- dates of a book have numbers
-pub date-numbered : (b : List ℕ) (p : ℕ) {date : DayRead} → date ≡ date_at b p → Numbered date
+pub date-numbered : (b : List ℕ) (p : ℕ) {date : Option ℤ} → date ≡ date_at b p → Numbered date
 date-numbered b p e = record { number = λ z q. (day-there b p z (sym e ∙ q)).number }
 
 -- the nearest date is `near` or among the n dates at p
-pub record Nears (b : List ℕ) (back : Bool) (from : ℕ) (near : DayRead) (p n : ℕ) (all : List ℕ) : Type 0 where
+pub record Nears (b : List ℕ) (back : Bool) (from : ℕ) (near : Option ℤ) (p n : ℕ) (all : List ℕ) : Type 0 where
   pub numbered : Numbered near
   pub same : (y : ℕ) → 0 < y → either (met_by back near y) (any (is_on_way back from y) (dates_at b p n)) ≡ any (is_on_way back from y) all
 
-pub nears-start : (b : List ℕ) (back : Bool) (from p n : ℕ) → Nears b back from NoDate p n (dates_at b p n)
+pub nears-start : (b : List ℕ) (back : Bool) (from p n : ℕ) → Nears b back from None p n (dates_at b p n)
 nears-start b back from p n = record { numbered = numbered-none; same = λ y h. refl }
 
 either-more : (a b c : Bool) → either (either a b) c ≡ either a (either b c)
 either-more true b c = refl
 either-more false b c = refl
 
-module _ {b : List ℕ} {back : Bool} {from : ℕ} {near : DayRead} {p n : ℕ} {all : List ℕ} (m : Nears b back from near p n all) where
-  pub nears-turn : 0 < n → 0 < from → {date r : DayRead} → date ≡ date_at b p → Nearer back from near date r → Nears b back from r (p + 4) (n - 1) all
+module _ {b : List ℕ} {back : Bool} {from : ℕ} {near : Option ℤ} {p n : ℕ} {all : List ℕ} (m : Nears b back from near p n all) where
+  pub nears-turn : 0 < n → 0 < from → {date r : Option ℤ} → date ≡ date_at b p → Nearer back from near date r → Nears b back from r (p + 4) (n - 1) all
   nears-turn h k {date} {r} e w = record {
     numbered = w.numbered;
     same = λ y q.
@@ -187,3 +186,15 @@ module _ {b : List ℕ} {back : Bool} {from : ℕ} {near : DayRead} {p n : ℕ} 
 
   pub nears-end : n ≤ 0 → {x : ℕ} → from ≡ x → Numbered near × Nearest back x all near
   nears-end h e = (m.numbered, rw e at (ends h))
+
+-- ---- by an index
+
+pub nears-first : (b : List ℕ) (back : Bool) (from p n : ℕ) → Nears b back from None (p + 0 * 4) (n - 0) (dates_at b p n)
+nears-first b back from p n = let e : p + 0 * 4 ≡ p = omega arith in let f : n - 0 ≡ n = omega arith in rw (e, f) (nears-start b back from p n)
+
+pub nears-next : (b : List ℕ) (back : Bool) (from p n i : ℕ) (all : List ℕ) {near : Option ℤ} → Nears b back from near (p + i * 4) (n - i) all → i < n → 0 < from → {date r : Option ℤ} → date ≡ date_at b (p + i * 4) → Nearer back from near date r
+    → Nears b back from r (p + (i + 1) * 4) (n - (i + 1)) all
+nears-next b back from p n i all m h k {date} {r} e w =
+    let f : p + i * 4 + 4 ≡ p + (i + 1) * 4 = omega arith in
+    let g : n - i - 1 ≡ n - (i + 1) = omega arith in
+    rw (f, g) at (nears-turn m (omega arith) k e w)

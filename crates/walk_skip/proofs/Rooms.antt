@@ -3,11 +3,12 @@
 use Rattle.std.specs.Prelude.{if◌then◌else◌}
 use mathlib.Core.Path.{◌≡◌, refl, sym, ◌∙◌, ap}
 use mathlib.Core.Bool.{Bool, true, false, ◌&&◌}
-use mathlib.Core.List.{List, [], ◌∷◌, ◌++◌}
-use Prim.Native.Nat.{ℕ, zero, suc, ◌+◌, ◌*◌, ◌-◌, ◌/◌, ◌≤◌, ◌<◌, min}
+use mathlib.Core.List.{List, [], ◌∷◌, ◌++◌, map}
+use Prim.Native.Nat.{ℕ, ◌+◌, ◌*◌, ◌-◌, ◌/◌, ◌≤◌, ◌<◌, min}
 use native.Mathlib.Omega.{arith}
 use lib.Dec.{leb}
-use lib.ListN.{length, take, drop, get_or}
+use lib.ListN.{length, drop, get_or}
+use lib.Seq.{take-length}
 use borrow.Author.Tests.{le-leb, lt-leb, leb-true}
 use Rattle.model.specs.Basic.{all}
 use Rattle.model.specs.Instant.{second, day, week, first_instant, last_instant, week_seconds}
@@ -19,7 +20,6 @@ use Rattle.laws_demand3.specs.Windows.{RuleOk, OfRules}
 use Rattle.laws_skip.specs.Runs.{repeats_to, repeats-one, run-each, run-back}
 use Rattle.laws_base.specs.Front.{front, rest-cons, rest-none}
 use Rattle.rule.specs.Rules.{file_at, rule_is}
-use Rattle.laws_base.specs.Every.{Every}
 use Rattle.rule.specs.declared.Rule.{Rule as Item}
 use Rattle.rule.specs.declared.HolidayDates.{HolidayDates}
 use Rattle.instant.specs.Instant.{nanos}
@@ -71,6 +71,17 @@ module _ {A B : Type 0} (f : A → B) (T : ℕ → B → Bool) (n : ℕ) (l : Li
       let e : i ≡ n = omega arith in
       let z : drop i (front f n l) ≡ [] = rw e (rest-none f n l k) in
       record { none = λ q. absurd (omega (arith, o.some)); each = λ x p. sym (o.rest x p) ∙ ap (all (T x)) z }
+
+-- the same over a whole list
+module _ {A B : Type 0} (f : A → B) (T : ℕ → B → Bool) (l : List A) where
+  front_all : front f (length l) l ≡ map f l
+  front_all = ap (map f) (take-length l)
+
+  pub all_no : {i room : ℕ} → Open f T (length l) l i room → (d : A) → i < length l → {m : ℕ} → SteadyRoom (λ e. T e (f (get_or l i d))) m → m ≡ 0 → SteadyRoom (λ e. all (T e) (map f l)) 0
+  all_no o d h r q = let z : SteadyRoom (λ e. all (T e) (front f (length l) l)) 0 = open_no f T (length l) l o d h (omega arith) r q in rw front_all at z
+
+  pub all_end : {i room : ℕ} → Open f T (length l) l i room → i ≤ length l → length l ≤ i → SteadyRoom (λ e. all (T e) (map f l)) room
+  all_end {i} {room} o h k = let z : SteadyRoom (λ e. all (T e) (front f (length l) l)) room = open-ends f T (length l) l o h k (omega arith) in rw front_all at z
 
 -- ---- a rule
 

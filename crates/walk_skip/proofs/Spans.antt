@@ -20,8 +20,7 @@ use Rattle.laws_calendar.specs.Numbers.{IsDayNumber, numbered, is-fits, bits-day
 use Rattle.laws_zone.specs.Changes.{any_none}
 use Rattle.laws_zone.specs.Sound.{Sound}
 use Rattle.laws_demand3.specs.Local.{offset-low, offset-high, day-is, first-from, first-upto, last-from, last-upto, first-near, last-near}
-use Rattle.civil.specs.declared.DayRead.{DayRead}
-use Rattle.civil.specs.declared.DayRead.TheVariants.{Day, NoDate}
+use Rattle.std.specs.Prelude.{Option, Some, None}
 use Rattle.book.specs.Meaning.{dates_at}
 use Rattle.laws_zone.specs.Zones.{fits-sound}
 use Rattle.rule.specs.Rules.{file_at, holidays_is, HolidaysFit}
@@ -75,22 +74,22 @@ module _ (h : Holidays) (s : Sound h.zone) (l : List ℕ) (ed : h.dates ≡ dist
   unfolding none_within
   seen back e = rw ed (ap not (any-distinct (is_in (first_date h.zone (low back a (e * second))) (last_date h.zone (high back b (e * second)))) l))
 
-  module _ (r : DayRead) (near : Nearest false first l r) where
+  module _ (r : Option ℤ) (near : Nearest false first l r) where
     sees : (e : ℕ) → none_within false a b e h ≡ not (met_by false r (last_date h.zone (b + e * second)))
     sees e = seen false e ∙ ap not (ap (λ f. any (is_in f (last_date h.zone (b + e * second))) l) (sym ef) ∙ near (last_date h.zone (b + e * second)) (last_some h.zone s (b + e * second) (omega arith)))
 
-  module _ (r : DayRead) (near : Nearest true last l r) where
+  module _ (r : Option ℤ) (near : Nearest true last l r) where
     sees_back : (e : ℕ) → 0 < first_date h.zone (a - e * second) → none_within true a b e h ≡ not (met_by true r (first_date h.zone (a - e * second)))
     sees_back e p = seen true e ∙ ap not (ap (λ t. any (is_in (first_date h.zone (a - e * second)) t) l) (sym el) ∙ near (first_date h.zone (a - e * second)) p)
 
   -- there is no date ahead, or none behind
-  pub none_ahead : Nearest false first l NoDate → {r : ℕ} → 0 < r → SteadyRoom (λ e. none_within false a b e h) r
-  none_ahead near k = record { none = λ q. absurd (omega arith); each = λ e q. sees NoDate near e }
+  pub none_ahead : Nearest false first l None → {r : ℕ} → 0 < r → SteadyRoom (λ e. none_within false a b e h) r
+  none_ahead near k = record { none = λ q. absurd (omega arith); each = λ e q. sees None near e }
 
-  pub none-behind : Nearest true last l NoDate → (lo : ℕ) → lo ≡ a / second → SteadyRoom (λ e. none_within true a b e h) (lo - first_second + 1)
-  none-behind near lo eh = record { none = λ q. absurd (omega arith); each = λ e q. sees_back NoDate near e (omega (arith, first-from h.zone s (a - e * second) (omega arith))) }
+  pub none-behind : Nearest true last l None → (lo : ℕ) → lo ≡ a / second → SteadyRoom (λ e. none_within true a b e h) (lo - first_second + 1)
+  none-behind near lo eh = record { none = λ q. absurd (omega arith); each = λ e q. sees_back None near e (omega (arith, first-from h.zone s (a - e * second) (omega arith))) }
 
-  module _ (z : ℤ) (near : Nearest false first l (Day z)) (hi : ℕ) (eh : hi ≡ b / second) {r : ℕ} (k : DateAhead (day_of z) last hi r) where
+  module _ (z : ℤ) (near : Nearest false first l (Some z)) (hi : ℕ) (eh : hi ≡ b / second) {r : ℕ} (k : DateAhead (day_of z) last hi r) where
     last-beyond : (e : ℕ) → 0 < e → e < r → last_date h.zone (b + e * second) < day_of z
     last-beyond e p q =
         let i = k.more e p q in let x = last-near h.zone s (b + e * second) in let y = day-is h.zone s (b + e * second) in let w = offset-high h.zone s (b + e * second) in
@@ -101,15 +100,15 @@ module _ (h : Holidays) (s : Sound h.zone) (l : List ℕ) (ed : h.dates ≡ dist
 
     pub ahead-room : SteadyRoom (λ e. none_within false a b e h) r
     ahead-room = record {
-      none = λ q. sees (Day z) near 0 ∙ ap not (le-leb (day_of z) (last_date h.zone (b + 0 * second)) (omega (arith, at-start, k.none q)));
-      each = λ e q. sees (Day z) near e ∙ ap not (lt-leb (day_of z) (last_date h.zone (b + e * second)) (under e q));
+      none = λ q. sees (Some z) near 0 ∙ ap not (le-leb (day_of z) (last_date h.zone (b + 0 * second)) (omega (arith, at-start, k.none q)));
+      each = λ e q. sees (Some z) near e ∙ ap not (lt-leb (day_of z) (last_date h.zone (b + e * second)) (under e q));
     }
       where
         under : (e : ℕ) → e < r → last_date h.zone (b + e * second) < day_of z
         under zero q = omega (arith, at-start, k.some (omega arith))
         under (suc e) q = last-beyond (suc e) (omega arith) q
 
-  module _ (z : ℤ) (near : Nearest true last l (Day z)) (lo : ℕ) (eh : lo ≡ a / second) {r : ℕ} (k : DateBehind (day_of z) first lo r) where
+  module _ (z : ℤ) (near : Nearest true last l (Some z)) (lo : ℕ) (eh : lo ≡ a / second) {r : ℕ} (k : DateBehind (day_of z) first lo r) where
     first-beyond : (e : ℕ) → 0 < e → e < r → day_of z < first_date h.zone (a - e * second)
     first-beyond e p q =
         let i = k.more e p q in let x = first-near h.zone s (a - e * second) in let y = day-is h.zone s (a - e * second) in let w = offset-low h.zone s (a - e * second) in
@@ -123,8 +122,8 @@ module _ (h : Holidays) (s : Sound h.zone) (l : List ℕ) (ed : h.dates ≡ dist
 
     pub behind-room : SteadyRoom (λ e. none_within true a b e h) r
     behind-room = record {
-      none = λ q. sees_back (Day z) near 0 (omega (arith, at_first, first_some)) ∙ ap not (le-leb (first_date h.zone (a - 0 * second)) (day_of z) (omega (arith, at_first, k.none q)));
-      each = λ e q. sees_back (Day z) near e (omega (arith, over e q)) ∙ ap not (lt-leb (first_date h.zone (a - e * second)) (day_of z) (over e q));
+      none = λ q. sees_back (Some z) near 0 (omega (arith, at_first, first_some)) ∙ ap not (le-leb (first_date h.zone (a - 0 * second)) (day_of z) (omega (arith, at_first, k.none q)));
+      each = λ e q. sees_back (Some z) near e (omega (arith, over e q)) ∙ ap not (lt-leb (first_date h.zone (a - e * second)) (day_of z) (over e q));
     }
       where
         over : (e : ℕ) → e < r → day_of z < first_date h.zone (a - e * second)
@@ -188,21 +187,21 @@ module _ {k p : List ℕ} {c : HolidayDates} {a b : Instant} {f : List ℕ} {x y
   abbrev Room : Bool → ℕ → Type 0
   Room back r = SteadyRoom (λ e. none_within back (nanos a) (nanos b) e (holidays_is k p c)) r
 
-  module _ {back : Bool} {n : DayRead} where
-    pub closed-ahead : {d : ℤ} {r : ℕ} → back ≡ false → Numbered n → Nearest false (day_of first_given) dates n → n ≡ Day d → DateAhead (day_of (to_z w32 (of_z w32 d))) (day_of last_given) b.sec r → Room back r
+  module _ {back : Bool} {n : Option ℤ} where
+    pub closed-ahead : {d : ℤ} {r : ℕ} → back ≡ false → Numbered n → Nearest false (day_of first_given) dates n → n ≡ Some d → DateAhead (day_of (to_z w32 (of_z w32 d))) (day_of last_given) b.sec r → Room back r
     closed-ahead {d} q v near g m =
         rw q (ahead-room (holidays_is k p c) (zone-sound k p c s.fit) dates refl (nanos a) (nanos b) (omega (arith, s.from.low)) (omega (arith, s.to.low)) first-same last-same
         d (rw g at near) b.sec (omega (arith, s.to.ns)) (rw (to_z-of_z (is-fits (v.number d g))) at m))
 
-    pub closed-behind : {d : ℤ} {r : ℕ} → back ≡ true → Numbered n → Nearest true (day_of last_given) dates n → n ≡ Day d → DateBehind (day_of (to_z w32 (of_z w32 d))) (day_of first_given) a.sec r → Room back r
+    pub closed-behind : {d : ℤ} {r : ℕ} → back ≡ true → Numbered n → Nearest true (day_of last_given) dates n → n ≡ Some d → DateBehind (day_of (to_z w32 (of_z w32 d))) (day_of first_given) a.sec r → Room back r
     closed-behind {d} q v near g m =
         rw q (behind-room (holidays_is k p c) (zone-sound k p c s.fit) dates refl (nanos a) (nanos b) (omega (arith, s.from.low)) (omega (arith, s.to.low)) first-same last-same
         d (rw g at near) a.sec (omega (arith, s.from.ns)) (rw (to_z-of_z (is-fits (v.number d g))) at m))
 
-    pub open-ahead : {r : ℕ} → back ≡ false → Nearest false (day_of first_given) dates n → n ≡ NoDate → 0 < r → Room back r
+    pub open-ahead : {r : ℕ} → back ≡ false → Nearest false (day_of first_given) dates n → n ≡ None → 0 < r → Room back r
     open-ahead q near g m =
         rw q (none_ahead (holidays_is k p c) (zone-sound k p c s.fit) dates refl (nanos a) (nanos b) (omega (arith, s.from.low)) (omega (arith, s.to.low)) first-same last-same (rw g at near) m)
 
-    pub open-behind : back ≡ true → Nearest true (day_of last_given) dates n → n ≡ NoDate → Room back (a.sec - first_second + 1)
+    pub open-behind : back ≡ true → Nearest true (day_of last_given) dates n → n ≡ None → Room back (a.sec - first_second + 1)
     open-behind q near g =
         rw q (none-behind (holidays_is k p c) (zone-sound k p c s.fit) dates refl (nanos a) (nanos b) (omega (arith, s.from.low)) (omega (arith, s.to.low)) first-same last-same (rw g at near) a.sec (omega (arith, s.from.ns)))

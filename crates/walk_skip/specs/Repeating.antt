@@ -1,6 +1,6 @@
 -- The skip test at a border and at those beyond it: how far the eleven days on each side may be widened, in seconds, on from the border or back
 -- from it.
-use Rattle.std.specs.Prelude.{◌≡◌, Bool, true, false, ◌&&◌, List, map, ℕ, ◌+◌, ◌*◌, ◌-◌, ◌≤◌, ◌<◌, leb, ℤ, take, if◌then◌else◌}
+use Rattle.std.specs.Prelude.{◌≡◌, Bool, true, false, ◌&&◌, List, map, ℕ, ◌+◌, ◌*◌, ◌-◌, ◌≤◌, ◌<◌, leb, ℤ, if◌then◌else◌}
 use Rattle.model.specs.Basic.{is_in, any, all}
 use Rattle.model.specs.DayNumber.{day_of}
 use Rattle.model.specs.Instant.{second, day, week, first_instant, last_instant, first_second, last_second, day_seconds}
@@ -8,8 +8,7 @@ use Rattle.model.specs.Working.{Rule, Holidays, Schedule}
 use Rattle.model.specs.Skip.{rule_steady, none_near, repeats}
 use Rattle.laws_calendar.specs.Numbers.{IsDayNumber}
 use Rattle.laws_skip.specs.Runs.{repeats_to}
-use Rattle.civil.specs.declared.DayRead.{DayRead}
-use Rattle.civil.specs.declared.DayRead.TheVariants.{Day, NoDate}
+use Rattle.std.specs.Prelude.{Option, Some, None}
 use Rattle.instant.specs.Instant.{nanos, InRange}
 use Rattle.instant.specs.declared.Instant.{Instant}
 use Rattle.rule.specs.declared.Rule.{Rule as Item}
@@ -17,7 +16,6 @@ use Rattle.rule.specs.declared.HolidayDates.{HolidayDates}
 use Rattle.rule.specs.declared.Schedule.{Schedule as Code}
 use Rattle.rule.specs.Rules.{rule_is, holidays_is, schedule_is, RuleFits, HolidaysFit}
 use Rattle.laws_base.specs.Every.{Every}
-use Rattle.book.specs.Limits.{most_work, most_holidays}
 use Rattle.zone_steady.specs.Steady.{SteadyRoom, low, high}
 use Rattle.model.specs.Offset.{offset_bias, greatest_offset}
 
@@ -55,9 +53,9 @@ is_met false a b = leb a b
 is_met true a b = leb b a
 
 -- y is met from a date that was read; where that is none, it is not
-abbrev pub met_by : Bool → DayRead → ℕ → Bool
-met_by back (Day z) y = is_met back (day_of z) y
-met_by back NoDate y = false
+abbrev pub met_by : Bool → Option ℤ → ℕ → Bool
+met_by back (Some z) y = is_met back (day_of z) y
+met_by back None y = false
 
 -- the dates from `from` to y
 abbrev pub is_on_way : Bool → ℕ → ℕ → ℕ → Bool
@@ -65,21 +63,21 @@ is_on_way false from y = is_in from y
 is_on_way true from y = is_in y from
 
 -- a date that was read is one of them
-abbrev pub read_on_way : Bool → ℕ → ℕ → DayRead → Bool
-read_on_way back from y (Day z) = is_on_way back from y (day_of z)
-read_on_way back from y NoDate = false
+abbrev pub read_on_way : Bool → ℕ → ℕ → Option ℤ → Bool
+read_on_way back from y (Some z) = is_on_way back from y (day_of z)
+read_on_way back from y None = false
 
 -- a date that was read has the number of a day
-pub record Numbered (r : DayRead) : Type 0 where
-  pub number : (z : ℤ) → r ≡ Day z → IsDayNumber z
+pub record Numbered (r : Option ℤ) : Type 0 where
+  pub number : (z : ℤ) → r ≡ Some z → IsDayNumber z
 
 -- r is the nearer of two dates: y is met from r where it is from `near`, or where `date` lies on the way to it
-pub record Nearer (back : Bool) (from : ℕ) (near date r : DayRead) : Type 0 where
+pub record Nearer (back : Bool) (from : ℕ) (near date r : Option ℤ) : Type 0 where
   pub numbered : Numbered r
   pub met : (y : ℕ) → met_by back r y ≡ (if met_by back near y then true else read_on_way back from y date)
 
 -- r is the nearest date of l from `from` on, or back from it: a date of l lies on the way to y where y is met from r
-abbrev pub Nearest : Bool → ℕ → List ℕ → DayRead → Type 0
+abbrev pub Nearest : Bool → ℕ → List ℕ → Option ℤ → Type 0
 Nearest back from l r = (y : ℕ) → 0 < y → any (is_on_way back from y) l ≡ met_by back r y
 
 -- the greatest offset of a zone in seconds: 25 h 59 min 59 s
@@ -104,13 +102,13 @@ pub record DateBehind (d first lo room : ℕ) : Type 0 where
 abbrev pub HolidayRoom : List ℕ → List ℕ → HolidayDates → Bool → Instant → Instant → ℕ → Type 0
 HolidayRoom book pack h back a b r = SteadyRoom (λ e. none_within back (nanos a) (nanos b) e (holidays_is book pack h)) r
 
--- the first n of the holiday records that a book may have, and a span of the range
-abbrev pub HolidaysAsked : List ℕ → List ℕ → List HolidayDates → ℕ → Instant → Instant → Type 0
-HolidaysAsked book pack closed n a b = (n ≤ most_holidays) × Every (HolidaysFit book pack) (take n closed) × InRange a × InRange b
+-- holiday records, and a span of the range
+abbrev pub HolidaysAsked : List ℕ → List ℕ → List HolidayDates → Instant → Instant → Type 0
+HolidaysAsked book pack closed a b = Every (HolidaysFit book pack) closed × InRange a × InRange b
 
--- the first n of the rules that a book may have, and a span of the range
-abbrev pub RulesAsked : List ℕ → List Item → ℕ → Instant → Instant → Type 0
-RulesAsked pack rules n a b = (n ≤ most_work) × Every (RuleFits pack) (take n rules) × InRange a × InRange b × (a.sec ≤ b.sec)
+-- rules, and a span of the range
+abbrev pub RulesAsked : List ℕ → List Item → Instant → Instant → Type 0
+RulesAsked pack rules a b = Every (RuleFits pack) rules × InRange a × InRange b × (a.sec ≤ b.sec)
 
 -- before a date of one of the records l is among them
 abbrev pub HolidaysRoom : List ℕ → List ℕ → List HolidayDates → Bool → Instant → Instant → ℕ → Type 0

@@ -2,7 +2,7 @@
 // the first border to eleven days behind the last one lies in the range, no work or break zone changes its offset in it, and no holiday lies among its dates.
 #![tactic(auto)]
 
-ghost use Rattle.std.specs.Prelude.{◌≡◌, ◌+◌, ◌*◌, ◌≤◌, ◌<◌, length, take};
+ghost use Rattle.std.specs.Prelude.{◌≡◌, ◌+◌, ◌*◌, ◌≤◌, ◌<◌, length};
 ghost use Rattle.instant.specs.Instant.{nanos, InRange};
 ghost use Rattle.model.specs.DayNumber.{day_of};
 ghost use Rattle.model.specs.Instant.{last_second};
@@ -11,7 +11,6 @@ ghost use Rattle.book.specs.Meaning.{dates_at};
 ghost use Rattle.rule.specs.Rules.{schedule_is, HolidaysFit, ScheduleFits};
 ghost use Rattle.walk_skip.specs.Repeating.{is_met, Numbered, Nearer, Nearest, DateAhead, DateBehind, Repeating, HolidayRoom, HolidaysAsked, HolidaysRoom, RulesAsked, RulesRoom, RangeRoom, BorderRoom};
 
-use civil::DayRead;
 use instant::Instant;
 use rule::{HolidayDates, Rule, Schedule};
 
@@ -41,17 +40,17 @@ fn meets(back: bool, a: i32, b: i32) -> bool
 }
 
 // The nearer of two dates, going on from the date `from` or back from it: the second counts only where it is met from there.
-fn nearer(back: bool, from: i32, near: DayRead, date: DayRead) -> DayRead
+fn nearer(back: bool, from: i32, near: Option<i32>, date: Option<i32>) -> Option<i32>
     requires { IsDayNumber from × Numbered near × Numbered date }
     ensures { Nearer back (day_of from) near date result }
 {
-    let DayRead::Day(d) = date else {
+    let Some(d) = date else {
         return near;
     };
     if !meets(back, from, d) {
         return near;
     }
-    let DayRead::Day(n) = near else {
+    let Some(n) = near else {
         return date;
     };
     if meets(back, n, d) {
@@ -61,18 +60,14 @@ fn nearer(back: bool, from: i32, near: DayRead, date: DayRead) -> DayRead
 }
 
 // The nearest of the n dates at p, going on from the date `from` or back from it.
-fn nearest_date(book: &[u8], p: usize, n: usize, back: bool, from: i32) -> DayRead
+fn nearest_date(book: &[u8], p: usize, n: usize, back: bool, from: i32) -> Option<i32>
     requires { (p + 4 * n ≤ length book.now) × IsDayNumber from × (0 < day_of from) }
     ensures { Numbered result × Nearest back (day_of from) (dates_at book.now p n) result }
 {
-    let mut at = p;
-    let mut left = n;
-    let mut near = DayRead::NoDate;
-    while 0 < left {
-        let date = book_dates::date_at(book, at);
+    let mut near = None;
+    for i in 0..n {
+        let date = book_dates::date_at(book, p + i * book_dates::DATE_SIZE);
         near = nearer(back, from, near, date);
-        at += book_dates::DATE_SIZE;
-        left -= 1;
     }
     near
 }
@@ -128,68 +123,53 @@ fn holiday_room(
     let first = zone_local::first_date(f, z, a);
     let last = zone_local::last_date(f, z, b);
     if back {
-        let DayRead::Day(d) = nearest_date(book, h.dates, h.count, true, last) else {
+        let Some(d) = nearest_date(book, h.dates, h.count, true, last) else {
             return a.sec - instant::FIRST + 1;
         };
         return days_behind(d, first, a.sec);
     }
-    let DayRead::Day(d) = nearest_date(book, h.dates, h.count, false, first) else {
+    let Some(d) = nearest_date(book, h.dates, h.count, false, first) else {
         return UNLIMITED;
     };
     days_ahead(d, last, b.sec)
 }
 
-// How far the span from a to b may be widened before a date of one of the first n records is among its dates.
+// How far the span from a to b may be widened before a date of one of the records is among its dates.
 fn holidays_room(
     book: &[u8],
     pack: &[u8],
-    closed: [HolidayDates; book::MOST_HOLIDAYS],
-    n: usize,
+    closed: &[HolidayDates],
     back: bool,
     a: Instant,
     b: Instant,
 ) -> u64
-    requires { HolidaysAsked book.now pack.now closed n a b }
-    ensures { HolidaysRoom book.now pack.now (take n closed) back a b result }
+    requires { HolidaysAsked book.now pack.now closed.now a b }
+    ensures { HolidaysRoom book.now pack.now closed.now back a b result }
 {
     let mut room = UNLIMITED;
-    let mut i = 0;
-    while i < n {
-        let h = closed[i];
-        i += 1;
-        let m = holiday_room(book, pack, h, back, a, b);
+    for h in closed {
+        let m = holiday_room(book, pack, *h, back, a, b);
         if m == 0 {
             return 0;
         }
-        room = number::minimum(room, m);
+        room = room.min(m);
     }
     room
 }
 
-// How far the span from a to b may be widened before one of the first n rules changes its offset in it: 0 if one does already.
-fn rules_room(
-    pack: &[u8],
-    rules: [Rule; book::MOST_WORK],
-    n: usize,
-    back: bool,
-    a: Instant,
-    b: Instant,
-) -> u64
-    requires { RulesAsked pack.now rules n a b }
-    ensures { RulesRoom pack.now (take n rules) back a b result }
+// How far the span from a to b may be widened before one of the rules changes its offset in it: 0 if one does already.
+fn rules_room(pack: &[u8], rules: &[Rule], back: bool, a: Instant, b: Instant) -> u64
+    requires { RulesAsked pack.now rules.now a b }
+    ensures { RulesRoom pack.now rules.now back a b result }
 {
     let mut room = UNLIMITED;
-    let mut i = 0;
-    while i < n {
-        let r = rules[i];
-        let z = r.zone;
+    for r in rules {
         let f = big_endian::part(pack, r.at, r.len);
-        i += 1;
-        let m = zone_steady::room(f, z, back, a.sec, b.sec);
+        let m = zone_steady::room(f, r.zone, back, a.sec, b.sec);
         if m == 0 {
             return 0;
         }
-        room = number::minimum(room, m);
+        room = room.min(m);
     }
     room
 }
@@ -228,19 +208,16 @@ fn room(book: &[u8], pack: &[u8], s: Schedule, t: Instant, back: bool) -> u64
         sec: t.sec + MARGIN,
         ns: t.ns,
     };
-    let work = s.work;
-    let w = rules_room(pack, work, s.works, back, a, b);
+    let w = rules_room(pack, &s.work[..s.works], back, a, b);
     if w == 0 {
         return 0;
     }
-    let breaks = s.breaks;
-    let p = rules_room(pack, breaks, s.pauses, back, a, b);
+    let p = rules_room(pack, &s.breaks[..s.pauses], back, a, b);
     if p == 0 {
         return 0;
     }
-    let closed = s.closed;
-    let c = holidays_room(book, pack, closed, s.closings, back, a, b);
-    number::minimum(number::minimum(m, w), number::minimum(p, c))
+    let c = holidays_room(book, pack, &s.closed[..s.closings], back, a, b);
+    m.min(w).min(p.min(c))
 }
 
 // How many borders in a row repeat, t the first of them: the two windows at each hold the same, a week apart. There may be more.

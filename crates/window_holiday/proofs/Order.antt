@@ -13,8 +13,7 @@ use Rattle.book.specs.Meaning.{written_year, day_at}
 use Rattle.window_holiday.specs.Ranks.{rank, rank_of, rank_at, in_ranks, ranks_end, day_of_rank, date_of_rank}
 use Rattle.civil.specs.Dates.{year_bias, day_read}
 use Rattle.civil.specs.DateLaws.{day-no, read-day, read_none, read_number}
-use Rattle.civil.specs.declared.DayRead.{DayRead}
-use Rattle.civil.specs.declared.DayRead.TheVariants.{Day, NoDate}
+use Rattle.std.specs.Prelude.{Option, Some, None}
 
 -- ---- the order of dates
 
@@ -120,7 +119,7 @@ rank-read b p n r h e q =
 
 -- ---- the date of a rank
 
-pub a-rank : (k y m d : ℕ) {r : DayRead} → k < 4294967296 → y ≡ (k / 65536 + 43168) % 65536 → m ≡ k / 256 % 256 → d ≡ k % 256 → r ≡ day_read (record { year = y; month = m; day = d }) → r ≡ date_of_rank k
+pub a-rank : (k y m d : ℕ) {r : Option ℤ} → k < 4294967296 → y ≡ (k / 65536 + 43168) % 65536 → m ≡ k / 256 % 256 → d ≡ k % 256 → r ≡ day_read (record { year = y; month = m; day = d }) → r ≡ date_of_rank k
 unfolding date_of_rank
 a-rank k y m d h p q o e =
     by-test (leb year_bias (k / 65536))
@@ -133,15 +132,15 @@ a-rank k y m d h p q o e =
     ∙ day-no (record { year = k / 65536 - year_bias; month = k / 256 % 256; day = k % 256 }) (no-date (λ v. let x = v.year-low in omega arith)))
 
 -- no date has day 0
-pub rank-none : (k : ℕ) {r : DayRead} → r ≡ date_of_rank k → r ≡ NoDate → day_of_rank k ≡ 0
+pub rank-none : (k : ℕ) {r : Option ℤ} → r ≡ date_of_rank k → r ≡ None → day_of_rank k ≡ 0
 unfolding date_of_rank day_of_rank
 rank-none k e h = rw (read_none _ (sym e ∙ h))
 
-pub rank-day : (k : ℕ) {r : DayRead} {z : ℤ} → r ≡ date_of_rank k → r ≡ Day z → day_of_rank k ≡ day_of z
+pub rank-day : (k : ℕ) {r : Option ℤ} {z : ℤ} → r ≡ date_of_rank k → r ≡ Some z → day_of_rank k ≡ day_of z
 unfolding date_of_rank day_of_rank
 rank-day k {z = z} e h = let q = read-day _ z (sym e ∙ h) in rw q.0 (sym (day-given q.1))
 
-pub rank-number : (k : ℕ) {r : DayRead} {z : ℤ} → r ≡ date_of_rank k → r ≡ Day z → IsDayNumber z
+pub rank-number : (k : ℕ) {r : Option ℤ} {z : ℤ} → r ≡ date_of_rank k → r ≡ Some z → IsDayNumber z
 unfolding date_of_rank
 rank-number k {z = z} e h = read_number _ z (sym e ∙ h)
 

@@ -3,7 +3,7 @@ use Rattle.std.specs.Prelude.{ℕ, ◌+◌, ◌-◌, ◌*◌, ◌/◌, ◌%◌, 
 use Rattle.big_endian.specs.Be.{be16}
 use Rattle.model.specs.Calendar.{date_of, is_date, day_number}
 use Rattle.civil.specs.Dates.{year_bias, day_read}
-use Rattle.civil.specs.declared.DayRead.{DayRead}
+use Rattle.std.specs.Prelude.{Option, Some, None, ℤ}
 
 -- the rank of a date: year, month and day as one number, the year counted from -32768, which is the first that two bytes say
 abbrev pub rank : ℕ → ℕ → ℕ → ℕ
@@ -26,7 +26,7 @@ unfoldable pub rank_at : List ℕ → ℕ → ℕ
 rank_at b p = rank ((be16 b p + 32768) % 65536) (slice_index b (p + 2)) (slice_index b (p + 3))
 
 -- the date that has the rank k, if there is one
-unfoldable pub date_of_rank : ℕ → DayRead
+unfoldable pub date_of_rank : ℕ → Option ℤ
 date_of_rank k = day_read (record { year = k / 65536 - year_bias; month = k / 256 % 256; day = k % 256 })
 
 -- the day of the date that has the rank k, 0 where it is no date's

@@ -12,7 +12,7 @@ ghost use Rattle.window_holiday.specs.Ranks.{rank_at, rank_of, in_ranks, ranks_e
 ghost use Rattle.civil.specs.Dates.{InCalendar};
 ghost use Rattle.model.specs.DayNumber.{day_of};
 
-use civil::{Date, DayRead, Time};
+use civil::{Date, Time};
 use instant::Instant;
 use rule::HolidayDates;
 use window_dates::LocalDates;
@@ -58,7 +58,7 @@ fn rank_at(b: &[u8], p: usize) -> u32
     requires { p + 4 ≤ length b.now }
     ensures { (result ≡ rank_at b.now p) × (day_of_rank result ≡ day_at b.now p) }
 {
-    let n = number::u32_to_u64(big_endian::four_at(b, p));
+    let n = u64::from(big_endian::four_at(b, p));
     ((n + NEGATIVES) % big_endian::FOUR_BYTES) as u32
 }
 
@@ -71,7 +71,7 @@ fn in_ranks(k: u32, from: u64, count: u64) -> bool
 }
 
 // The day of the date that has the rank k, if there is one.
-fn day_of_rank(k: u32) -> DayRead
+fn day_of_rank(k: u32) -> Option<i32>
     ensures { result ≡ date_of_rank k }
 {
     let year = (k / 65536 + YEARS) % 65536;
@@ -104,7 +104,7 @@ fn rank_into(
     requires { FreeDates pack.now c days f lo hi × PairsReady out.old w 1 }
     ensures { RankAdded pack.now c days lo hi k out.old w out.new result }
 {
-    let DayRead::Day(d) = day_of_rank(k) else {
+    let Some(d) = day_of_rank(k) else {
         return w;
     };
     if civil::precedes(d, days.first) {
@@ -134,14 +134,10 @@ pub fn holidays_into(
     let days = window_dates::local_dates(pack, c.at, c.len, z, lo, hi);
     let f = window_piece::frame_of(days, lo, hi);
     let from = rank_of(days.first);
-    let count = number::difference(rank_of(days.last) + 1, from);
+    let count = (rank_of(days.last) + 1).saturating_sub(from);
     let mut n = w;
-    let mut left = c.count;
-    let mut at = c.dates + book_dates::DATE_SIZE * c.count;
-    while 0 < left {
-        left -= 1;
-        at -= book_dates::DATE_SIZE;
-        let k = rank_at(book, at);
+    for i in (0..c.count).rev() {
+        let k = rank_at(book, c.dates + book_dates::DATE_SIZE * i);
         if in_ranks(k, from, count) {
             n = rank_into(pack, c, days, f, k, lo, hi, out, n);
         }

@@ -4,6 +4,7 @@ use mathlib.Core.List.{List, map}
 use Prim.Native.Nat.{ℕ, ◌+◌, ◌*◌, ◌≤◌, ◌<◌}
 use native.Mathlib.Omega.{arith}
 use lib.ListN.{length, drop, get_or}
+use lib.Seq.{take_all}
 use Rattle.model.specs.Instant.{second}
 use Rattle.model.specs.Working as model
 use Rattle.laws_base.specs.Every.{Every, every-both}
@@ -65,3 +66,7 @@ closed-every P b p l h = subst (Every P) (maps model.holiday_rule (holidays_is b
 -- all rules of a schedule
 pub all-steady : (P : model.Rule → Type 0) (s : model.Schedule) → Every P s.work → Every P s.breaks → Every P (map model.holiday_rule s.holidays) → OfRules P s
 all-steady P s a b c = (a, every-both P s.breaks (map model.holiday_rule s.holidays) b c)
+
+-- each rule of a list
+pub keeping-all : {A : Type 0} (P : model.Rule → Type 0) (h : A → model.Rule) (l : List A) (i : ℕ) → Keeping P h (length l) l i → length l ≤ i → Every P (map h l)
+keeping-all P h l i m t = rw (take_all (length l) l (omega arith)) at (keeping-done P h (length l) l i m t)

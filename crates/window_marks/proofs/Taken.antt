@@ -1,24 +1,25 @@
 -- What a rule takes of a date, whole, as the code puts it together; and the dates of a holiday record. Assumes nothing.
-use Rattle.std.specs.Prelude.{if◌then◌else◌}
+use Rattle.std.specs.Prelude.{Option, Some, if◌then◌else◌}
+use Rattle.mark.specs.Marks.{mark_number}
 use mathlib.Core.Path.{◌≡◌, refl, sym, ◌∙◌, ap}
 use mathlib.Core.Bool.{Bool, true, false}
-use mathlib.Core.List.{List, [], map}
+use mathlib.Core.List.{List, [], ◌∷◌, map}
 use Prim.Native.Nat.{ℕ, zero, suc, ◌+◌, ◌*◌, ◌-◌, ◌/◌, ◌≤◌, ◌<◌}
 use native.Mathlib.Omega.{arith}
 use lib.Dec.{eqb}
 use lib.IntN.{ℤ}
-use borrow.Author.Tests.{eq-eqb, ne_eqb}
+use borrow.Author.Tests.{lt-ltb, le-ltb, eq-eqb, ne_eqb}
 use Rattle.model.specs.Basic.{any, among}
 use Rattle.model.specs.DayNumber.{day_of}
-use Rattle.model.specs.Marks.{put_marked, edge, resolve_mark, mark_by_end, whole_on}
+use Rattle.model.specs.Marks.{MarkedBlock, marked, edge, resolve_mark, mark_by_end, whole_on}
+use Rattle.block_marked.specs.Marked.{marked_is}
 use Rattle.model.specs.Working.{Rule, start_of, end_of, holiday_rule}
 use Rattle.instant.specs.Instant.{nanos}
 use Rattle.instant.specs.declared.Instant.{Instant}
 use Rattle.block_marked.specs.declared.MarkedBlock.{MarkedBlock as Item}
 use Rattle.civil.specs.Dates.{TimeFits}
 use Rattle.civil.specs.declared.Time.{Time}
-use Rattle.civil.specs.declared.DayRead.{DayRead}
-use Rattle.civil.specs.declared.DayRead.TheVariants.{Day, NoDate}
+use Rattle.std.specs.Prelude.{Option, Some, None}
 use Rattle.zone.specs.Zones.{zone_is, ZoneOk, zone_offset, ZoneBounds}
 use Rattle.zone.specs.declared.Zone.{Zone}
 use Rattle.zone_local.specs.Dates.{during, rule_of, TouchAsked, Apart, till_time}
@@ -34,7 +35,9 @@ use Rattle.window_marks.specs.Whole.{held_marked, on_is, DatesFit, rule_by, any_
 use Rattle.window_marks.specs.declared.Dates.{Dates}
 use Rattle.window_marks.specs.declared.Dates.TheVariants.{Weekdays, Written}
 use Rattle.model.specs.Calendar.{contains, weekday}
-use lib.ListN.{length}
+use lib.ListN.{length, get_or}
+use lib.Seq.{take_all}
+use Rattle.laws_base.specs.Every.{Every, every_front}
 use Rattle.window_marks.specs.declared.AnyRule.{AnyRule}
 use Rattle.window_marks.specs.declared.Border.{Border}
 use Rattle.block_marked.specs.declared.Sides.{Sides}
@@ -51,17 +54,26 @@ use mathlib.Core.Logic.{inl, inr}
 -- ---- a date
 
 -- from both ends and their marks
-pub held_whole : (r : Rule) (d : ℕ) (b : Item) → nanos b.start ≡ start_of r d → b.start_mark ≡ resolve_mark r.zone d r.from → nanos b.end ≡ end_of r d → b.end_mark ≡ mark_by_end r d
-    → held_marked b ≡ whole_on r d
-unfolding held_marked whole_on
-held_whole r d b p q s t = λ i. put_marked (edge (p i) (q i)) (edge (s i) (t i)) []
+pub held_whole : (r : Rule) (d : ℕ) (b : Item) → nanos b.start ≡ start_of r d → mark_number b.start_mark ≡ resolve_mark r.zone d r.from → nanos b.end ≡ end_of r d → mark_number b.end_mark ≡ mark_by_end r d
+    → nanos b.start < nanos b.end → held_marked (Some b) ≡ whole_on r d
+unfolding whole_on
+held_whole r d b p q s t h =
+    ap (λ (x : MarkedBlock). x ∷ []) (parts (p) (q) (s) (t)) ∙ sym (rw (lt-ltb (start_of r d) (end_of r d) (omega (arith, p, s))) refl)
+  where
+    parts : {a m c n : ℕ} → nanos b.start ≡ a → mark_number b.start_mark ≡ m → nanos b.end ≡ c → mark_number b.end_mark ≡ n → marked_is b ≡ marked (edge a m) (edge c n)
+    parts p q s t = λ i. marked (edge (p i) (q i)) (edge (s i) (t i))
+
+-- what ends where it starts or before holds nothing
+pub held_none : (r : Rule) (d s e : ℕ) → s ≡ start_of r d → e ≡ end_of r d → e ≤ s → [] ≡ whole_on r d
+unfolding whole_on
+held_none r d s e p q h = rw (le-ltb (start_of r d) (end_of r d) (omega (arith, p, q)))
 
 -- whichever dates a rule is on, it takes the same of one
 whole-any : (r : Rule) (d : ℕ) → whole_on (during r.zone r.from r.to) d ≡ whole_on r d
 unfolding whole_on start_of end_of mark_by_end
 whole-any r d = refl
 
-pub held-taken : (k f : List ℕ) (z : Zone) (from to : Time) (dates : Dates) (y : Item) {d e : ℕ} → d ≡ e → held_marked y ≡ whole_on (rule_of f z from to) d → held_marked y ≡ whole_on (rule_by k f z from to dates) e
+pub held-taken : (k f : List ℕ) (z : Zone) (from to : Time) (dates : Dates) (y : Option Item) {d e : ℕ} → d ≡ e → held_marked y ≡ whole_on (rule_of f z from to) d → held_marked y ≡ whole_on (rule_by k f z from to dates) e
 unfolding rule_by
 held-taken k f z from to dates y {d} {e} q h = h ∙ ap (whole_on (rule_of f z from to)) q ∙ whole-any (rule_by k f z from to dates) e
 
@@ -143,11 +155,11 @@ closed-sides k p l s e y h = rw (maps holiday_rule (holidays_is k p) l) at h
 
 -- ---- whether a day is among dates
 
-module _ (b : List ℕ) (p d : ℕ) {r : DayRead} (e : r ≡ date_at b p) where
-  pub day-none : 0 < d → r ≡ NoDate → false ≡ eqb d (day_at b p)
+module _ (b : List ℕ) (p d : ℕ) {r : Option ℤ} (e : r ≡ date_at b p) where
+  pub day-none : 0 < d → r ≡ None → false ≡ eqb d (day_at b p)
   day-none h q = sym (ne_eqb d (day_at b p) (λ z. omega (arith, z, no-day-there b p (sym e ∙ q))))
 
-  module _ (z : ℤ) (q : r ≡ Day z) where
+  module _ (z : ℤ) (q : r ≡ Some z) where
     pub day-other : (d ≡ day_of z → ⊥) → false ≡ eqb d (day_at b p)
     day-other h = sym (ne_eqb d (day_at b p) (λ x. h (x ∙ (day-there b p z (sym e ∙ q)).day)))
 
@@ -166,6 +178,17 @@ module _ (b : List ℕ) (p d : ℕ) {n : ℕ} {t r : Bool} (h : 0 < n) (inv : am
   pub date-other : t ≡ false → among (dates_at b (p + 4) (n - 1)) d ≡ r
   date-other q = cc (dates-more b p d n h)
 
+-- the dates from the i-th on are to be asked
+pub dates-next : (b : List ℕ) (p d i n : ℕ) (r : Bool) → among (dates_at b (p + 4 * i + 4) (n - i - 1)) d ≡ r → among (dates_at b (p + 4 * (i + 1)) (n - (i + 1))) d ≡ r
+dates-next b p d i n r e =
+    let x : p + 4 * (i + 1) ≡ p + 4 * i + 4 = omega arith in
+    let y : n - (i + 1) ≡ n - i - 1 = omega arith in
+    rw (x, y) e
+
 pub dates-end : (b : List ℕ) (p d : ℕ) {n : ℕ} {r : Bool} → n ≤ 0 → among (dates_at b p n) d ≡ r → false ≡ r
 unfolding dates_at any
 dates-end b p d {n} h inv = let e : n ≡ 0 = omega arith in (rw e at inv)
+
+-- what holds of each of a list
+pub every-at : {A : Type 0} (P : A → Type 0) (l : List A) (i : ℕ) (d : A) → i < length l → Every P l → P (get_or l i d)
+every-at P l i d h a = every_front P (length l) l i d h (omega arith) (rw (take_all (length l) l (omega arith)) a)

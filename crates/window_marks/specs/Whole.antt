@@ -1,17 +1,18 @@
 -- What the functions on the marks of a window are asked and answer.
-use Rattle.std.specs.Prelude.{◌≡◌, Bool, true, false, List, [], ◌⊎◌, ℕ, ◌+◌, ◌*◌, ◌≤◌, ltb, length, if◌then◌else◌}
+use Rattle.std.specs.Prelude.{◌≡◌, Bool, true, false, Option, None, Some, List, [], ◌∷◌, ◌⊎◌, ℕ, ◌+◌, ◌*◌, ◌≤◌, ltb, length, if◌then◌else◌}
 use Rattle.model.specs.Basic.{among, distinct}
 use Rattle.model.specs.Calendar.{contains, weekday}
-use Rattle.model.specs.Marks.{MarkedBlock, plain, put_marked, whole_of, whole_of_all, marked_working, start_mark_at, end_mark_at}
+use Rattle.model.specs.Marks.{MarkedBlock, plain, whole_of, whole_of_all, marked_working, start_mark_at, end_mark_at}
 use Rattle.model.specs.Working as model
 use Rattle.laws_demand3.specs.Windows.{OfRules}
 use Rattle.laws_marks.specs.Around.{around_of, start_by, end_by}
 use Rattle.laws_marks.specs.Plain.{SteadyIn}
+use Rattle.arrayvec.specs.ArrayVec.{ArrayVec}
+use Rattle.mark.specs.Marks.{mark_number}
 use Rattle.instant.specs.Instant.{nanos, InRange}
 use Rattle.instant.specs.declared.Instant.{Instant}
-use Rattle.block_marked.specs.Marked.{most_marked, marked_is, marked_list, around_is}
+use Rattle.block_marked.specs.Marked.{marked_is, marked_list, around_is}
 use Rattle.block_marked.specs.declared.MarkedBlock.{MarkedBlock as Item}
-use Rattle.block_marked.specs.declared.MarkedBlocks.{MarkedBlocks}
 use Rattle.block_marked.specs.declared.Sides.{Sides}
 use Rattle.book_dates.specs.Days.{dates_at}
 use Rattle.civil.specs.Dates.{time_in, TimeFits}
@@ -30,9 +31,10 @@ use Rattle.window_marks.specs.declared.AnyRule.{AnyRule}
 use Rattle.window_marks.specs.declared.Border.{Border}
 use Rattle.window_marks.specs.declared.Marks.{Marks}
 
--- a block, if it holds anything
-unfoldable pub held_marked : Item → List MarkedBlock
-held_marked b = put_marked (marked_is b).start (marked_is b).end []
+-- the block that is there, if any
+abbrev pub held_marked : Option Item → List MarkedBlock
+held_marked None = []
+held_marked (Some b) = marked_is b ∷ []
 
 -- ---- rules of records
 
@@ -84,9 +86,8 @@ pub record NearDate (book : List ℕ) (dates : Dates) (bounds : OffsetBounds) (f
   pub far : answer ≡ false → (on_is book dates d ≡ false) ⊎ Apart bounds from to d a b
 
 -- l shows around each instant from a to b what all whole blocks of the rule in the window [lo, hi) show
-pub record NearBlocks (r : model.Rule) (lo hi a b : Instant) (l : MarkedBlocks) : Type 0 where
+pub record NearBlocks (r : model.Rule) (lo hi a b : Instant) (l : ArrayVec Item) : Type 0 where
   pub same : (u : ℕ) → nanos a ≤ u → u ≤ nanos b → around_of u (marked_list l) ≡ around_of u (whole_of (nanos lo) (nanos hi) r)
-  pub few : l.len ≤ most_marked
 
 -- ---- two ends, each in its window
 
@@ -141,8 +142,8 @@ pub record MarksWanted (a b : Border) : Type 0 where
 -- r has the marks of the block that starts at a in a's window and of the one that ends at b in b's
 abbrev pub IsMarks : model.Schedule → Border → Border → Marks → Type 0
 IsMarks s a b r =
-    (r.start ≡ start_mark_at (nanos a.at) (marked_working s (nanos a.lo) (nanos a.hi)))
-    × (r.end ≡ end_mark_at (nanos b.at) (marked_working s (nanos b.lo) (nanos b.hi)))
+    (mark_number r.start ≡ start_mark_at (nanos a.at) (marked_working s (nanos a.lo) (nanos a.hi)))
+    × (mark_number r.end ≡ end_mark_at (nanos b.at) (marked_working s (nanos b.lo) (nanos b.hi)))
 
 -- where t is true, each rule keeps one offset from four days before the instant lo to four days after the instant hi
 abbrev pub SteadyWhere : ℕ → ℕ → model.Schedule → Bool → Type 0

@@ -2,20 +2,24 @@
 // window's dates that may touch one of the two are filled into a list, date by date; what these show around the two gives the marks. Nothing is sorted, merged or cut.
 #![tactic(auto)]
 
-ghost use Rattle.std.specs.Prelude.{◌≡◌, true, ◌+◌, ◌*◌, ◌≤◌, ◌<◌, ltb, eqb, length, if◌then◌else◌};
+ghost use Rattle.std.specs.Prelude.{◌≡◌, true, ◌+◌, ◌*◌, ◌≤◌, eqb, length, map};
 ghost use Rattle.model.specs.Basic.{among};
 ghost use Rattle.model.specs.DayNumber.{day_of};
 ghost use Rattle.model.specs.Marks.{whole_on};
+ghost use Rattle.model.specs.Working.{holiday_rule};
+ghost use Rattle.laws_base.specs.Every.{Every};
+ghost use Rattle.laws_marks.specs.Plain.{SteadyIn};
 ghost use Rattle.instant.specs.Instant.{nanos, InRange};
-ghost use Rattle.block_marked.specs.Marked.{most_marked};
+ghost use Rattle.mark.specs.Marks.{mark_number};
 ghost use Rattle.zone_local.specs.Dates.{IsDay, rule_of, AskedDate, TouchAsked};
 ghost use Rattle.book_dates.specs.Days.{day_at, dates_at};
-ghost use Rattle.rule.specs.Rules.{schedule_is, ScheduleFits};
-ghost use Rattle.window_marks.specs.Whole.{held_marked, on_is, any_rule_is, of_shift, of_holidays, DatesFit, AnyRuleFits, Spans, NearDate, NearBlocks, SameWindow, BordersAsked, RuleSides, MarksWanted, IsMarks, start_within, end_within, SteadyWhere};
+ghost use Rattle.rule.specs.Rules.{rule_is, holidays_is, schedule_is, RuleFits, HolidaysFit, ScheduleFits};
+ghost use Rattle.window_marks.specs.Whole.{held_marked, on_is, any_rule_is, of_shift, of_holidays, DatesFit, AnyRuleFits, Spans, NearDate, NearBlocks, SameWindow, BordersAsked, RuleSides, RulesSides, MarksWanted, IsMarks, start_within, end_within, SteadyWhere};
 
 use block_marked::{MarkedBlock, MarkedBlocks, Sides};
-use civil::{DayRead, Time};
+use civil::Time;
 use instant::Instant;
+use mark::Mark;
 use rule::{HolidayDates, Rule, Schedule};
 use zone::Zone;
 use zone_tzif::OffsetBounds;
@@ -49,8 +53,8 @@ pub struct Border {
 // The marks of a start and of an end.
 #[derive(Clone, Copy)]
 pub struct Marks {
-    pub start: u32,
-    pub end: u32,
+    pub start: Mark,
+    pub end: Mark,
 }
 
 // ---- rules of records
@@ -59,15 +63,12 @@ pub struct Marks {
 fn of_shift(r: Rule) -> AnyRule
     ensures { result ≡ of_shift r }
 {
-    let zone = r.zone;
-    let from = r.from;
-    let to = r.to;
     AnyRule {
         at: r.at,
         len: r.len,
-        zone,
-        from,
-        to,
+        zone: r.zone,
+        from: r.from,
+        to: r.to,
         dates: Dates::Weekdays(r.days),
     }
 }
@@ -76,38 +77,38 @@ fn of_shift(r: Rule) -> AnyRule
 fn of_holidays(c: HolidayDates) -> AnyRule
     ensures { result ≡ of_holidays c }
 {
-    let zone = c.zone;
-    let from = Time {
+    let midnight = Time {
         seconds: 0,
         nanos: 0,
     };
-    let to = from;
     AnyRule {
         at: c.at,
         len: c.len,
-        zone,
-        from,
-        to,
+        zone: c.zone,
+        from: midnight,
+        to: midnight,
         dates: Dates::Written(c.dates, c.count),
     }
 }
 
 // ---- one date
 
-// What a rule takes of a date, whole.
-fn whole_on(f: &[u8], z: Zone, from: Time, to: Time, day: i32) -> MarkedBlock
+// What a rule takes of a date, whole, if it holds anything.
+fn whole_on(f: &[u8], z: Zone, from: Time, to: Time, day: i32) -> Option<MarkedBlock>
     requires { AskedDate f.now z (day_of day) from to }
     ensures { held_marked result ≡ whole_on (rule_of f.now z from to) (day_of day) }
 {
     let start = zone_local::resolve_marked(f, z, day, from);
     let end = zone_local::end_marked(f, z, from, to, day);
-    let s = start.at;
-    let e = end.at;
-    MarkedBlock {
-        start: s,
-        end: e,
-        start_mark: start.mark,
-        end_mark: end.mark,
+    if instant::precedes(start.at, end.at) {
+        Some(MarkedBlock {
+            start: start.at,
+            end: end.at,
+            start_mark: start.mark,
+            end_mark: end.mark,
+        })
+    } else {
+        None
     }
 }
 
@@ -116,7 +117,7 @@ fn is_day_at(book: &[u8], p: usize, day: i32) -> bool
     requires { (p + 4 ≤ length book.now) × IsDay (day_of day) }
     ensures { result ≡ eqb (day_of day) (day_at book.now p) }
 {
-    let DayRead::Day(d) = book_dates::date_at(book, p) else {
+    let Some(d) = book_dates::date_at(book, p) else {
         return false;
     };
     if civil::precedes(d, day) {
@@ -133,14 +134,10 @@ fn has_day(book: &[u8], p: usize, n: usize, day: i32) -> bool
     requires { (p + 4 * n ≤ length book.now) × IsDay (day_of day) }
     ensures { result ≡ among (dates_at book.now p n) (day_of day) }
 {
-    let mut at = p;
-    let mut left = n;
-    while 0 < left {
-        if is_day_at(book, at, day) {
+    for i in 0..n {
+        if is_day_at(book, p + book_dates::DATE_SIZE * i, day) {
             return true;
         }
-        at += book_dates::DATE_SIZE;
-        left -= 1;
     }
     false
 }
@@ -170,26 +167,10 @@ fn is_near(
     requires { DatesFit book.now dates × TouchAsked bounds from to (day_of day) a b }
     ensures { NearDate book.now dates bounds from to (day_of day) a b result }
 {
-    if !zone_local::may_touch(bounds, from, to, day, a, b) {
-        return false;
-    }
-    is_on(book, dates, day)
+    zone_local::may_touch(bounds, from, to, day, a, b) && is_on(book, dates, day)
 }
 
 // ---- the list of a rule
-
-// The place behind a block x that is stored at w: one further if it holds anything.
-fn behind(w: usize, x: MarkedBlock) -> usize
-    requires { w < most_marked }
-    ensures { result ≡ (if ltb (nanos x.start) (nanos x.end) then w + 1 else w) }
-{
-    let s = x.start;
-    let e = x.end;
-    if instant::precedes(s, e) {
-        return w + 1;
-    }
-    w
-}
 
 // The whole marked blocks of the rule's dates that the window has, without some that touch no instant from a to b.
 fn blocks_near(
@@ -213,21 +194,15 @@ fn blocks_near(
     let days = window_dates::local_dates(pack, x.at, x.len, z, lo, hi);
     let first = days.first;
     let count = civil::day_count(first, days.last);
-    let mut out = block_marked::empty_marked();
-    let mut w: usize = 0;
-    let mut k: u32 = 0;
-    while k < count {
+    let mut out = MarkedBlocks::new();
+    for k in 0..count {
         let d = civil::later(first, k);
         if is_near(book, dates, bounds, from, to, d, a, b) {
-            let y = whole_on(f, z, from, to, d);
-            out.items[w] = y;
-            w = behind(w, y);
-            k += 1;
-        } else {
-            k += 1;
+            if let Some(y) = whole_on(f, z, from, to, d) {
+                out.push(y);
+            }
         }
     }
-    out.len = w;
     out
 }
 
@@ -237,20 +212,7 @@ fn blocks_near(
 fn same_window(a: Border, b: Border) -> bool
     ensures { result ≡ true → SameWindow a b }
 {
-    let lo = a.lo;
-    let hi = a.hi;
-    let from = b.lo;
-    let upto = b.hi;
-    if lo.sec != from.sec {
-        return false;
-    }
-    if lo.ns != from.ns {
-        return false;
-    }
-    if hi.sec != upto.sec {
-        return false;
-    }
-    hi.ns == upto.ns
+    a.lo.sec == b.lo.sec && a.lo.ns == b.lo.ns && a.hi.sec == b.hi.sec && a.hi.ns == b.hi.ns
 }
 
 // What the rule shows around the start a and around the end b, each in its window. For both ends in one window one list is made.
@@ -260,123 +222,119 @@ fn rule_sides(book: &[u8], pack: &[u8], x: AnyRule, a: Border, b: Border) -> Sid
 {
     if same_window(a, b) {
         let l = blocks_near(book, pack, x, a.lo, a.hi, a.at, b.at);
-        return block_marked::shown_at(l, a.at, b.at);
+        return block_marked::shown_at(&l, a.at, b.at);
     }
     let l = blocks_near(book, pack, x, a.lo, a.hi, a.at, a.at);
-    let start = block_marked::shown_around(l, a.at);
     let m = blocks_near(book, pack, x, b.lo, b.hi, b.at, b.at);
-    let end = block_marked::shown_around(m, b.at);
-    Sides { start, end }
+    Sides {
+        start: block_marked::shown_around(&l, a.at),
+        end: block_marked::shown_around(&m, b.at),
+    }
+}
+
+// What work or break rules show around a and around b.
+fn shift_sides(book: &[u8], pack: &[u8], rules: &[Rule], a: Border, b: Border) -> Sides
+    requires { Every (RuleFits pack.now) rules.now × BordersAsked a b }
+    ensures { RulesSides (map (rule_is pack.now) rules.now) a b result }
+{
+    let mut sides = block_marked::no_sides();
+    for r in rules {
+        sides = block_marked::both_sides(sides, rule_sides(book, pack, of_shift(*r), a, b));
+    }
+    sides
+}
+
+// What holiday records show around a and around b.
+fn holiday_sides(book: &[u8], pack: &[u8], closed: &[HolidayDates], a: Border, b: Border) -> Sides
+    requires { Every (HolidaysFit book.now pack.now) closed.now × BordersAsked a b }
+    ensures { RulesSides (map holiday_rule (map (holidays_is book.now pack.now) closed.now)) a b result }
+{
+    let mut sides = block_marked::no_sides();
+    for c in closed {
+        sides = block_marked::both_sides(sides, rule_sides(book, pack, of_holidays(*c), a, b));
+    }
+    sides
 }
 
 // ---- where zones keep one offset around an instant: every mark there is plain
 
-// Does every zone of the schedule keep one offset from four days before the instant a to four days after the instant b? The three loops stand in one
-// function because a call with a schedule copies it.
+// Does the zone of each work or break rule keep one offset from four days before the instant a to four days after the instant b?
+fn are_shifts_steady(pack: &[u8], rules: &[Rule], a: Instant, b: Instant) -> bool
+    requires { Every (RuleFits pack.now) rules.now × InRange a × InRange b }
+    ensures { result ≡ true → Every (SteadyIn (nanos a) (nanos b)) (map (rule_is pack.now) rules.now) }
+{
+    for r in rules {
+        if zone_local::one_offset(big_endian::part(pack, r.at, r.len), r.zone, a, b) == 0 {
+            return false;
+        }
+    }
+    true
+}
+
+// Does that of each holiday record?
+fn are_holidays_steady(
+    book: &[u8],
+    pack: &[u8],
+    closed: &[HolidayDates],
+    a: Instant,
+    b: Instant,
+) -> bool
+    requires { Every (HolidaysFit book.now pack.now) closed.now × InRange a × InRange b }
+    ensures { result ≡ true → Every (SteadyIn (nanos a) (nanos b)) (map holiday_rule (map (holidays_is book.now pack.now) closed.now)) }
+{
+    for c in closed {
+        if zone_local::one_offset(big_endian::part(pack, c.at, c.len), c.zone, a, b) == 0 {
+            return false;
+        }
+    }
+    true
+}
+
+// Does every zone of the schedule?
 pub fn is_steady(book: &[u8], pack: &[u8], s: Schedule, a: Instant, b: Instant) -> bool
     requires { ScheduleFits book.now pack.now s × InRange a × InRange b }
     ensures { SteadyWhere (nanos a) (nanos b) (schedule_is book.now pack.now s) result }
 {
-    let mut i: usize = 0;
-    while i < s.works {
-        let r = s.work[i];
-        let z = r.zone;
-        let o = zone_local::one_offset(big_endian::part(pack, r.at, r.len), z, a, b);
-        if o == 0 {
-            return false;
-        }
-        i += 1;
-    }
-    i = 0;
-    while i < s.pauses {
-        let r = s.breaks[i];
-        let z = r.zone;
-        let o = zone_local::one_offset(big_endian::part(pack, r.at, r.len), z, a, b);
-        if o == 0 {
-            return false;
-        }
-        i += 1;
-    }
-    i = 0;
-    while i < s.closings {
-        let c = s.closed[i];
-        let z = c.zone;
-        let o = zone_local::one_offset(big_endian::part(pack, c.at, c.len), z, a, b);
-        if o == 0 {
-            return false;
-        }
-        i += 1;
-    }
-    true
+    are_shifts_steady(pack, &s.work[..s.works], a, b)
+        && are_shifts_steady(pack, &s.breaks[..s.pauses], a, b)
+        && are_holidays_steady(book, pack, &s.closed[..s.closings], a, b)
 }
 
 // ---- the marks of a start and an end
 
 // The mark of the start a, by what work and what breaks with holidays show there; plain where it lies outside its window.
-fn start_within(work: Sides, off: Sides, a: Border) -> u32
-    ensures { result ≡ start_within work off a }
+fn start_within(work: Sides, off: Sides, a: Border) -> Mark
+    ensures { mark_number result ≡ start_within work off a }
 {
-    let u = a.at;
-    let lo = a.lo;
-    if instant::precedes(u, lo) {
-        return mark::PLAIN;
+    if instant::precedes(a.at, a.lo) || !instant::precedes(a.at, a.hi) {
+        Mark::Plain
+    } else {
+        block_marked::start_by(work.start, off.start)
     }
-    let hi = a.hi;
-    if !instant::precedes(u, hi) {
-        return mark::PLAIN;
-    }
-    let w = work.start;
-    let o = off.start;
-    block_marked::start_by(w, o)
 }
 
 // The mark of the end b, its mirror image.
-fn end_within(work: Sides, off: Sides, b: Border) -> u32
-    ensures { result ≡ end_within work off b }
+fn end_within(work: Sides, off: Sides, b: Border) -> Mark
+    ensures { mark_number result ≡ end_within work off b }
 {
-    let u = b.at;
-    let hi = b.hi;
-    if instant::precedes(hi, u) {
-        return mark::PLAIN;
+    if instant::precedes(b.hi, b.at) || !instant::precedes(b.lo, b.at) {
+        Mark::Plain
+    } else {
+        block_marked::end_by(work.end, off.end)
     }
-    let lo = b.lo;
-    if !instant::precedes(lo, u) {
-        return mark::PLAIN;
-    }
-    let w = work.end;
-    let o = off.end;
-    block_marked::end_by(w, o)
 }
 
-// The marks of the block that starts at a in a's window and of the one that ends at b in b's; plain where none does. The three loops stand in one function
-// because a call with the rules copies them.
+// The marks of the block that starts at a in a's window and of the one that ends at b in b's; plain where none does.
 pub fn edge_marks(book: &[u8], pack: &[u8], s: Schedule, a: Border, b: Border) -> Marks
     requires { ScheduleFits book.now pack.now s × MarksWanted a b }
     ensures { IsMarks (schedule_is book.now pack.now s) a b result }
 {
-    let mut work = block_marked::no_sides();
-    let mut i: usize = 0;
-    while i < s.works {
-        let r = s.work[i];
-        work = block_marked::both_sides(work, rule_sides(book, pack, of_shift(r), a, b));
-        i += 1;
-    }
-    let mut pauses = block_marked::no_sides();
-    i = 0;
-    while i < s.pauses {
-        let r = s.breaks[i];
-        pauses = block_marked::both_sides(pauses, rule_sides(book, pack, of_shift(r), a, b));
-        i += 1;
-    }
-    let mut closed = block_marked::no_sides();
-    i = 0;
-    while i < s.closings {
-        let c = s.closed[i];
-        closed = block_marked::both_sides(closed, rule_sides(book, pack, of_holidays(c), a, b));
-        i += 1;
-    }
+    let work = shift_sides(book, pack, &s.work[..s.works], a, b);
+    let pauses = shift_sides(book, pack, &s.breaks[..s.pauses], a, b);
+    let closed = holiday_sides(book, pack, &s.closed[..s.closings], a, b);
     let off = block_marked::both_sides(pauses, closed);
-    let start = start_within(work, off, a);
-    let end = end_within(work, off, b);
-    Marks { start, end }
+    Marks {
+        start: start_within(work, off, a),
+        end: end_within(work, off, b),
+    }
 }

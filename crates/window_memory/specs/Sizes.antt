@@ -1,5 +1,5 @@
--- How many numbers each slice has that is lent to a walk.
-use Rattle.std.specs.Prelude.{◌≡◌, ℕ, ◌+◌, ◌*◌, ◌≤◌, ◌<◌, leb, if◌then◌else◌}
+-- How many numbers each array of a walk's memory has.
+use Rattle.std.specs.Prelude.{◌≡◌, List, ℕ, ◌+◌, ◌*◌, ◌≤◌, ◌<◌, leb, get_or, if◌then◌else◌}
 use Rattle.std.proofs.Common.{arith, le-leb}
 use Rattle.std.proofs.lemmas.Bool.{lt-leb}
 use Rattle.window_memory.specs.declared.Size.{Size}
@@ -9,7 +9,7 @@ use Rattle.window_memory.specs.declared.Size.TheVariants as S
 abbrev pub most_rules : ℕ
 most_rules = 40
 
--- the numbers that a slice needs for so many records: two for each of 14 dates of each record, and two more
+-- the numbers that an array needs for so many records: two for each of 14 dates of each record, and two more
 abbrev pub numbers_for : ℕ → ℕ
 numbers_for n = 28 * n + 2
 
@@ -28,6 +28,10 @@ least_size n =
 -- that size, and its room
 abbrev pub SizeFor : ℕ → Size → Type 0
 SizeFor n r = (r ≡ least_size n) × (numbers_for n ≤ numbers_of r)
+
+-- each number of the memory is 0
+abbrev pub IsClear : List ℕ → Type 0
+IsClear l = (k : ℕ) → get_or l k 0 ≡ 0
 
 -- from the code's tests
 pub size-one : (n : ℕ) → n ≤ 1 → SizeFor n S.One

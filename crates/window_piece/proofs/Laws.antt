@@ -1,15 +1,15 @@
 -- Blocks as distances from an instant at or before them: `union`, `subtract` and the sum keep in step. And unions of unions. Assumes nothing.
 use mathlib.Core.Path.{◌≡◌, refl, sym, ◌∙◌, ap, ap₂}
 use mathlib.Core.List.{List, [], ◌∷◌, ◌++◌, map-append, append_assoc}
-use mathlib.Core.Logic.{◌⊎◌, inl, inr, ⊎_elim}
-use Prim.Native.Nat.{ℕ, suc, ◌+◌, ◌-◌, ◌≤◌, min, max}
+use mathlib.Core.Logic.{inl, inr, ⊎_elim}
+use Prim.Native.Nat.{ℕ, ◌+◌, ◌-◌, min, max}
 use native.Mathlib.Omega.{arith}
 use borrow.Author.Tests.{ltb-true}
 use lib.Dec.{ltb}
 use Rattle.model.specs.Blocks.{Block, block, clipped, union, subtract, total}
 use Rattle.model.specs.Walk.{onward}
 use Rattle.laws_base.specs.Test.{by-test}
-use Rattle.laws_blocks.specs.Members.{NonEmpty, Chain, Ends, From, append-in, append-nonempty, chain-weaken, chain-nonempty, union-in, union-normal, union-same}
+use Rattle.laws_blocks.specs.Members.{NonEmpty, From, append-in, append-nonempty, chain-nonempty, union-in, union-normal, union-same}
 use Rattle.laws_blocks.specs.Move.{moves, union-moved, subtract-moved, total-moved}
 
 -- ---- unions of unions

@@ -51,14 +51,13 @@ pub fn piece_into(x: Block, lo: Instant, out: &mut [u64], w: usize) -> usize
     requires { InFortnight lo x × PairsReady out.old w 1 }
     ensures { Filled (nanos lo) out.old w (held x) 1 out.new result }
 {
-    let s = x.start;
-    let e = x.end;
-    if instant::precedes(s, e) {
-        let a = since(lo, s);
-        let b = since(lo, e);
-        return block_pairs::add(out, w, a, b);
+    if instant::precedes(x.start, x.end) {
+        let a = since(lo, x.start);
+        let b = since(lo, x.end);
+        block_pairs::add(out, w, a, b)
+    } else {
+        w
     }
-    w
 }
 
 // Adds the part of [s, e) in [lo, hi), as distances from lo.
@@ -66,12 +65,13 @@ pub fn span_into(s: u64, e: u64, lo: u64, hi: u64, out: &mut [u64], w: usize) ->
     requires { PairsReady out.old w 1 }
     ensures { Filled lo out.old w (clipped lo hi s e) 1 out.new result }
 {
-    let from = number::maximum(s, lo);
-    let to = number::minimum(e, hi);
+    let from = s.max(lo);
+    let to = e.min(hi);
     if from < to {
-        return block_pairs::add(out, w, from - lo, to - lo);
+        block_pairs::add(out, w, from - lo, to - lo)
+    } else {
+        w
     }
-    w
 }
 
 // ---- dates by one offset
@@ -94,21 +94,7 @@ pub fn frame_of(days: LocalDates, lo: Instant, hi: Instant) -> Frame
     let u = lo.sec + days.offset as u64;
     let a = FORTNIGHT + lo.ns as u64;
     let b = a + since(lo, hi);
-    if days.offset == 0 {
-        return Frame {
-            first: 0,
-            lo: a,
-            hi: b,
-        };
-    }
-    if t <= u {
-        return Frame {
-            first: 0,
-            lo: a,
-            hi: b,
-        };
-    }
-    if NEAR < t - u {
+    if days.offset == 0 || t <= u || NEAR < t - u {
         return Frame {
             first: 0,
             lo: a,
@@ -137,8 +123,5 @@ pub fn till(a: u64, b: u64) -> u64
     requires { b < day }
     ensures { (result ≡ till_time a b) × (result ≤ two_days) }
 {
-    if a < b {
-        return b;
-    }
-    b + DAY_NANOS
+    if a < b { b } else { b + DAY_NANOS }
 }

@@ -1,5 +1,8 @@
 -- From the filled lists to the working time of the window, and its sum. Assumes nothing.
-use mathlib.Core.Path.{◌≡◌, sym, ◌∙◌, ap, ap₂}
+use mathlib.Core.Path.{◌≡◌, sym, ◌∙◌, ap, ap₂, subst}
+use lib.ListN.{length, take, get_or}
+use Rattle.std.proofs.lemmas.List.{get_or-take, take_all, length-take-le}
+use Rattle.laws_base.specs.Every.{Every, every_front}
 use mathlib.Core.List.{List, [], ◌∷◌, ◌++◌, map}
 use mathlib.Core.Logic.{inl, inr}
 use Prim.Native.Nat.{ℕ, ◌+◌, ◌*◌, ◌-◌, ◌≤◌, ◌<◌}
@@ -38,6 +41,18 @@ pub union-apart : (lo : ℕ) (l : List Block) → Apart lo l → Apart lo (union
 union-apart lo l a =
     let n : NonEmpty (union l) = chain-nonempty 0 (union l) (union-normal l a.full) in
     record { full = n; from = from-members lo (union l) n (λ t i. from_in t lo l a.from ((union-in t l).0 i)) }
+
+-- ---- the first records of an array
+
+-- what holds of each of the first n holds of the one at i
+pub front_at : {A : Type 0} (P : A → Type 0) (n : ℕ) (l : List A) (i : ℕ) (d : A) → i < n → n ≤ length l → Every P (take n l) → P (get_or (take n l) i d)
+front_at P n l i d h k a = subst P (sym (get_or-take n l i d h)) (every_front P n l i d h k a)
+
+pub front-long : {A : Type 0} (n : ℕ) (l : List A) → n ≤ length l → n ≤ length (take n l)
+front-long n l h = let e = length-take-le n l h in omega arith
+
+pub front_again : {A : Type 0} (n : ℕ) (l : List A) → n ≤ length l → take n (take n l) ≡ take n l
+front_again n l h = take_all n (take n l) (let e = length-take-le n l h in omega arith)
 
 -- ---- the lists
 

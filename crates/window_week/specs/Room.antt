@@ -7,10 +7,14 @@ use Rattle.window_memory.specs.Sizes.{numbers_for}
 abbrev pub records : Schedule → ℕ
 records s = s.works + s.pauses + s.closings
 
--- the numbers that each lent slice needs for a schedule
+-- the numbers that each array of the memory needs for a schedule
 abbrev pub room : Schedule → ℕ
 room s = numbers_for (records s)
 
--- the three lent slices have as many
-abbrev pub HasRoom : Schedule → List ℕ → List ℕ → List ℕ → Type 0
-HasRoom s on off out = (room s ≤ length on) × (room s ≤ length off) × (room s ≤ length out)
+-- the arrays have as many
+abbrev pub HasRoom : Schedule → ℕ → Type 0
+HasRoom s n = room s ≤ n
+
+-- three lent slices have as many
+abbrev pub Lends : Schedule → List ℕ → List ℕ → List ℕ → Type 0
+Lends s on off out = (room s ≤ length on) × (room s ≤ length off) × (room s ≤ length out)

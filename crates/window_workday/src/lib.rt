@@ -13,7 +13,8 @@ use rule::Rule;
 use window_dates::LocalDates;
 use window_piece::Frame;
 
-// Adds what the dates of the set show of the window, each from a to b nanoseconds behind its midnight.
+// Adds what the dates of the set show of the window, each from a to b nanoseconds behind its midnight. This loop and that of `dates_into` stay apart: it
+// counts midnights on, and the other one looks each date up, so that one loop for both would take a closure that writes the lent memory.
 fn plain_into(
     f: Frame,
     first: i32,
@@ -31,16 +32,11 @@ fn plain_into(
     let hi = f.hi;
     let mut k = f.first;
     let mut n = w;
-    let mut i: u32 = 0;
-    while i < count {
+    for i in 0..count {
         if rule::applies(set, civil::later(first, i)) {
             n = window_piece::span_into(k + a, k + b, lo, hi, out, n);
-            k += window_piece::DAY_NANOS;
-            i += 1;
-        } else {
-            k += window_piece::DAY_NANOS;
-            i += 1;
         }
+        k += window_piece::DAY_NANOS;
     }
     n
 }
@@ -80,14 +76,10 @@ fn dates_into(
     let count = civil::day_count(first, days.last);
     let set = r.days;
     let mut n = w;
-    let mut i: u32 = 0;
-    while i < count {
+    for i in 0..count {
         let d = civil::later(first, i);
         if rule::applies(set, d) {
             n = date_into(pack, r, days, d, lo, hi, out, n);
-            i += 1;
-        } else {
-            i += 1;
         }
     }
     n

@@ -26,8 +26,8 @@ use Rattle.zone_tzif.specs.declared.OffsetBounds.{OffsetBounds}
 use Rattle.zone_tzif.proofs.Laws.{offset-early, offset-late, count_most, count-end, count-step, table-run}
 use Rattle.zone_footer.specs.declared.Footer as F
 use Rattle.zone_footer.specs.declared.Footer.TheVariants.{Fixed, Rules}
-use Rattle.zone_footer.specs.declared.ChangeRule.{ChangeRule}
-use Rattle.zone_changes.specs.Meaning.{the_footer, footer_rules}
+use Rattle.zone_footer.specs.declared.Rules as code
+use Rattle.zone_footer.specs.Parsed.{the_footer, footer_rules}
 use Rattle.zone.specs.Zones.{in_run, next_count, ZoneBounds, ReadsFrom}
 use Rattle.model.specs.Offset.{greatest_offset}
 
@@ -229,10 +229,10 @@ module _ {f : List ℕ} {l : Layout} (o : Opened f l) {b : OffsetBounds} (t : Ta
       let k : FooterFits (fixed s) = rw e at fits in
       rw e (with-footer (omega (arith, w.0)) (omega (arith, w.1)) (omega (arith, w.1, t.most, k.1)) (fixed s) (omega (arith, w.0), omega (arith, w.1)))
 
-  pub bounds-rules : {foot : F.Footer} {std dst : ℕ} {start end : ChangeRule} {c d : OffsetBounds} → foot ≡ Rules std dst start end → FooterFits (the_footer foot)
-      → (c.least ≡ min b.least std) × (c.greatest ≡ max b.greatest std)
-      → (d.least ≡ min c.least dst) × (d.greatest ≡ max c.greatest dst) → ZoneBounds (offset_at (zone_at f l (the_footer foot))) d
-  bounds-rules {foot} {std} {dst} {start} {end} {c} {d} e fits v w =
-      let k : FooterFits (footer_rules std dst start end) = rw e at fits in
-      rw e (with-footer (omega (arith, v.0, w.0)) (omega (arith, v.1, w.1)) (omega (arith, v.1, w.1, t.most, k.0.1, k.1.1)) (footer_rules std dst start end)
+  pub bounds-rules : {foot : F.Footer} {r : code.Rules} {c d : OffsetBounds} → foot ≡ Rules r → FooterFits (the_footer foot)
+      → (c.least ≡ min b.least r.std) × (c.greatest ≡ max b.greatest r.std)
+      → (d.least ≡ min c.least r.dst) × (d.greatest ≡ max c.greatest r.dst) → ZoneBounds (offset_at (zone_at f l (the_footer foot))) d
+  bounds-rules {foot} {r} {c} {d} e fits v w =
+      let k : FooterFits (footer_rules r) = rw e at fits in
+      rw e (with-footer (omega (arith, v.0, w.0)) (omega (arith, v.1, w.1)) (omega (arith, v.1, w.1, t.most, k.0.1, k.1.1)) (footer_rules r)
       (omega (arith, v.0, w.0), omega (arith, v.1, w.1), omega (arith, w.0), omega (arith, w.1)))

@@ -1,19 +1,18 @@
 -- What the code's zone means: with the bytes of its file it is a zone of the definitions.
-use Rattle.std.specs.Prelude.{◌≡◌, Bool, true, false, ◌&&◌, List, ℕ, ◌+◌, ◌-◌, ◌≤◌, ◌<◌, min, leb, ltb}
-use Rattle.std.proofs.Math.Option.{Option, none, some}
+use Rattle.std.specs.Prelude.{◌≡◌, Bool, true, false, ◌&&◌, List, ℕ, ◌+◌, ◌-◌, ◌≤◌, ◌<◌, min, leb, ltb, Option, None, Some, IfSome}
+use Rattle.std.proofs.lemmas.Option.{MatchOption-at_some}
+use Rattle.std.proofs.Math.Option.{none, some}
+use Rattle.std.proofs.Math.Option as math
 use Rattle.model.specs.Tzif as model
 use Rattle.model.specs.Zone.{offset_at}
 use Rattle.laws_zone.specs.Zones.{ZoneFits}
 use Rattle.zone_tzif.specs.Opened.{Opened, zone_at, count_at}
 use Rattle.zone_tzif.specs.declared.Layout.{Layout}
 use Rattle.zone_tzif.specs.declared.OffsetBounds.{OffsetBounds}
-use Rattle.zone_footer.specs.declared.Footer.{Footer}
-use Rattle.zone_footer.specs.declared.Footer.TheVariants as F
-use Rattle.zone_changes.specs.Meaning.{the_footer, IsOffset}
+use Rattle.zone_footer.specs.Parsed.{the_footer}
+use Rattle.zone_changes.specs.Meaning.{IsOffset}
 use Rattle.zone_changes.specs.declared.OffsetUntil.{OffsetUntil}
 use Rattle.zone.specs.declared.Zone.{Zone}
-use Rattle.zone.specs.declared.ZoneRead.{ZoneRead}
-use Rattle.zone.specs.declared.ZoneRead.TheVariants as R
 use Rattle.instant.specs.Instant.{years_end}
 use Rattle.laws_zone.specs.Sound.{first_local}
 use Rattle.laws_zone.specs.Runs.{Past}
@@ -38,27 +37,13 @@ abbrev pub zone_offset : List ℕ → Zone → ℕ → ℕ
 zone_offset f z = offset_at (zone_is f z)
 
 -- what `open` answers
-abbrev pub zone_read : List ℕ → ZoneRead → Option model.Zone
-zone_read f (R.Opened z) = some (zone_is f z)
-zone_read f R.Unusable = none
-
--- a table and a parsed footer make a zone, unless the footer is broken
-unfoldable pub ruled : Layout → Footer → ZoneRead
-ruled l F.Empty = R.Opened (record { table = l; footer = F.Empty })
-ruled l (F.Fixed o) = R.Opened (record { table = l; footer = F.Fixed o })
-ruled l (F.Rules a b s e) = R.Opened (record { table = l; footer = F.Rules a b s e })
-ruled l F.Broken = R.Unusable
+abbrev pub zone_read : List ℕ → Option Zone → math.Option model.Zone
+zone_read f (Some z) = some (zone_is f z)
+zone_read f None = none
 
 -- a zone that it opened is one to look up in
-pub data ReadOk (f : List ℕ) : ZoneRead → Type 0 where
-  opened : {z : Zone} → ZoneOk f z → ReadOk f (R.Opened z)
-  refused : ReadOk f R.Unusable
-
-pub zone-inside : {f : List ℕ} {r : ZoneRead} {z : Zone} → ReadOk f r → r ≡ R.Opened z → ZoneOk f z
-zone-inside {f} {r} {z} k e = go (rw e at k)
-  where
-    go : ReadOk f (R.Opened z) → ZoneOk f z
-    go (opened o) = o
+pub zone-inside : {f : List ℕ} {r : Option Zone} {z : Zone} → IfSome r (ZoneOk f) → r ≡ Some z → ZoneOk f z
+zone-inside {f} {r} {z} k e = MatchOption-at_some _ _ _ e k
 
 -- a run from u up to e with the offset o holds a second that reads x
 unfoldable pub in_run : ℕ → ℕ → ℕ → ℕ → Bool

@@ -1,21 +1,23 @@
 // A zone: its file, the layout of the file's table, and its footer. The offset at a second, and the second of a local time. Seconds are counted from -10400-01-01T00:00:00Z; offsets and local seconds have zone_offset::BIAS added.
 #![tactic(auto)]
 
-ghost use Rattle.std.specs.Prelude.{◌≡◌, List, ℕ, ◌+◌, ◌-◌, ◌≤◌, ◌<◌};
+ghost use Rattle.std.specs.Prelude.{◌≡◌, List, ℕ, ◌+◌, ◌-◌, ◌≤◌, ◌<◌, IfSome};
 ghost use Rattle.model.specs.Zone as model;
 ghost use Rattle.model.specs.Tzif.{zone_of};
 ghost use Rattle.model.specs.Offset.{greatest_offset};
 ghost use Rattle.model.specs.Marks.{mark_of, readings};
+ghost use Rattle.mark.specs.Marks.{mark_number};
 ghost use Rattle.laws_zone.specs.Resolve.{Resolves};
 ghost use Rattle.laws_zone.specs.Sound.{first_local};
 ghost use Rattle.instant.specs.Instant.{years_end};
 ghost use Rattle.zone_changes.specs.Meaning.{IsOffset};
 ghost use Rattle.zone_tzif.specs.Opened.{count_at};
-ghost use Rattle.zone.specs.Zones.{zone_is, ZoneOk, Asked, zone_offset, zone_read, ReadOk, ruled, in_run, next_count, RunAfter, ZoneBounds, Searched, SearchedFrom, ReadsFrom};
+ghost use Rattle.zone.specs.Zones.{zone_is, ZoneOk, Asked, zone_offset, zone_read, in_run, next_count, RunAfter, ZoneBounds, Searched, SearchedFrom, ReadsFrom};
 
+use mark::Mark;
 use zone_changes::OffsetUntil;
 use zone_footer::Footer;
-use zone_tzif::{Layout, OffsetBounds, TzifRead};
+use zone_tzif::{Layout, OffsetBounds};
 
 // The second behind the last year that the calendar has, and the first local second that `second_of` takes: one more than the greatest offset.
 pub const YEARS_END: u64 = 656384601600;
@@ -29,46 +31,24 @@ pub struct Zone {
     pub footer: Footer,
 }
 
-// What `open` answers.
-#[derive(Clone, Copy)]
-pub enum ZoneRead {
-    Opened(Zone),
-    Unusable,
-}
-
-// The zone of a file's table and the footer that its line spells.
-fn joined(table: Layout, footer: Footer) -> ZoneRead
-    ensures { result ≡ ruled table footer }
-{
-    match footer {
-        Footer::Broken => ZoneRead::Unusable,
-        Footer::Empty => ZoneRead::Opened(Zone { table, footer }),
-        Footer::Fixed(_) => ZoneRead::Opened(Zone { table, footer }),
-        Footer::Rules(_, _, _, _) => ZoneRead::Opened(Zone { table, footer }),
-    }
-}
-
 // The zone of a file, where it is usable.
-pub fn open(f: &[u8]) -> ZoneRead
-    ensures { (zone_read f.now result ≡ zone_of f.now) × ReadOk f.now result }
+pub fn open(f: &[u8]) -> Option<Zone>
+    ensures { (zone_read f.now result ≡ zone_of f.now) × IfSome result (ZoneOk f.now) }
 {
-    let TzifRead::Table(table) = zone_tzif::read(f) else {
-        return ZoneRead::Unusable;
-    };
-    let at = table.line;
-    let len = table.len;
-    let version = big_endian::small_at(f, zone_tzif::VERSION_AT);
-    let footer = zone_footer::parse(big_endian::part(f, at, len), version);
-    joined(table, footer)
+    let table = zone_tzif::read(f)?;
+    let line = big_endian::part(f, table.line, table.len);
+    let footer = zone_footer::parse(line, big_endian::small_at(f, zone_tzif::VERSION_AT))?;
+    Some(Zone { table, footer })
 }
 
 // UTC, which needs no file.
 pub fn utc() -> Zone
     ensures { (f : List ℕ) → (zone_is f result ≡ model.utc) × ZoneOk f result }
 {
-    let table = zone_tzif::utc();
-    let footer = Footer::Empty;
-    Zone { table, footer }
+    Zone {
+        table: zone_tzif::utc(),
+        footer: Footer::Empty,
+    }
 }
 
 // ---- the offset at a second
@@ -77,10 +57,7 @@ pub fn utc() -> Zone
 fn count_on(table: Layout, k: usize) -> usize
     ensures { result ≡ next_count table k }
 {
-    if table.count <= k {
-        return table.count;
-    }
-    k + 1
+    table.count.min(k.saturating_add(1))
 }
 
 // The offset at u, and a second before which it stays, where k transitions are at or before u.
@@ -121,24 +98,21 @@ pub fn bounds_of(f: &[u8], z: Zone) -> OffsetBounds
     let bounds = zone_tzif::table_bounds(f, table);
     match footer {
         Footer::Empty => bounds,
-        Footer::Broken => bounds,
         Footer::Fixed(o) => zone_tzif::widened(bounds, o as u64),
-        Footer::Rules(std, dst, _, _) => {
-            let with = zone_tzif::widened(bounds, std as u64);
-            zone_tzif::widened(with, dst as u64)
+        Footer::Rules(rules) => {
+            let with = zone_tzif::widened(bounds, rules.std as u64);
+            zone_tzif::widened(with, rules.dst as u64)
         }
     }
 }
 
 // A run from u up to e with the offset o holds a second that reads x.
+#[tactic(auto, unfolding(crate::specs::Zones::in_run))]
 fn in_run(u: u64, o: u64, e: u64, x: u64) -> bool
     requires { (u < years_end) × (o ≤ greatest_offset) }
     ensures { result ≡ in_run u o e x }
 {
-    if u + o <= x {
-        return x - o < e;
-    }
-    false
+    u + o <= x && x - o < e
 }
 
 // The first reading of x from the second `from` on, past the first jump over x, and d if there is none. Of the transitions n are at or before `from`.
@@ -223,21 +197,21 @@ fn reads_from(f: &[u8], z: Zone, x: u64, bounds: OffsetBounds, from: u64, n: usi
 }
 
 // The mark of the local second x, whose second is s: whether no second, one or more than one reads it. Offsets are positive, so that none from x on does.
-pub fn mark_of(f: &[u8], z: Zone, x: u64, s: u64) -> u32
+pub fn mark_of(f: &[u8], z: Zone, x: u64, s: u64) -> Mark
     requires { ZoneOk f.now z × (first_local ≤ x) × (x < years_end) × (s ≡ model.second_of (zone_is f.now z) x) }
-    ensures { result ≡ mark_of (readings (zone_is f.now z) x) }
+    ensures { mark_number result ≡ mark_of (readings (zone_is f.now z) x) }
 {
     let table = z.table;
     let k = zone_tzif::count_at(f, table, s);
     let r = run_after(f, z, k, s);
     if s + r.offset as u64 != x {
-        return mark::SKIPPED;
+        return Mark::Skipped;
     }
     if x <= r.until {
-        return mark::PLAIN;
+        return Mark::Plain;
     }
     if reads_from(f, z, x, bounds_of(f, z), r.until, count_on(table, k)) {
-        return mark::REPEATED;
+        return Mark::Repeated;
     }
-    mark::PLAIN
+    Mark::Plain
 }

@@ -1,6 +1,7 @@
 -- Each answer of the calls on a zone file, from what the code has found.
 use Rattle.std.proofs.Math.Bool.{true}
-use Rattle.std.specs.Prelude.{false, not, ◌&&◌, ◌||◌, ◌≡◌, refl, List, [], ◌∷◌, ◌++◌, ltb, ℤ, negsuc, nat_abs}
+use Rattle.std.specs.Prelude as std
+use Rattle.std.specs.Prelude.{Some, None, false, not, ◌&&◌, ◌||◌, ◌≡◌, refl, List, [], ◌∷◌, ◌++◌, ltb, ℤ, negsuc, nat_abs}
 use Rattle.std.proofs.Common.{sym, ◌∙◌, SFits, to_z, of_z, ltb-true, ltb-false, lt-ltb, to_z-of_z}
 use Rattle.std.proofs.Math.Path.{ap}
 use Rattle.std.proofs.Math.Option.{Option, none, some, map}
@@ -21,23 +22,15 @@ use Rattle.laws_calendar.specs.Dates.{date-facts, at-most-31, day-from, day-to}
 use Rattle.laws_calendar.specs.Numbers.{day-of-number, number-within, is-fits, day-bits}
 use Rattle.civil.specs.Dates.{day_read, time_read}
 use Rattle.civil.specs.declared.Date.{Date}
-use Rattle.civil.specs.declared.DayRead.{DayRead}
-use Rattle.civil.specs.declared.DayRead.TheVariants as D
-use Rattle.civil.specs.declared.TimeRead.{TimeRead}
-use Rattle.civil.specs.declared.TimeRead.TheVariants as T
 use Rattle.instant.specs.Instant.{nanos}
 use Rattle.instant.specs.declared.Instant.{Instant}
 use Rattle.instant_signed.specs.Signed.{biased, unbiased, sub-nat, sub-neg, biased-plus, biased-minus, unbiased-low, unbiased-high}
 use Rattle.instant_signed.specs.Reads.{seconds_from}
 use Rattle.zone.specs.Zones.{zone_is, zone_read}
 use Rattle.zone.specs.declared.Zone.{Zone}
-use Rattle.zone.specs.declared.ZoneRead.{ZoneRead}
-use Rattle.zone.specs.declared.ZoneRead.TheVariants as Z
 use Rattle.model.specs.NextChange.{next_change}
 use Rattle.zone_next_change.specs.NextIs.{the_next}
 use Rattle.zone_next_change.specs.NextLaws.{next-in}
-use Rattle.zone_next_change.specs.declared.Next.{Next}
-use Rattle.zone_next_change.specs.declared.Next.TheVariants as N
 use Rattle.model.specs.ZoneCalls.{zone_in, east, offset_call, change_call, year_from, day_given, time_given}
 use Rattle.model.specs.Marks.{resolve_mark, resolve_marked_call}
 use Rattle.zone_calls.specs.Given.{clipped_to, day_answer, year_zero, year_after, month_after, day_after}
@@ -46,11 +39,11 @@ use Rattle.zone_local.specs.Dates.{IsDay}
 
 -- ---- what the file is
 
-module _ (f : List ℕ) {r : ZoneRead} (e : zone_read f r ≡ zone_of f) where
-  pub file-no : r ≡ Z.Unusable → zone_in f ≡ refuses 5 0
+module _ (f : List ℕ) {r : std.Option Zone} (e : zone_read f r ≡ zone_of f) where
+  pub file-no : r ≡ None → zone_in f ≡ refuses 5 0
   file-no u = let z : zone_of f ≡ none = sym e ∙ ap (zone_read f) u in rw z
 
-  pub file-yes : {z : Zone} → r ≡ Z.Opened z → zone_in f ≡ gives (zone_is f z)
+  pub file-yes : {z : Zone} → r ≡ Some z → zone_in f ≡ gives (zone_is f z)
   file-yes {z} u = let y : zone_of f ≡ some (zone_is f z) = sym e ∙ ap (zone_read f) u in rw y
 
 -- ---- the offset and the next change
@@ -92,17 +85,20 @@ module _ (f : List ℕ) (s n : ℤ) where
       unfolding change_call
       change-is h = rw (u, i.means, at_second, h)
 
-      pub change-never : {m : Next} → the_next m ≡ next_change z t.sec → m ≡ N.Never → gives none ≡ change_call f s n
+      pub change-never : {m : std.Option ℕ} → the_next m ≡ next_change z t.sec → m ≡ None → gives none ≡ change_call f s n
       change-never h k = change-is (sym (ap the_next k) ∙ h)
 
-      pub change-at : {m : Next} {v : ℕ} {a b : ℤ} → the_next m ≡ next_change z t.sec → m ≡ N.At v → a ≡ seconds_from v → b ≡ pos 0
+      pub change-listed : {m : std.Option ℕ} {v : ℕ} {l : List ℤ} → the_next m ≡ next_change z t.sec → m ≡ Some v → l ≡ instant (nanos (record { sec = v; ns = 0 })) → gives (some l) ≡ change_call f s n
+      change-listed {m} {v} {l} h k e =
+          let p : nanos (record { sec = v; ns = 0 }) ≡ v * second = omega arith in
+          ap (λ (w : List ℤ). gives (some w)) (e ∙ ap instant p) ∙ change-is (sym (ap the_next k) ∙ h)
+
+      pub change-at : {m : std.Option ℕ} {v : ℕ} {a b : ℤ} → the_next m ≡ next_change z t.sec → m ≡ Some v → a ≡ seconds_from v → b ≡ pos 0
           → gives (some (a ∷ b ∷ [])) ≡ change_call f s n
-      change-at {m} {v} {a} {b} h k l j =
-          ap (λ (w : List ℤ). gives (some w)) (instant-written (record { sec = v; ns = 0 }) (v * second) (omega arith) (omega arith) l j)
-          ∙ change-is (sym (ap the_next k) ∙ h)
+      change-at {m} {v} {a} {b} h k l j = change-listed h k (instant-written (record { sec = v; ns = 0 }) _ (omega arith) refl l j)
 
 -- a change lies in the range
-pub change-in : (z : model.Zone) (u : ℕ) {n : Next} {v : ℕ} → the_next n ≡ next_change z u → n ≡ N.At v → v ≤ last_second
+pub change-in : (z : model.Zone) (u : ℕ) {n : std.Option ℕ} {v : ℕ} → the_next n ≡ next_change z u → n ≡ Some v → v ≤ last_second
 change-in z u {n} {v} h k = next-in z u v (sym h ∙ ap the_next k)
 
 -- ---- numbers with a cap
@@ -180,7 +176,7 @@ either-day : (y m d : ℤ) → day_answer (day_read (date_given y m d)) ≡ day_
 unfolding day_read
 either-day y m d = by-test (is_date (min (year_from y) year_after) (clipped_to m month_after) (clipped_to d day_after)) (is-day y m d) (λ t. rw t (no-day y m d t))
 
-pub day-is : (y m d : ℤ) {a b c : ℕ} → a ≡ min (year_from y) year_after → b ≡ clipped_to m month_after → c ≡ clipped_to d day_after → {r : DayRead}
+pub day-is : (y m d : ℤ) {a b c : ℕ} → a ≡ min (year_from y) year_after → b ≡ clipped_to m month_after → c ≡ clipped_to d day_after → {r : std.Option ℤ}
     → r ≡ day_read (record { year = a; month = b; day = c }) → day_answer r ≡ day_given y m d
 day-is y m d p q o e = ap day_answer (e ∙ (λ i. day_read (record { year = p i; month = q i; day = o i }))) ∙ either-day y m d
 
@@ -202,15 +198,15 @@ module _ (y m d : ℤ) (fy : SFits w64 y) (fm : SFits w64 m) (fd : SFits w64 d) 
   same-date : day_given (to_z w64 (of_z w64 y)) (to_z w64 (of_z w64 m)) (to_z w64 (of_z w64 d)) ≡ day_given y m d
   same-date = λ i. day_given (to_z-of_z {w = w64} fy i) (to_z-of_z {w = w64} fm i) (to_z-of_z {w = w64} fd i)
 
-  module _ {r : DayRead} (e : day_answer r ≡ day_given (to_z w64 (of_z w64 y)) (to_z w64 (of_z w64 m)) (to_z w64 (of_z w64 d))) where
-    pub date-no : r ≡ D.NoDate → day_given y m d ≡ refuses 8 0
+  module _ {r : std.Option ℤ} (e : day_answer r ≡ day_given (to_z w64 (of_z w64 y)) (to_z w64 (of_z w64 m)) (to_z w64 (of_z w64 d))) where
+    pub date-no : r ≡ None → day_given y m d ≡ refuses 8 0
     date-no h = sym (e ∙ same-date) ∙ ap day_answer h
 
-    pub date-yes : {z : ℤ} → r ≡ D.Day z → day_given y m d ≡ gives (day_of z)
+    pub date-yes : {z : ℤ} → r ≡ Some z → day_given y m d ≡ gives (day_of z)
     date-yes h = sym (e ∙ same-date) ∙ ap day_answer h
 
     -- whose number goes on through 32 bits unchanged
-    pub date-on : {z : ℤ} → r ≡ D.Day z → day_given y m d ≡ gives (day_of (to_z w32 (of_z w32 z)))
+    pub date-on : {z : ℤ} → r ≡ Some z → day_given y m d ≡ gives (day_of (to_z w32 (of_z w32 z)))
     date-on {z} h =
         let v = given-day-in y m d (date-yes h) in
         date-yes h ∙ ap gives (sym (day-bits (is-fits (number-within z (omega (arith, v.low)) (omega (arith, v.high))))))
@@ -218,12 +214,12 @@ module _ (y m d : ℤ) (fy : SFits w64 y) (fm : SFits w64 m) (fd : SFits w64 d) 
 -- ---- the time of day
 
 -- a time of day that is read has its seconds and nanoseconds
-pub time-in : (s n : ℕ) {y : TimeRead} {k : ℕ} → y ≡ time_read s n → y ≡ T.Nanoseconds k → (s < day_seconds) × (n < second)
+pub time-in : (s n : ℕ) {y : std.Option ℕ} {k : ℕ} → y ≡ time_read s n → y ≡ Some k → (s < day_seconds) × (n < second)
 unfolding time_read
 time-in s n {y} {k} p q =
     by-test (ltb s day_seconds && ltb n second)
     (λ e. let h = and_both (ltb s day_seconds) (ltb n second) e in (ltb-true s day_seconds h.0, ltb-true n second h.1))
-    (λ e. let g : T.NoTime ≡ T.Nanoseconds k = (rw e at (sym p ∙ q)) in never (cc))
+    (λ e. let g : None ≡ Some k = (rw e at (sym p ∙ q)) in never (cc))
 
 at-time : (s n : ℕ) → s < day_seconds → n < second → time_given (pos s) (pos n) ≡ gives (s * second + n)
 unfolding time_given
@@ -232,7 +228,7 @@ at-time s n h k = simp (lt-ltb s day_seconds h, lt-ltb n second k)
 is-time : (s n : ℤ) → clipped_to s day_seconds < day_seconds → clipped_to n second < second → time_given s n ≡ gives (clipped_to s day_seconds * second + clipped_to n second)
 is-time s n h k = (λ i. time_given (kept s day_seconds h i) (kept n second k i)) ∙ at-time (clipped_to s day_seconds) (clipped_to n second) h k
 
-no-time : (s n : ℤ) → time_read (clipped_to s day_seconds) (clipped_to n second) ≡ T.NoTime → time_given s n ≡ refuses 8 0
+no-time : (s n : ℤ) → time_read (clipped_to s day_seconds) (clipped_to n second) ≡ None → time_given s n ≡ refuses 8 0
 unfolding time_given time_read clipped_to
 no-time (negsuc s) n e = refl
 no-time (pos s) (negsuc n) e = refl
@@ -244,23 +240,23 @@ no-time (pos s) (pos n) e =
     let b : n < second = ltb-true n second h.1 in
     let p : min s day_seconds ≡ s = omega arith in
     let q : min n second ≡ n = omega arith in
-    let g : T.Nanoseconds (s * second + n) ≡ T.NoTime = rw (p, q, t) at e in
+    let g : Some (s * second + n) ≡ None = rw (p, q, t) at e in
     never (cc))
     (λ t. rw t)
 
 -- a time of 64-bit numbers: refused, or the nanoseconds of its day
 module _ (s n : ℤ) (f : SFits w64 s) (g : SFits w64 n) {a b : ℕ} (i : a ≡ clipped_to (to_z w64 (of_z w64 s)) day_seconds)
-    (j : b ≡ clipped_to (to_z w64 (of_z w64 n)) second) {w : TimeRead} (e : w ≡ time_read a b) where
+    (j : b ≡ clipped_to (to_z w64 (of_z w64 n)) second) {w : std.Option ℕ} (e : w ≡ time_read a b) where
   seconds-are : a ≡ clipped_to s day_seconds
   seconds-are = i ∙ (λ k. clipped_to (to_z-of_z {w = w64} f k) day_seconds)
 
   rest-is : b ≡ clipped_to n second
   rest-is = j ∙ (λ k. clipped_to (to_z-of_z {w = w64} g k) second)
 
-  pub time-no : w ≡ T.NoTime → time_given s n ≡ refuses 8 0
+  pub time-no : w ≡ None → time_given s n ≡ refuses 8 0
   time-no h = no-time s n ((λ k. time_read (sym seconds-are k) (sym rest-is k)) ∙ sym e ∙ h)
 
-  pub time-yes : {k : ℕ} → w ≡ T.Nanoseconds k → time_given s n ≡ gives (a * second + b)
+  pub time-yes : {k : ℕ} → w ≡ Some k → time_given s n ≡ gives (a * second + b)
   time-yes h =
       let x = time-in a b e h in
       let p = seconds-are in
@@ -284,7 +280,10 @@ module _ (f : List ℕ) (y m d s n : ℤ) where
       unfolding resolve_marked_call
       resolve-no-time q = rw (u, p, q)
 
+      pub resolve-listed : {k t : ℕ} {l : List ℤ} → time_given s n ≡ gives k → l ≡ instant t → t ≡ resolve z day k → {c : ℕ} → c ≡ resolve_mark z day k → gives (l ++ pos c ∷ []) ≡ resolve_marked_call f y m d s n
+      unfolding resolve_marked_call
+      resolve-listed q l h {c} e = rw (u, p, q, ← e) (ap (λ w. gives (w ++ pos c ∷ [])) (l ∙ ap instant h))
+
       pub resolve-at : {k : ℕ} (t : Instant) {a b : ℤ} → time_given s n ≡ gives k → t.ns < second → nanos t ≡ resolve z day k
           → a ≡ seconds_from t.sec → b ≡ pos t.ns → {c : ℕ} → c ≡ resolve_mark z day k → gives (a ∷ b ∷ pos c ∷ []) ≡ resolve_marked_call f y m d s n
-      unfolding resolve_marked_call
-      resolve-at t q h l a b {c} e = rw (u, p, q, ← e) (ap (λ w. gives (w ++ pos c ∷ [])) (instant-written t _ h l a b))
+      resolve-at t q h l a b {c} e = resolve-listed q (instant-written t _ h refl a b) l e

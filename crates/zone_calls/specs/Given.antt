@@ -1,9 +1,7 @@
 -- What the code makes of the numbers of a local time before it asks whether they are a date and a time of day.
-use Rattle.std.specs.Prelude.{ℕ, min, ℤ, pos, negsuc}
+use Rattle.std.specs.Prelude.{ℕ, min, ℤ, pos, negsuc, Option, Some, None}
 use Rattle.model.specs.Answer.{Answer, gives, refuses}
 use Rattle.model.specs.DayNumber.{day_of}
-use Rattle.civil.specs.declared.DayRead.{DayRead}
-use Rattle.civil.specs.declared.DayRead.TheVariants as D
 
 -- the year 0 counted from -10400; and the first year, month and day that there is not
 abbrev pub year_zero : ℕ
@@ -24,6 +22,6 @@ clipped_to (pos n) cap = min n cap
 clipped_to (negsuc n) cap = cap
 
 -- the day that was read, or the refusal
-abbrev pub day_answer : DayRead → Answer ℕ
-day_answer (D.Day z) = gives (day_of z)
-day_answer D.NoDate = refuses 8 0
+abbrev pub day_answer : Option ℤ → Answer ℕ
+day_answer (Some z) = gives (day_of z)
+day_answer None = refuses 8 0

@@ -1,12 +1,8 @@
 -- The footer that a parsed text is, and what is known of the changes around a second.
 use Rattle.std.specs.Prelude.{◌≡◌, ℕ, ◌+◌, ◌≤◌, ◌<◌}
-use Rattle.model.specs.Footer as model
 use Rattle.model.specs.Zone.{latest}
 use Rattle.laws_zone.specs.Runs.{Run}
-use Rattle.zone_footer.specs.Parsed.{change_rule_is}
-use Rattle.zone_footer.specs.declared.ChangeRule.{ChangeRule}
-use Rattle.zone_footer.specs.declared.Footer.{Footer}
-use Rattle.zone_footer.specs.declared.Footer.TheVariants.{Empty, Fixed, Rules, Broken}
+pub use Rattle.zone_footer.specs.Parsed.{footer_rules, the_footer}
 use Rattle.zone_changes.specs.declared.OffsetUntil.{OffsetUntil}
 
 -- a mean year of the calendar, four weeks, and the least time from a change to the next of its kind, 349 days, in seconds
@@ -26,17 +22,6 @@ last_year = 20801
 abbrev pub changes_end : ℕ
 changes_end = 1099511627776
 
--- a footer with daylight time
-abbrev pub footer_rules : ℕ → ℕ → ChangeRule → ChangeRule → model.Footer
-footer_rules std dst start end = model.rules std dst (change_rule_is start) (change_rule_is end)
-
--- a broken footer counts as an empty one: no zone that is open has one
-abbrev pub the_footer : Footer → model.Footer
-the_footer Empty = model.empty
-the_footer (Fixed o) = model.fixed o
-the_footer (Rules std dst start end) = footer_rules std dst start end
-the_footer Broken = model.empty
-
 -- `last` is the latest change at or before u, and `next` the first behind it
 pub record Near (change : ℕ → ℕ) (u last next : ℕ) : Type 0 where
   pub last-is : last ≡ latest change u
@@ -54,7 +39,6 @@ Sure offset u o n = u < n → (o ≡ offset u) × Run offset u n
 -- what follows for u from two changes of one year, the first at p and the second at q: the offset o up to n. Between the two it is `inner`,
 -- before and behind them `outer`, as far as 349 days show it
 pub data ByTwoChanges (inner outer p q u o n : ℕ) : Type 0 where
-  undecided : n ≤ u → ByTwoChanges inner outer p q u o n
   between : o ≡ inner → p ≤ u → n ≤ q → q < p + least_year → ByTwoChanges inner outer p q u o n
   ahead : o ≡ outer → n ≤ p → q ≤ u + least_year → ByTwoChanges inner outer p q u o n
   behind : o ≡ outer → q ≤ u → n ≤ p + least_year → ByTwoChanges inner outer p q u o n

@@ -11,7 +11,7 @@ use Rattle.laws_base.specs.Test.{by-either}
 use Rattle.laws_calendar.specs.Years.{dby-hi, dby-lo}
 use Rattle.laws_zone.specs.FooterChanges.{ChangeRuleFits, latest-is, latest-le, latest-of-all, change-rises, change-varies, daylight, standard}
 use Rattle.laws_zone.specs.Grammar.{FooterFits}
-use Rattle.zone_changes.specs.Meaning.{ByTwoChanges, undecided, between, ahead, behind, Sure, four_weeks, least_year}
+use Rattle.zone_changes.specs.Meaning.{ByTwoChanges, between, ahead, behind, Sure, four_weeks, least_year}
 use Rattle.model.specs.Offset.{greatest_offset}
 
 -- ---- one change
@@ -70,7 +70,6 @@ module _ (a b : ℕ) (s t : model.ChangeRule) (ha : a ≤ greatest_offset) (hb :
   -- what follows for u holds of each second from u on, before n
   pub two-changes : {inner outer p q u o n : ℕ} → p ≡ change_in a s y → q ≡ change_in b t y → ByTwoChanges inner outer p q u o n → (v : ℕ) → u ≤ v → v < n
       → Later inner outer (latest (change_in a s) v) (latest (change_in b t) v) o
-  two-changes ep eq (undecided i) v j k = absurd (omega arith)
   two-changes ep eq (between e i m g) v j k =
       is-inner e (omega (arith, second-by v (omega arith), second-before, latest-of-all a s ha fs v y (omega arith)))
   two-changes ep eq (ahead e m g) v j k =

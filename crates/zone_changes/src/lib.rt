@@ -2,7 +2,7 @@
 // one, and the footer's offset with the second up to which it stays. Years and seconds are counted from -10400-01-01.
 #![tactic(auto)]
 
-ghost use Rattle.std.specs.Prelude.{◌≡◌, ℕ, ◌-◌, ◌≤◌, ◌<◌};
+ghost use Rattle.std.specs.Prelude.{◌≡◌, ℕ, ◌-◌, ◌≤◌, ◌<◌, IfSome};
 ghost use Rattle.model.specs.DayNumber.{signed_day};
 ghost use Rattle.model.specs.Footer as model;
 ghost use Rattle.model.specs.Zone.{year_at, ruled_at};
@@ -11,9 +11,9 @@ ghost use Rattle.laws_zone.specs.FooterChanges.{DayFits, ChangeRuleFits};
 ghost use Rattle.laws_zone.specs.Grammar.{FooterFits};
 ghost use Rattle.instant.specs.Instant.{years_end};
 ghost use Rattle.model.specs.Offset.{greatest_offset};
-ghost use Rattle.zone_changes.specs.Meaning.{last_year, changes_end, footer_rules, the_footer, IsOffset, Near, Sure, ByTwoChanges};
+ghost use Rattle.zone_changes.specs.Meaning.{last_year, changes_end, footer_rules, the_footer, IsOffset, Near, ByTwoChanges};
 
-use zone_footer::{ChangeRule, Day, Footer};
+use zone_footer::{ChangeRule, Day, Footer, Rules};
 
 // A mean year of the calendar and four weeks, in seconds.
 const MEAN_YEAR: u64 = 31556952;
@@ -78,7 +78,11 @@ pub fn day_in(day: Day, year: u32) -> i32
     ensures { result ≡ signed_day (model.day_in year (day_is day)) }
 {
     match day {
-        Day::Month(m, w, d) => month_day(year, m, w, d),
+        Day::Month {
+            month,
+            week,
+            weekday,
+        } => month_day(year, month, week, weekday),
         Day::Julian(n) => julian_day(year, n),
         Day::Plain(n) => civil::later(civil::year_start(year), n),
     }
@@ -89,12 +93,9 @@ pub fn change_in(offset: u32, rule: ChangeRule, year: u32) -> u64
     requires { ChangeRuleFits (change_rule_is rule) × (year ≤ last_year) }
     ensures { result ≡ model.change_in offset (change_rule_is rule) year }
 {
-    let day = rule.day;
-    let time = rule.time;
-    number::difference(
-        civil::midnight(day_in(day, year)) + time as u64 + zone_offset::BIAS_64,
-        zone_footer::TIME_BIAS_64 + offset as u64,
-    )
+    (civil::midnight(day_in(rule.day, year))
+        + u64::from(rule.time)
+        + zone_offset::BIAS_64).saturating_sub(zone_footer::TIME_BIAS_64 + u64::from(offset))
 }
 
 // The first of the years whose changes may be the latest at u: two before u's year.
@@ -102,11 +103,7 @@ fn first_year(u: u64) -> u32
     requires { u < years_end }
     ensures { (result ≡ year_at u - 2) × (result ≤ last_year - 4) }
 {
-    let year = civil::year_of(civil::day_at(u));
-    if year < 2 {
-        return 0;
-    }
-    year - 2
+    civil::year_of(civil::day_at(u)).saturating_sub(2)
 }
 
 // The changes around u.
@@ -115,130 +112,100 @@ pub fn around(offset: u32, rule: ChangeRule, u: u64) -> Changes
     ensures { Near (model.change_in offset (change_rule_is rule)) u result.last result.next }
 {
     let first = first_year(u);
-    let d = change_in(offset, rule, first + 3);
-    if d <= u {
-        return Changes {
-            last: d,
-            next: change_in(offset, rule, first + 4),
-        };
+    let mut next = change_in(offset, rule, first + 4);
+    for year in (first..first + 4).rev() {
+        let last = change_in(offset, rule, year);
+        if last <= u {
+            return Changes { last, next };
+        }
+        next = last;
     }
-    let c = change_in(offset, rule, first + 2);
-    if c <= u {
-        return Changes { last: c, next: d };
-    }
-    let b = change_in(offset, rule, first + 1);
-    if b <= u {
-        return Changes { last: b, next: c };
-    }
-    let a = change_in(offset, rule, first);
-    if a <= u {
-        return Changes { last: a, next: b };
-    }
-    Changes { last: 0, next: a }
+    Changes { last: 0, next }
 }
 
 // The offset at u by two changes of one year: the first is at p, and the second, more than four weeks later, at q. Between them the offset is
-// `inner`, before and behind them `outer`. Where they do not decide, `until` is at or before u.
-fn by_two_changes(inner: u32, outer: u32, p: u64, q: u64, u: u64) -> OffsetUntil
+// `inner`, before and behind them `outer`. None where they do not decide.
+fn by_two_changes(inner: u32, outer: u32, p: u64, q: u64, u: u64) -> Option<OffsetUntil>
     requires { (p < changes_end) × (u < years_end) }
-    ensures { ByTwoChanges inner outer p q u result.offset result.until }
+    ensures { IfSome result (λ r. ByTwoChanges inner outer p q u r.offset r.until × (u < r.until)) }
 {
     if u < p {
-        if q <= u + LEAST_YEAR {
-            return OffsetUntil {
-                offset: outer,
-                until: p,
-            };
-        }
-        return OffsetUntil {
+        return (q <= u + LEAST_YEAR).then_some(OffsetUntil {
             offset: outer,
-            until: 0,
-        };
+            until: p,
+        });
     }
     if u < q {
-        if q < p + LEAST_YEAR {
-            return OffsetUntil {
-                offset: inner,
-                until: q,
-            };
-        }
-        return OffsetUntil {
+        return (q < p + LEAST_YEAR).then_some(OffsetUntil {
             offset: inner,
-            until: 0,
-        };
+            until: q,
+        });
     }
-    OffsetUntil {
+    (u < p + LEAST_YEAR).then_some(OffsetUntil {
         offset: outer,
         until: p + LEAST_YEAR,
-    }
+    })
 }
 
-// The offset at u by the two changes of one year, that of u or the next to it. Where they do not decide, `until` is at or before u: they lie
-// close together, or u lies close to the year's end and one of them does too.
-fn by_one_year(std: u32, dst: u32, start: ChangeRule, end: ChangeRule, u: u64) -> OffsetUntil
-    requires { FooterFits (footer_rules std dst start end) × (u < years_end) }
-    ensures { (last : ℕ) → Sure (ruled_at (footer_rules std dst start end) last) u result.offset result.until }
+// The offset at u by the two changes of one year, that of u or the next to it. None where they do not decide: they lie close together, or u lies
+// close to the year's end and one of them does too.
+fn by_one_year(rules: Rules, u: u64) -> Option<OffsetUntil>
+    requires { FooterFits (footer_rules rules) × (u < years_end) }
+    ensures { IfSome result (λ r. (last : ℕ) → IsOffset (ruled_at (footer_rules rules) last) u r) }
 {
     let year = (u / MEAN_YEAR) as u32;
     if year < 2 {
-        return OffsetUntil {
-            offset: std,
-            until: 0,
-        };
+        return None;
     }
-    let a = change_in(std, start, year);
-    let b = change_in(dst, end, year);
+    let a = change_in(rules.std, rules.start, year);
+    let b = change_in(rules.dst, rules.end, year);
     if a + FOUR_WEEKS < b {
-        return by_two_changes(dst, std, a, b, u);
+        return by_two_changes(rules.dst, rules.std, a, b, u);
     }
     if b + FOUR_WEEKS < a {
-        return by_two_changes(std, dst, b, a, u);
+        return by_two_changes(rules.std, rules.dst, b, a, u);
     }
-    OffsetUntil {
-        offset: std,
-        until: 0,
-    }
+    None
 }
 
 // The offset at u by the latest changes of all years.
-fn by_all_years(std: u32, dst: u32, start: ChangeRule, end: ChangeRule, u: u64) -> OffsetUntil
-    requires { FooterFits (footer_rules std dst start end) × (u < years_end) }
-    ensures { (last : ℕ) → IsOffset (ruled_at (footer_rules std dst start end) last) u result }
+fn by_all_years(rules: Rules, u: u64) -> OffsetUntil
+    requires { FooterFits (footer_rules rules) × (u < years_end) }
+    ensures { (last : ℕ) → IsOffset (ruled_at (footer_rules rules) last) u result }
 {
-    let a = around(std, start, u);
-    let b = around(dst, end, u);
-    let until = number::minimum(a.next, b.next);
+    let a = around(rules.std, rules.start, u);
+    let b = around(rules.dst, rules.end, u);
+    let until = a.next.min(b.next);
     if b.last <= a.last {
-        return OffsetUntil { offset: dst, until };
+        return OffsetUntil {
+            offset: rules.dst,
+            until,
+        };
     }
-    OffsetUntil { offset: std, until }
+    OffsetUntil {
+        offset: rules.std,
+        until,
+    }
 }
 
 // The offset at u where the footer counts; `last` is the table's last offset, which an empty footer leaves.
+#[tactic(auto, unfolding(model::specs::Zone::ruled_at))]
 pub fn footer_run_at(footer: Footer, last: u32, u: u64) -> OffsetUntil
     requires { FooterFits (the_footer footer) × (u < years_end) }
     ensures { IsOffset (ruled_at (the_footer footer) last) u result }
 {
-    let far = u + FAR;
     match footer {
         Footer::Empty => OffsetUntil {
             offset: last,
-            until: far,
+            until: u + FAR,
         },
-        Footer::Broken => OffsetUntil {
-            offset: last,
-            until: far,
+        Footer::Fixed(offset) => OffsetUntil {
+            offset,
+            until: u + FAR,
         },
-        Footer::Fixed(o) => OffsetUntil {
-            offset: o,
-            until: far,
+        Footer::Rules(rules) => match by_one_year(rules, u) {
+            Some(run) => run,
+            None => by_all_years(rules, u),
         },
-        Footer::Rules(std, dst, start, end) => {
-            let s = by_one_year(std, dst, start, end, u);
-            if u < s.until {
-                return s;
-            }
-            by_all_years(std, dst, start, end, u)
-        }
     }
 }

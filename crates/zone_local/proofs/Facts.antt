@@ -2,6 +2,7 @@
 use Prim.Native.Nat.{ℕ, ◌+◌, ◌*◌, ◌-◌, ◌/◌, ◌%◌, ◌≤◌, ◌<◌, min, max}
 use mathlib.Core.Path.{◌≡◌, refl, sym, ◌∙◌, ap, ap₂}
 use mathlib.Core.Bool.{true, false}
+use mathlib.Core.Logic.{◌⊎◌, inl, inr}
 use mathlib.Core.List.{List, []}
 use native.Mathlib.Omega.{arith}
 use lib.Dec.{ltb}
@@ -16,7 +17,7 @@ use Rattle.model.specs.Offset.{offset_bias, greatest_offset}
 use Rattle.model.specs.Zone.{offset_at, second_of, resolve}
 use Rattle.model.specs.Working.{local_day, first_date, last_date, start_of, end_of}
 use Rattle.model.specs.Marks.{beyond, mark_of, readings, resolve_mark, mark_by_end}
-use Rattle.laws_base.specs.Test.{by-test, same_test}
+use Rattle.laws_base.specs.Test.{by-test}
 use Rattle.laws_calendar.specs.Numbers.{IsDayNumber, number-within}
 use Rattle.laws_zone.specs.Sound.{Sound}
 use Rattle.laws_zone.specs.Zones.{fits-sound}
@@ -93,35 +94,34 @@ module _ (z : Zone) (d sec ns s : ℕ) (h : ns < second) (e : s ≡ second_of z 
   unfolding resolve
   resolve-kept a b = rw (quotient, remainder, ← e, le-leb first_instant (s * second + ns) (omega arith), le-leb (s * second + ns) last_instant (omega arith))
 
-  pub resolve-early : s < first_second → range_end d ≡ resolve z d (sec * second + ns)
+  resolve-early : s < first_second → range_end d ≡ resolve z d (sec * second + ns)
   unfolding resolve range_end
   resolve-early a = rw (quotient, remainder, ← e, lt-leb first_instant (s * second + ns) (omega arith))
 
-  pub resolve-late : last_second < s → range_end d ≡ resolve z d (sec * second + ns)
+  resolve-late : last_second < s → range_end d ≡ resolve z d (sec * second + ns)
   unfolding resolve range_end
   resolve-late a = rw (quotient, remainder, ← e, le-leb first_instant (s * second + ns) (omega arith), lt-leb (s * second + ns) last_instant (omega arith))
+
+  pub resolve-out : (s < first_second) ⊎ (last_second < s) → range_end d ≡ resolve z d (sec * second + ns)
+  resolve-out (inl a) = resolve-early a
+  resolve-out (inr a) = resolve-late a
 
   -- its mark
   pub mark-kept : {m : ℕ} → first_second ≤ s → s ≤ last_second → m ≡ mark_of (readings z (d * day_seconds + sec + offset_bias)) → m ≡ resolve_mark z d (sec * second + ns)
   unfolding resolve_mark
   mark-kept a b q = rw (quotient, remainder, ← e, le-leb first_instant (s * second + ns) (omega arith), le-leb (s * second + ns) last_instant (omega arith)) q
 
-  pub mark-early : s < first_second → beyond ≡ resolve_mark z d (sec * second + ns)
+  mark-early : s < first_second → beyond ≡ resolve_mark z d (sec * second + ns)
   unfolding resolve_mark
   mark-early a = rw (quotient, remainder, ← e, lt-leb first_instant (s * second + ns) (omega arith))
 
-  pub mark-late : last_second < s → beyond ≡ resolve_mark z d (sec * second + ns)
+  mark-late : last_second < s → beyond ≡ resolve_mark z d (sec * second + ns)
   unfolding resolve_mark
   mark-late a = rw (quotient, remainder, ← e, le-leb first_instant (s * second + ns) (omega arith), lt-leb (s * second + ns) last_instant (omega arith))
 
--- ---- times of day
-
-module _ (a b x y : ℕ) (p : x < second) (q : y < second) where
-  pub same_second : a ≡ b → ltb x y ≡ ltb (a * second + x) (b * second + y)
-  same_second e = same_test x y (a * second + x) (b * second + y) (λ h. omega arith) (λ h. omega arith)
-
-  pub other-second : (a ≡ b → ⊥) → ltb a b ≡ ltb (a * second + x) (b * second + y)
-  other-second e = same_test a b (a * second + x) (b * second + y) (λ h. omega arith) (λ h. omega arith)
+  pub mark-out : (s < first_second) ⊎ (last_second < s) → beyond ≡ resolve_mark z d (sec * second + ns)
+  mark-out (inl a) = mark-early a
+  mark-out (inr a) = mark-late a
 
 -- ---- the end of what a rule takes
 

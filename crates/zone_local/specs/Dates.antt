@@ -5,6 +5,7 @@ use Rattle.model.specs.Instant.{second, day, day_seconds, first_instant, last_in
 use Rattle.model.specs.Offset.{offset_bias, greatest_offset}
 use Rattle.model.specs.Zone.{resolve}
 use Rattle.model.specs.Marks.{resolve_mark, mark_by_end}
+use Rattle.mark.specs.Marks.{mark_number}
 use Rattle.model.specs.Tzif.{Zone}
 use Rattle.model.specs.Blocks.{Block, put, clipped}
 use Rattle.model.specs.Working.{Rule, first_date, last_date, start_of, end_of}
@@ -47,11 +48,11 @@ IsTaken r d b = (nanos b.start ≡ start_of r d) × (nanos b.end ≡ end_of r d)
 
 -- m is the instant of a local time, in the range, with its mark
 abbrev pub IsResolved : Zone → ℕ → ℕ → MarkedInstant → Type 0
-IsResolved z d time m = (nanos m.at ≡ resolve z d time) × InRange m.at × (m.mark ≡ resolve_mark z d time)
+IsResolved z d time m = (nanos m.at ≡ resolve z d time) × InRange m.at × (mark_number m.mark ≡ resolve_mark z d time)
 
 -- m is the end of what the rule takes of the date d, with its mark
 abbrev pub IsEnd : Rule → ℕ → MarkedInstant → Type 0
-IsEnd r d m = (nanos m.at ≡ end_of r d) × (m.mark ≡ mark_by_end r d)
+IsEnd r d m = (nanos m.at ≡ end_of r d) × (mark_number m.mark ≡ mark_by_end r d)
 
 -- ---- a date that is looked at from instants
 

@@ -17,6 +17,7 @@ ghost use Rattle.zone_local.specs.Dates.{IsDay, range_end, rule_of, AskedDate, I
 use block::Block;
 use civil::Time;
 use instant::Instant;
+use mark::Mark;
 use zone::Zone;
 use zone_tzif::OffsetBounds;
 
@@ -26,6 +27,17 @@ const THIRD_DAY: i32 = -4371585;
 const LAST_DAY: i32 = 2932896;
 
 const DAY_OF_YEAR_ZERO: i32 = -719528;
+
+// The first and the last instant.
+const FIRST_INSTANT: Instant = Instant {
+    sec: instant::FIRST,
+    ns: 0,
+};
+
+const LAST_INSTANT: Instant = Instant {
+    sec: instant::LAST,
+    ns: instant::LAST_NS,
+};
 
 // Four days in seconds, the first second that they lie before, and the last that they lie behind.
 const FOUR_DAYS: u64 = 4 * instant::DAY;
@@ -73,15 +85,9 @@ fn range_end(day: i32) -> Instant
     ensures { (nanos result ≡ range_end (day_of day)) × InRange result }
 {
     if civil::precedes(day, DAY_OF_YEAR_ZERO) {
-        return Instant {
-            sec: instant::FIRST,
-            ns: 0,
-        };
+        return FIRST_INSTANT;
     }
-    Instant {
-        sec: instant::LAST,
-        ns: instant::LAST_NS,
-    }
+    LAST_INSTANT
 }
 
 // The instant of a time of day on a date.
@@ -94,10 +100,7 @@ pub fn resolve(f: &[u8], z: Zone, day: i32, time: Time) -> Instant
         z,
         civil::midnight(day) + time.seconds as u64 + zone_offset::BIAS_64,
     );
-    if s < instant::FIRST {
-        return range_end(day);
-    }
-    if instant::LAST < s {
+    if s < instant::FIRST || instant::LAST < s {
         return range_end(day);
     }
     Instant {
@@ -111,10 +114,7 @@ fn is_before(a: Time, b: Time) -> bool
     requires { TimeFits a × TimeFits b }
     ensures { result ≡ ltb (time_in a) (time_in b) }
 {
-    if a.seconds == b.seconds {
-        return a.nanos < b.nanos;
-    }
-    a.seconds < b.seconds
+    a < b
 }
 
 // Where that which a rule takes of a date ends: on the next date if `to` is at or before `from`, and at the last instant where there is no next date.
@@ -128,36 +128,28 @@ pub fn end_of(f: &[u8], z: Zone, from: Time, to: Time, day: i32) -> Instant
     if civil::precedes(day, LAST_DAY) {
         return resolve(f, z, civil::later(day, 1), to);
     }
-    Instant {
-        sec: instant::LAST,
-        ns: instant::LAST_NS,
-    }
+    LAST_INSTANT
 }
 
 // An instant with the mark of the local time that became it.
 #[derive(Clone, Copy)]
 pub struct MarkedInstant {
     pub at: Instant,
-    pub mark: u32,
+    pub mark: Mark,
 }
 
 // The instant of a time of day on a date and its mark: whether no second, one or more than one reads it, or it lies beyond the range.
+// `resolve` and `end_of` stay beside this and `end_marked`: a mark costs further looks into the zone's runs, which a caller that wants none does not pay.
 pub fn resolve_marked(f: &[u8], z: Zone, day: i32, time: Time) -> MarkedInstant
     requires { ZoneOk f.now z × IsDay (day_of day) × TimeFits time }
     ensures { IsResolved (zone_is f.now z) (day_of day) (time_in time) result }
 {
     let x = civil::midnight(day) + time.seconds as u64 + zone_offset::BIAS_64;
     let second = zone::second_of(f, z, x);
-    if second < instant::FIRST {
+    if second < instant::FIRST || instant::LAST < second {
         return MarkedInstant {
             at: range_end(day),
-            mark: mark::BEYOND,
-        };
-    }
-    if instant::LAST < second {
-        return MarkedInstant {
-            at: range_end(day),
-            mark: mark::BEYOND,
+            mark: Mark::Beyond,
         };
     }
     let m = zone::mark_of(f, z, x, second);
@@ -179,13 +171,10 @@ pub fn end_marked(f: &[u8], z: Zone, from: Time, to: Time, day: i32) -> MarkedIn
     if civil::precedes(day, LAST_DAY) {
         return resolve_marked(f, z, civil::later(day, 1), to);
     }
-    let at = Instant {
-        sec: instant::LAST,
-        ns: instant::LAST_NS,
-    };
+    let at = LAST_INSTANT;
     MarkedInstant {
         at,
-        mark: mark::BEYOND,
+        mark: Mark::Beyond,
     }
 }
 
@@ -214,13 +203,8 @@ pub fn may_touch(
     ensures { result ≡ false → Apart bounds from to (day_of day) a b }
 {
     let base = civil::midnight(day) + zone_offset::BIAS_64;
-    if b.sec + bounds.greatest < base + from.seconds as u64 {
-        return false;
-    }
-    if base + till_second(from, to) < a.sec + bounds.least {
-        return false;
-    }
-    true
+    base + from.seconds as u64 <= b.sec + bounds.greatest
+        && a.sec + bounds.least <= base + till_second(from, to)
 }
 
 // What a rule takes of a date.
@@ -256,10 +240,7 @@ pub fn one_offset(f: &[u8], z: Zone, lo: Instant, hi: Instant) -> u32
     requires { ZoneOk f.now z × InRange lo × InRange hi }
     ensures { KeepsOffset (zone_is f.now z) (nanos lo) (nanos hi) result }
 {
-    if lo.sec < FIRST_KEPT {
-        return 0;
-    }
-    if LAST_KEPT < hi.sec {
+    if lo.sec < FIRST_KEPT || LAST_KEPT < hi.sec {
         return 0;
     }
     let run = zone::run_at(f, z, lo.sec - FOUR_DAYS);

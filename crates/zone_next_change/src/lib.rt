@@ -8,29 +8,22 @@ ghost use Rattle.zone_next_change.specs.NextIs.{the_next};
 
 use zone::Zone;
 
-// The second of the next change; none up to the range's end.
-#[derive(Clone, Copy)]
-pub enum Next {
-    At(u64),
-    Never,
-}
-
-// The first second after u, in the range, at which the offset differs from that a second before. f is the zone's file.
-pub fn next_change(f: &[u8], z: Zone, u: u64) -> Next
+// The first second after u, in the range, at which the offset differs from that a second before, if there is one. f is the zone's file.
+pub fn next_change(f: &[u8], z: Zone, u: u64) -> Option<u64>
     requires { ZoneOk f.now z }
     ensures { the_next result ≡ next_change (zone_is f.now z) u }
 {
     if instant::LAST <= u {
-        return Next::Never;
+        return None;
     }
     let r = zone::run_at(f, z, u);
     let mut until = r.until;
     while until <= instant::LAST {
         let q = zone::run_at(f, z, until);
         if q.offset != r.offset {
-            return Next::At(until);
+            return Some(until);
         }
         until = q.until;
     }
-    Next::Never
+    None
 }

@@ -1,13 +1,13 @@
 -- The zone pack by index, as the code reads it. proofs/Names.antt has it that these are the records of the crate `model`.
-use Rattle.std.specs.Prelude.{◌≡◌, Bool, ◌&&◌, List, map, ℕ, ◌+◌, ◌-◌, leb, ltb, length, get_or, take, drop}
+use Rattle.std.specs.Prelude as Rust
+use Rattle.std.specs.Prelude.{◌≡◌, Bool, ◌&&◌, List, map, ℕ, ◌+◌, ◌-◌, ◌<◌, leb, ltb, length, get_or, take, drop, MatchOption}
 use Rattle.std.proofs.Math.Option.{Option, none, some}
 use Rattle.model.specs.Basic.{◌>>=◌, is_in, run}
 use Rattle.model.specs.Pack.{Named, pack_of, find}
-use Rattle.big_endian.specs.Maybe.{is_some, or_empty}
+use Rattle.big_endian.specs.Maybe.{is_some}
 use Rattle.big_endian.specs.Walk.{all_from}
 use Rattle.directory.specs.Directory.{longest_name, entry_count, start_at, len_at, dir_ok}
-use Rattle.zone_pack.specs.declared.Place.{Place}
-use Rattle.zone_pack.specs.declared.Place.TheVariants.{At, Absent}
+use Rattle.zone_pack.specs.declared.Found.{Found}
 
 -- the name and the file of a record of len bytes at start
 unfoldable pub named_from : List ℕ → ℕ → ℕ → Named
@@ -41,18 +41,25 @@ is_pack s = is_some (pack_of s)
 unfoldable pub zone_file : List ℕ → List ℕ → Option (List ℕ)
 zone_file p name = pack_of p >>= λ l. find name l
 
--- the bytes of a place that the code found
-abbrev pub bytes_of : List ℕ → Place → Option (List ℕ)
-bytes_of p (At at n) = some (take n (drop at p))
-bytes_of p Absent = none
+-- r is the file of entry i, a part of the pack that begins at r.at
+pub record IsFileOf (p : List ℕ) (i : ℕ) (r : Found) : Type 0 where
+  pub file : r.file.now ≡ (named_at p i).file
+  pub part : r.file.now ≡ take (length r.file.now) (drop r.at p)
 
 -- the file of the first of a pack's first n records that has the name
 abbrev pub first_file : List ℕ → List ℕ → ℕ → Option (List ℕ)
 first_file p name n = find name (map (named_at p) (run 0 n))
 
--- what the finder answers: r is the zone file of the name, a part of the pack that begins at `at`. Document 01: "a yes or no beside it tells an absent
--- name from an empty file".
-pub record FindsZone (p name : List ℕ) (yes : Bool) (at : ℕ) (r : List ℕ) : Type 0 where
-  pub file : r ≡ or_empty (zone_file p name)
-  pub found : yes ≡ is_some (zone_file p name)
-  pub part : r ≡ take (length r) (drop at p)
+-- r is the first of a pack's first n records that has the name
+abbrev pub FindsEntry : List ℕ → List ℕ → ℕ → Rust.Option ℕ → Type 0
+FindsEntry p name n r = MatchOption r (first_file p name n ≡ none) (λ i. (i < n) × (first_file p name n ≡ some (named_at p i).file))
+
+-- r is the zone file of the name, a part of the pack that begins at r.at
+pub record IsZone (p name : List ℕ) (r : Found) : Type 0 where
+  pub file : zone_file p name ≡ some r.file.now
+  pub part : r.file.now ≡ take (length r.file.now) (drop r.at p)
+
+-- what the finder answers: none where there is no zone file of the name, and else that file. Document 01: "a yes or no beside it tells an absent name
+-- from an empty file".
+abbrev pub FindsZone : List ℕ → List ℕ → Rust.Option Found → Type 0
+FindsZone p name r = MatchOption r (zone_file p name ≡ none) (λ f. IsZone p name f)

@@ -2,33 +2,24 @@
 // A pack is a directory (crate `directory`) and its records: the length of a name (1 byte), the name, and the zone file.
 #![tactic(auto)]
 
-ghost use Rattle.std.specs.Prelude.{◌≡◌, true, ◌+◌, ◌*◌, ◌-◌, ◌<◌};
-ghost use Rattle.std.proofs.Math.Option.{some};
-ghost use Rattle.model.specs.Pack.{lower, same_name};
+ghost use Rattle.std.specs.Prelude.{◌≡◌, true, ◌<◌};
+ghost use Rattle.model.specs.Pack.{same_name};
 ghost use Rattle.big_endian.specs.Be.{four_bytes};
 ghost use Rattle.big_endian.specs.Walk.{all_from};
-ghost use Rattle.zone_pack.specs.Pack.{named_at, name_ok, name_at_ok, is_pack, bytes_of, first_file, FindsZone};
+ghost use Rattle.zone_pack.specs.Pack.{named_at, name_ok, name_at_ok, is_pack, IsFileOf, FindsEntry, FindsZone};
 
 // Document 01's limit: the most zones of a pack.
 pub const MOST_ZONES: usize = 1024;
 
-// How much a small letter is above its capital.
-const CASE: u8 = 32;
-
 // ---- the layout
 
 // Has a record of len bytes at start a whole name, neither empty nor too long?
+#[tactic(auto, unfolding(crate::specs::Pack::name_ok))]
 fn name_ok(s: &[u8], start: usize, len: usize) -> bool
     ensures { result ≡ name_ok s.now start len }
 {
     let n = big_endian::small_at(s, start);
-    if n < 1 {
-        return false;
-    }
-    if n > directory::LONGEST_NAME {
-        return false;
-    }
-    n < len
+    (1..=directory::LONGEST_NAME).contains(&n) && n < len
 }
 
 // The same of the record of entry i.
@@ -44,14 +35,7 @@ fn names_ok(s: &[u8], n: usize) -> bool
     requires { n < four_bytes }
     ensures { result ≡ all_from (name_at_ok s.now) 0 n }
 {
-    let mut i: usize = 0;
-    while i < n {
-        if !name_at_ok(s, i) {
-            return false;
-        }
-        i += 1;
-    }
-    true
+    (0..n).all(|i| name_at_ok(s, i))
 }
 
 // Does the pack keep its layout? Refusal 3 where not.
@@ -59,113 +43,54 @@ pub fn pack_ok(p: &[u8]) -> bool
     ensures { result ≡ is_pack p.now }
 {
     let n = directory::count_of(p);
-    if n > MOST_ZONES {
-        return false;
-    }
-    if !directory::dir_ok(p) {
-        return false;
-    }
-    names_ok(p, n)
+    n <= MOST_ZONES && directory::dir_ok(p) && names_ok(p, n)
 }
 
-// ---- names
+// ---- the finder
 
-// A letter A to Z as a to z, any other byte as it is.
-fn lower_case(b: u8) -> u8
-    ensures { result ≡ lower b }
-{
-    if b < b'A' {
-        return b;
-    }
-    if b > b'Z' {
-        return b;
-    }
-    b + CASE
+// A zone file in a pack: where it begins, and the part of the lent pack itself.
+#[derive(Clone, Copy)]
+pub struct Found<'a> {
+    pub at: usize,
+    pub file: &'a [u8],
 }
 
-// Are two names the same but for the case of ASCII letters?
-fn same_name(a: &[u8], b: &[u8]) -> bool
-    ensures { result ≡ same_name a.now b.now }
-{
-    if a.len() != b.len() {
-        return false;
-    }
-    let mut i: usize = 0;
-    while i < a.len() {
-        if lower_case(a[i]) != lower_case(b[i]) {
-            return false;
-        }
-        i += 1;
-    }
-    true
-}
-
-// Is the record of entry i named so?
+// Is the record of entry i named so, but for the case of ASCII letters?
 fn is_named(p: &[u8], i: usize, name: &[u8]) -> bool
     requires { i < four_bytes }
     ensures { result ≡ same_name (named_at p.now i).name name.now }
 {
     let start = directory::start_at(p, i);
-    same_name(
-        big_endian::part(p, start + 1, big_endian::small_at(p, start)),
-        name,
-    )
+    let own = big_endian::part(p, start + 1, big_endian::small_at(p, start));
+    own.eq_ignore_ascii_case(name)
 }
 
-// ---- the finder
-
-// Where a zone file lies in a pack: where it begins, and how many bytes it has.
-#[derive(Clone, Copy)]
-enum Place {
-    At(usize, usize),
-    Absent,
-}
-
-// Where the file of entry i lies.
-fn place_at(p: &[u8], i: usize) -> Place
+// The file of entry i.
+fn file_of(p: &[u8], i: usize) -> Found
     requires { i < four_bytes }
-    ensures { bytes_of p.now result ≡ some (named_at p.now i).file }
+    ensures { IsFileOf p.now i result }
 {
     let start = directory::start_at(p, i);
     let at = start + 1 + big_endian::small_at(p, start);
     let end = start + directory::len_at(p, i);
-    if end < at {
-        return Place::At(at, 0);
-    }
-    Place::At(at, end - at)
+    let file = big_endian::part(p, at, end.saturating_sub(at));
+    Found { at, file }
 }
 
-// Where the file of the first of n records with that name lies.
-fn find_in(p: &[u8], name: &[u8], n: usize) -> Place
+// The first of n records with that name.
+fn find_in(p: &[u8], name: &[u8], n: usize) -> Option<usize>
     requires { n < four_bytes }
-    ensures { bytes_of p.now result ≡ first_file p.now name.now n }
+    ensures { FindsEntry p.now name.now n result }
 {
-    let mut i: usize = 0;
-    while i < n {
-        if is_named(p, i, name) {
-            return place_at(p, i);
-        }
-        i += 1;
-    }
-    Place::Absent
+    (0..n).find(|&i| is_named(p, i, name))
 }
 
-// The finder: the zone file of a name in a pack that keeps its layout, as the part of the lent pack itself. Beside it stand whether the pack has
-// the name, so that an absent name is told from an empty file, and where the part begins.
-pub fn look_in<'a>(p: &'a [u8], name: &[u8], found: &mut bool, at: &mut usize) -> &'a [u8]
+// The finder: the zone file of a name in a pack that keeps its layout. None where the pack has not got the name, so that an absent name is told
+// from an empty file.
+pub fn look_in<'a>(p: &'a [u8], name: &[u8]) -> Option<Found<'a>>
     requires { is_pack p.now ≡ true }
-    ensures { FindsZone p.now name.now found.new at.new result.now }
+    ensures { FindsZone p.now name.now result }
 {
-    match find_in(p, name, directory::count_of(p)) {
-        Place::At(a, n) => {
-            *found = true;
-            *at = a;
-            big_endian::part(p, a, n)
-        }
-        Place::Absent => {
-            *found = false;
-            *at = 0;
-            &p[..0]
-        }
-    }
+    let i = find_in(p, name, directory::count_of(p))?;
+    Some(file_of(p, i))
 }

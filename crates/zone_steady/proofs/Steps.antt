@@ -16,17 +16,15 @@ use Rattle.laws_zone.specs.Sound.{Sound, dawn}
 use Rattle.laws_zone.specs.FooterChanges.{ChangeRuleFits, latest-is, latest-le, latest-of-all}
 use Rattle.laws_zone.specs.Grammar.{FooterFits}
 use Rattle.laws_zone.specs.Runs.{Run, run-steady, run-changes}
-use Rattle.big_endian.proofs.Walk.{rises, Rises}
 use Rattle.zone_tzif.specs.declared.Layout.{Layout}
-use Rattle.zone_tzif_block.specs.Parts.{key_at}
 use Rattle.zone_tzif.specs.Places.{time_at, offset_after}
 use Rattle.zone_tzif.specs.Opened.{Opened, zone_at, count_at}
 use Rattle.zone_tzif.proofs.Laws.{times-rise, count_most, count_past, count_next, count-is, offset-early, offset-late}
 use Rattle.zone_footer.specs.Parsed.{change_rule_is}
-use Rattle.zone_footer.specs.declared.ChangeRule.{ChangeRule}
+use Rattle.zone_footer.specs.declared.Rules as code
 use Rattle.zone_footer.specs.declared.Footer.{Footer}
-use Rattle.zone_footer.specs.declared.Footer.TheVariants.{Empty, Fixed, Rules, Broken}
-use Rattle.zone_changes.specs.Meaning.{the_footer, Near}
+use Rattle.zone_footer.specs.declared.Footer.TheVariants.{Empty, Fixed, Rules}
+use Rattle.zone_changes.specs.Meaning.{footer_rules, the_footer, Near}
 use Rattle.zone_changes.specs.MeaningLaws.{rules-daylight, rules-standard}
 use Rattle.zone_steady.specs.Steady.{SteadyRoom, Back, since_at, low, high}
 
@@ -108,38 +106,34 @@ pub empty-behind : {f : Footer} (o : ℕ) {u from : ℕ} → f ≡ Empty → fro
 unfolding ruled_at
 empty-behind o e h = rw e (refl, record { to = h; same = λ v p q. refl }, omega arith)
 
-pub broken-behind : {f : Footer} (o : ℕ) {u from : ℕ} → f ≡ Broken → from ≤ u → StaysFrom f o u from o from
-unfolding ruled_at
-broken-behind o e h = rw e (refl, record { to = h; same = λ v p q. refl }, omega arith)
-
 pub fixed-behind : {f : Footer} (o : ℕ) {g u from : ℕ} → f ≡ Fixed g → from ≤ u → StaysFrom f o u from g from
 unfolding ruled_at
 fixed-behind o e h = rw e (refl, record { to = h; same = λ v p q. refl }, omega arith)
 
-module _ {f : Footer} {std dst : ℕ} {start end : ChangeRule} (e : f ≡ Rules std dst start end) (fits : FooterFits (the_footer f)) where
-  pub start_fits : ChangeRuleFits (change_rule_is start) × (std ≤ greatest_offset)
+module _ {f : Footer} {r : code.Rules} (e : f ≡ Rules r) (fits : FooterFits (the_footer f)) where
+  pub start_fits : ChangeRuleFits (change_rule_is r.start) × (r.std ≤ greatest_offset)
   start_fits = let h = (rw e at fits) in (h.2, h.0.1)
 
-  pub end_fits : ChangeRuleFits (change_rule_is end) × (dst ≤ greatest_offset)
+  pub end_fits : ChangeRuleFits (change_rule_is r.end) × (r.dst ≤ greatest_offset)
   end_fits = let h = (rw e at fits) in (h.3, h.1.1)
 
-  module _ (o : ℕ) {u from la na lb nb m s : ℕ} (h : from ≤ u) (a : Near (change_in std (change_rule_is start)) u la na) (b : Near (change_in dst (change_rule_is end)) u lb nb) (p : m ≡ max la lb) (q : s ≡ max from m) where
-    rules-back : Back (ruled_at (model.rules std dst (change_rule_is start) (change_rule_is end)) o) u s
+  module _ (o : ℕ) {u from la na lb nb m s : ℕ} (h : from ≤ u) (a : Near (change_in r.std (change_rule_is r.start)) u la na) (b : Near (change_in r.dst (change_rule_is r.end)) u lb nb) (p : m ≡ max la lb) (q : s ≡ max from m) where
+    rules-back : Back (ruled_at (footer_rules r) o) u s
     unfolding ruled_at
     rules-back = record {
-      to = omega (arith, a.last-is, b.last-is, latest-le (change_in std (change_rule_is start)) u, latest-le (change_in dst (change_rule_is end)) u);
+      to = omega (arith, a.last-is, b.last-is, latest-le (change_in r.std (change_rule_is r.start)) u, latest-le (change_in r.dst (change_rule_is r.end)) u);
       same = λ v x y.
           rw (
-            latest-back std (change_rule_is start) start_fits.1 start_fits.0 u v (omega (arith, a.last-is)) y,
-            latest-back dst (change_rule_is end) end_fits.1 end_fits.0 u v (omega (arith, b.last-is)) y,
+            latest-back r.std (change_rule_is r.start) start_fits.1 start_fits.0 u v (omega (arith, a.last-is)) y,
+            latest-back r.dst (change_rule_is r.end) end_fits.1 end_fits.0 u v (omega (arith, b.last-is)) y,
           );
     }
 
-    pub daylight-behind : lb ≤ la → StaysFrom f o u from dst s
-    daylight-behind i = let k = (rw e at fits) in rw e (rules-daylight std dst (change_rule_is start) (change_rule_is end) k o a b i, rules-back, omega arith)
+    pub daylight-behind : lb ≤ la → StaysFrom f o u from r.dst s
+    daylight-behind i = let k = (rw e at fits) in rw e (rules-daylight r.std r.dst (change_rule_is r.start) (change_rule_is r.end) k o a b i, rules-back, omega arith)
 
-    pub standard-behind : la < lb → StaysFrom f o u from std s
-    standard-behind i = let k = (rw e at fits) in rw e (rules-standard std dst (change_rule_is start) (change_rule_is end) k o a b i, rules-back, omega arith)
+    pub standard-behind : la < lb → StaysFrom f o u from r.std s
+    standard-behind i = let k = (rw e at fits) in rw e (rules-standard r.std r.dst (change_rule_is r.start) (change_rule_is r.end) k o a b i, rules-back, omega arith)
 
 -- ---- how far it stays
 

@@ -43,22 +43,24 @@ fn footer_behind(footer: Footer, last: u32, u: u64, from: u64) -> OffsetSince
             offset: last,
             since: from,
         },
-        Footer::Broken => OffsetSince {
-            offset: last,
+        Footer::Fixed(offset) => OffsetSince {
+            offset,
             since: from,
         },
-        Footer::Fixed(o) => OffsetSince {
-            offset: o,
-            since: from,
-        },
-        Footer::Rules(std, dst, start, end) => {
-            let a = zone_changes::around(std, start, u);
-            let b = zone_changes::around(dst, end, u);
-            let since = number::maximum(from, number::maximum(a.last, b.last));
+        Footer::Rules(rules) => {
+            let a = zone_changes::around(rules.std, rules.start, u);
+            let b = zone_changes::around(rules.dst, rules.end, u);
+            let since = from.max(a.last.max(b.last));
             if b.last <= a.last {
-                return OffsetSince { offset: dst, since };
+                return OffsetSince {
+                    offset: rules.dst,
+                    since,
+                };
             }
-            OffsetSince { offset: std, since }
+            OffsetSince {
+                offset: rules.std,
+                since,
+            }
         }
     }
 }
@@ -75,8 +77,7 @@ pub fn run_behind(f: &[u8], z: Zone, u: u64) -> OffsetSince
     if k < table.count {
         return OffsetSince { offset, since };
     }
-    let footer = z.footer;
-    footer_behind(footer, offset, u, since)
+    footer_behind(z.footer, offset, u, since)
 }
 
 // How far behind hi the offset stays: 0 if it changes from lo to hi.
@@ -114,6 +115,7 @@ fn room_back(f: &[u8], z: Zone, lo: u64, hi: u64) -> u64
 }
 
 // How far beyond the span from lo to hi the offset stays, one more than the last second that is sure: 0 if it changes from lo to hi.
+// The way is an argument, and not two functions, since the walks that ask have it in a variable.
 pub fn room(f: &[u8], z: Zone, back: bool, lo: u64, hi: u64) -> u64
     requires { AskedSpan f.now z lo hi }
     ensures { RoomBeyond (zone_is f.now z) back lo hi result }

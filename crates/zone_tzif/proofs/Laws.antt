@@ -1,5 +1,5 @@
 -- The laws of this crate that callers cite: what `read` promises, and how the lookups make a zone's offset. At the end, what the lookups' own proofs cite.
-use Rattle.std.specs.Prelude.{if◌then◌else◌}
+use Rattle.std.specs.Prelude.{if◌then◌else◌, None, Some}
 use mathlib.Core.Path.{◌≡◌, sym, ap, ◌∙◌, subst}
 use mathlib.Core.Bool.{true, false, ◌&&◌}
 use mathlib.Core.Option.{none, some}
@@ -22,7 +22,6 @@ use Rattle.big_endian.specs.Walk.{all_from, up_to, rises_at}
 use Rattle.big_endian.proofs.Walk.{all-at, rises, Rises, count-in, count-out, count-le}
 use Rattle.zone_tzif_head.specs.declared.Head.{Head}
 use Rattle.zone_tzif.specs.declared.Layout.{Layout}
-use Rattle.zone_tzif.specs.declared.TzifRead.TheVariants as R
 use Rattle.zone_tzif_head.specs.Heads.{header_is, head_ok, head_at, second_at}
 use Rattle.zone_tzif_block.specs.Parts.{key_at, byte_below, type_offset, type_fits, kinds_at, types_at, marks_at, tail_at, tail_ok, times_rise, tables_ok, block_ok}
 use Rattle.zone_tzif.specs.Places.{layout_at, usable, layout_of, read_of, time_at, type_at, types_before, type_count, offset_after, changes_from, line_at, table_at}
@@ -121,47 +120,47 @@ usable-opened f e =
 
 module _ (f : List ℕ) where
   -- what `read` answers of a usable file ..
-  read-yes : usable f ≡ true → (l : Layout) → read_of f ≡ R.Table l → layout_of f ≡ l
+  read-yes : usable f ≡ true → (l : Layout) → read_of f ≡ Some l → layout_of f ≡ l
   unfolding read_of
-  read-yes e l q = let z : R.Table (layout_of f) ≡ R.Table l = rw e at q in cc
+  read-yes e l q = let z : Some (layout_of f) ≡ Some l = rw e at q in cc
 
   -- .. and of another one
-  read_no : {P : Type 0} → usable f ≡ false → (l : Layout) → read_of f ≡ R.Table l → P
+  read_no : {P : Type 0} → usable f ≡ false → (l : Layout) → read_of f ≡ Some l → P
   unfolding read_of
   read_no e l q =
-      let z : R.Unusable ≡ R.Table l = rw e at q in
+      let z : None ≡ Some l = rw e at q in
       never (cc)
 
-  read_none : read_of f ≡ R.Unusable → usable f ≡ false
+  read_none : read_of f ≡ None → usable f ≡ false
   unfolding read_of
   read_none q =
       by-test (usable f)
-      (λ e. let z : R.Table (layout_of f) ≡ R.Unusable = rw e at q in never (cc))
+      (λ e. let z : Some (layout_of f) ≡ None = rw e at q in never (cc))
       (λ e. e)
 
   -- a layout that `read` answers is one that the lookups take ..
-  pub opened : (l : Layout) → read_of f ≡ R.Table l → Opened f l
+  pub opened : (l : Layout) → read_of f ≡ Some l → Opened f l
   opened l q =
       by-test (usable f)
       (λ e. subst (Opened f) (read-yes e l q) (usable-opened f e))
       (λ e. read_no e l q)
 
   -- .. and it is the file's
-  pub table-read : (l : Layout) → read_of f ≡ R.Table l → table_of f ≡ some (table_at f l)
+  pub table-read : (l : Layout) → read_of f ≡ Some l → table_of f ≡ some (table_at f l)
   table-read l q =
       by-test (usable f)
       (λ e. rw (table_is f, e, read-yes e l q))
       (λ e. read_no e l q)
 
-  pub table-unusable : read_of f ≡ R.Unusable → table_of f ≡ none
+  pub table-unusable : read_of f ≡ None → table_of f ≡ none
   table-unusable q = rw (table_is f, read_none q)
 
   -- the zone of a file that `read` takes, given what its footer's line spells
-  pub zone-read : (l : Layout) → read_of f ≡ R.Table l → zone_of f ≡ (footer_of (version_of f) (line_at f l) >>= λ foot. some (zone_at f l foot))
+  pub zone-read : (l : Layout) → read_of f ≡ Some l → zone_of f ≡ (footer_of (version_of f) (line_at f l) >>= λ foot. some (zone_at f l foot))
   unfolding zone_of
   zone-read l q = rw (table-read l q)
 
-  pub zone-unusable : read_of f ≡ R.Unusable → zone_of f ≡ none
+  pub zone-unusable : read_of f ≡ None → zone_of f ≡ none
   unfolding zone_of
   zone-unusable q = rw (table-unusable q)
 

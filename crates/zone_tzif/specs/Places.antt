@@ -1,6 +1,6 @@
 -- A zone file read by place: what makes it usable, and the table's layout, as the code reads them. Its headers and its second data block are those of
 -- the crates zone_tzif_head and zone_tzif_block. proofs/Bridge.antt shows that this is the crate `model`'s reading. A place past the end reads as 0.
-use Rattle.std.specs.Prelude.{Bool, ◌&&◌, List, [], ◌∷◌, ℕ, zero, suc, ◌+◌, ◌*◌, ◌-◌, ◌^◌, eqb, length, get_or, take, drop, if◌then◌else◌}
+use Rattle.std.specs.Prelude.{Bool, ◌&&◌, List, [], ◌∷◌, ℕ, zero, suc, ◌+◌, ◌*◌, ◌-◌, ◌^◌, eqb, length, get_or, take, drop, if◌then◌else◌, Option, None, Some}
 use Rattle.model.specs.Instant.{epoch}
 use Rattle.model.specs.Tzif.{Change, Table, type_size, header_size}
 use Rattle.big_endian.specs.Be.{be32}
@@ -8,8 +8,6 @@ use Rattle.zone_tzif_head.specs.Heads.{head_ok, head_at, second_at}
 use Rattle.zone_tzif_head.specs.declared.Head.{Head}
 use Rattle.zone_tzif_block.specs.Parts.{key_at, type_offset, kinds_at, types_at, tail_at, block_ok}
 use Rattle.zone_tzif.specs.declared.Layout.{Layout}
-use Rattle.zone_tzif.specs.declared.TzifRead.{TzifRead}
-use Rattle.zone_tzif.specs.declared.TzifRead.TheVariants as R
 
 -- ---- the file
 
@@ -34,8 +32,8 @@ unfoldable pub layout_of : List ℕ → Layout
 layout_of f = layout_at f (second_at f + header_size) (head_at f (second_at f))
 
 -- what the code answers
-unfoldable pub read_of : List ℕ → TzifRead
-read_of f = if usable f then R.Table (layout_of f) else R.Unusable
+unfoldable pub read_of : List ℕ → Option Layout
+read_of f = if usable f then Some (layout_of f) else None
 
 -- ---- what a layout says
 

@@ -39,14 +39,8 @@ pub struct OffsetBounds {
     pub greatest: u64,
 }
 
-// What `read` answers.
-#[derive(Clone, Copy)]
-pub enum TzifRead {
-    Table(Layout),
-    Unusable,
-}
-
 // The layout of the block that starts at b and has the header h.
+#[tactic(auto, unfolding(crate::specs::Places::layout_at))]
 fn layout_at(f: &[u8], b: usize, h: Head) -> Layout
     requires { (b < blocks_end) × SmallHead h × (tail_at b h + 1 < length f.now) }
     ensures { result ≡ layout_at f.now b h }
@@ -65,24 +59,22 @@ fn layout_at(f: &[u8], b: usize, h: Head) -> Layout
 }
 
 // Where a file's table and footer stand, if the file is usable in all but its footer's text.
-pub fn read(f: &[u8]) -> TzifRead
+#[tactic(auto, unfolding(crate::specs::Places::read_of, crate::specs::Places::usable, crate::specs::Places::layout_of))]
+pub fn read(f: &[u8]) -> Option<Layout>
     ensures { result ≡ read_of f.now }
 {
-    if !zone_tzif_head::head_ok(f, 0) {
-        return TzifRead::Unusable;
-    }
     let s = zone_tzif_head::second_at(f);
-    if !zone_tzif_head::head_ok(f, s) {
-        return TzifRead::Unusable;
-    }
     let h = zone_tzif_head::head_at(f, s);
-    if big_endian::small_at(f, VERSION_AT) != h.version {
-        return TzifRead::Unusable;
+    let b = s + zone_tzif_head::HEADER_SIZE;
+    if zone_tzif_head::head_ok(f, 0)
+        && zone_tzif_head::head_ok(f, s)
+        && big_endian::small_at(f, VERSION_AT) == h.version
+        && zone_tzif_block::block_ok(f, b, h)
+    {
+        Some(layout_at(f, b, h))
+    } else {
+        None
     }
-    if !zone_tzif_block::block_ok(f, s + zone_tzif_head::HEADER_SIZE, h) {
-        return TzifRead::Unusable;
-    }
-    TzifRead::Table(layout_at(f, s + zone_tzif_head::HEADER_SIZE, h))
 }
 
 // UTC has a table without a file.
@@ -101,19 +93,17 @@ pub fn utc() -> Layout
 // ---- lookups in the table of a layout that `read` or `utc` gave
 
 // Transition i's time as a second from -10400, 0 for an earlier one.
+#[tactic(auto, using(zone_tzif_block::proofs::Numbers::key_is), unfolding(crate::specs::Places::time_at))]
 pub fn time_at(f: &[u8], l: Layout, i: usize) -> u64
     requires { Opened f.now l × (i < l.count) }
     ensures { result ≡ time_at f.now l i }
 {
     let v = big_endian::eight_at(f, l.times + zone_tzif_block::TIME_SIZE * i);
-    let k = zone_tzif_block::key_of(v);
-    if k < FIRST_KEY {
-        return 0;
-    }
-    k - FIRST_KEY
+    zone_tzif_block::key_of(v).saturating_sub(FIRST_KEY)
 }
 
 // How many transitions are at or before the second u: a search that halves what is left. Its steps do not depend on u, only what they read.
+// The library's searches by halves take a slice, and these times are read out of the file's bytes.
 fn count_by_halves(f: &[u8], l: Layout, u: u64) -> usize
     requires { Opened f.now l × (1 ≤ l.count) }
     ensures { (result ≡ count_at f.now l u) × (result ≤ l.count) }
@@ -171,8 +161,8 @@ pub fn widened(b: OffsetBounds, o: u64) -> OffsetBounds
     ensures { (result.least ≡ min b.least o) × (result.greatest ≡ max b.greatest o) }
 {
     OffsetBounds {
-        least: number::minimum(b.least, o),
-        greatest: number::maximum(b.greatest, o),
+        least: b.least.min(o),
+        greatest: b.greatest.max(o),
     }
 }
 
@@ -181,7 +171,7 @@ pub fn table_bounds(f: &[u8], l: Layout) -> OffsetBounds
     requires { Opened f.now l }
     ensures { TableBounds f.now l result }
 {
-    let first = number::u32_to_u64(l.initial);
+    let first = u64::from(l.initial);
     let mut bounds = OffsetBounds {
         least: first,
         greatest: first,
@@ -191,12 +181,10 @@ pub fn table_bounds(f: &[u8], l: Layout) -> OffsetBounds
     }
     let types = l.times + l.count * zone_tzif_block::TRANSITION_SIZE;
     let n = big_endian::size_at(f, l.times - TYPES_BEFORE);
-    let mut i: usize = 0;
-    while i < n {
+    for i in 0..n {
         let at = types + zone_tzif_head::TYPE_SIZE * i;
         let o = zone_tzif_block::offset_is(big_endian::be32_at(f, at));
-        bounds = widened(bounds, number::u32_to_u64(o));
-        i += 1;
+        bounds = widened(bounds, u64::from(o));
     }
     bounds
 }

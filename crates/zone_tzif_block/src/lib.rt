@@ -37,6 +37,7 @@ pub fn key_of(v: u64) -> u64
 }
 
 // Transition i's time with 2^63 added.
+#[tactic(auto, unfolding(crate::specs::Parts::key_at))]
 fn key_at(f: &[u8], b: usize, i: usize) -> u64
     requires { b + time_size * i < 2 ^ 64 }
     ensures { result ≡ key_at f.now b i }
@@ -49,24 +50,11 @@ fn times_rise(f: &[u8], b: usize, n: usize) -> bool
     requires { (b < places_end) × (n < words_end) }
     ensures { result ≡ times_rise f.now b n }
 {
-    if n == 0 {
-        return true;
-    }
-    let m = n - 1;
-    let mut i: usize = 0;
-    let mut last = key_at(f, b, 0);
-    while i < m {
-        i += 1;
-        let next = key_at(f, b, i);
-        if last >= next {
-            return false;
-        }
-        last = next;
-    }
-    true
+    (0..n.saturating_sub(1)).all(|i| key_at(f, b, i) < key_at(f, b, i + 1))
 }
 
 // Is byte i from `at` on below n?
+#[tactic(auto, unfolding(crate::specs::Parts::byte_below))]
 fn byte_below(f: &[u8], at: usize, n: usize, i: usize) -> bool
     requires { (at < places_end) × (i < places_end) }
     ensures { result ≡ byte_below f.now at n i }
@@ -79,17 +67,11 @@ fn bytes_below(f: &[u8], at: usize, n: usize, k: usize) -> bool
     requires { (at < places_end) × (k < places_end) }
     ensures { result ≡ all_from (byte_below f.now at n) 0 k }
 {
-    let mut i: usize = 0;
-    while i < k {
-        if !byte_below(f, at, n, i) {
-            return false;
-        }
-        i += 1;
-    }
-    true
+    (0..k).all(|i| byte_below(f, at, n, i))
 }
 
 // A type's offset as zones keep it, 0 for one below -93,599 s.
+#[tactic(auto, unfolding(crate::specs::Parts::type_offset))]
 pub fn offset_is(v: u32) -> u32
     ensures { result ≡ type_offset v }
 {
@@ -103,22 +85,15 @@ pub fn offset_is(v: u32) -> u32
 }
 
 // Is type i of those at `at` one that is allowed?
+#[tactic(auto, unfolding(crate::specs::Parts::type_fits))]
 fn type_fits(f: &[u8], at: usize, chars: usize, i: usize) -> bool
     requires { (at < places_end) × (i < places_end) }
     ensures { result ≡ type_fits f.now at chars i }
 {
     let p = at + zone_tzif_head::TYPE_SIZE * i;
-    let o = offset_is(big_endian::be32_at(f, p));
-    if o < 1 {
-        return false;
-    }
-    if o > zone_offset::GREATEST {
-        return false;
-    }
-    if big_endian::byte_at(f, p + 4) >= 2 {
-        return false;
-    }
-    big_endian::small_at(f, p + 5) < chars
+    (1..=zone_offset::GREATEST).contains(&offset_is(big_endian::be32_at(f, p)))
+        && big_endian::byte_at(f, p + 4) < 2
+        && big_endian::small_at(f, p + 5) < chars
 }
 
 // Is each of the k types at `at` allowed?
@@ -126,28 +101,18 @@ fn types_fit(f: &[u8], at: usize, chars: usize, k: usize) -> bool
     requires { (at < places_end) × (k < places_end) }
     ensures { result ≡ all_from (type_fits f.now at chars) 0 k }
 {
-    let mut i: usize = 0;
-    while i < k {
-        if !type_fits(f, at, chars, i) {
-            return false;
-        }
-        i += 1;
-    }
-    true
+    (0..k).all(|i| type_fits(f, at, chars, i))
 }
 
 // A newline at t and another one as the last byte.
+#[tactic(auto, unfolding(crate::specs::Parts::tail_ok))]
 fn tail_ok(f: &[u8], t: usize) -> bool
     requires { t < places_end }
     ensures { result ≡ tail_ok f.now t }
 {
-    if t + 1 >= f.len() {
-        return false;
-    }
-    if big_endian::byte_at(f, t) != b'\n' {
-        return false;
-    }
-    big_endian::byte_at(f, f.len() - 1) == b'\n'
+    t + 1 < f.len()
+        && big_endian::byte_at(f, t) == b'\n'
+        && big_endian::byte_at(f, f.len() - 1) == b'\n'
 }
 
 // Is each indicator 0 or 1?
@@ -164,20 +129,15 @@ fn marks_ok(f: &[u8], b: usize, h: Head) -> bool
 }
 
 // Are times, type numbers, types and indicators allowed?
+#[tactic(auto, unfolding(crate::specs::Parts::tables_ok))]
 fn tables_ok(f: &[u8], b: usize, h: Head) -> bool
     requires { (b < blocks_end) × SmallHead h }
     ensures { result ≡ tables_ok f.now b h }
 {
-    if !times_rise(f, b, h.times) {
-        return false;
-    }
-    if !bytes_below(f, b + h.times * TIME_SIZE, h.types, h.times) {
-        return false;
-    }
-    if !types_fit(f, b + h.times * TRANSITION_SIZE, h.chars, h.types) {
-        return false;
-    }
-    marks_ok(f, b, h)
+    times_rise(f, b, h.times)
+        && bytes_below(f, b + h.times * TIME_SIZE, h.types, h.times)
+        && types_fit(f, b + h.times * TRANSITION_SIZE, h.chars, h.types)
+        && marks_ok(f, b, h)
 }
 
 // Where the newline before the footer stands.
@@ -194,15 +154,10 @@ pub fn tail_at(b: usize, h: Head) -> usize
 }
 
 // Is the block usable, and are the lines about its footer?
+#[tactic(auto, unfolding(crate::specs::Parts::block_ok))]
 pub fn block_ok(f: &[u8], b: usize, h: Head) -> bool
     requires { (b < blocks_end) × SmallHead h }
     ensures { result ≡ block_ok f.now b h }
 {
-    if !zone_tzif_head::counts_ok(h) {
-        return false;
-    }
-    if !tail_ok(f, tail_at(b, h)) {
-        return false;
-    }
-    tables_ok(f, b, h)
+    zone_tzif_head::counts_ok(h) && tail_ok(f, tail_at(b, h)) && tables_ok(f, b, h)
 }

@@ -51,24 +51,18 @@ pub struct Head {
 }
 
 // Does a header stand at `at`?
+#[tactic(auto, unfolding(crate::specs::Heads::head_ok))]
 pub fn head_ok(f: &[u8], at: usize) -> bool
     requires { at < headers_end }
     ensures { result ≡ head_ok f.now at }
 {
-    if f.len() < at + HEADER_SIZE {
-        return false;
-    }
-    if big_endian::be32_at(f, at) != MAGIC {
-        return false;
-    }
-    let v = big_endian::byte_at(f, at + VERSION_AT);
-    if v < b'2' {
-        return false;
-    }
-    v <= b'3'
+    f.len() >= at + HEADER_SIZE
+        && big_endian::be32_at(f, at) == MAGIC
+        && matches!(big_endian::byte_at(f, at + VERSION_AT), b'2'..=b'3')
 }
 
 // The header at `at`.
+#[tactic(auto, unfolding(crate::specs::Heads::head_at))]
 pub fn head_at(f: &[u8], at: usize) -> Head
     requires { at < headers_end }
     ensures { (result ≡ head_at f.now at) × SmallHead result }
@@ -85,6 +79,7 @@ pub fn head_at(f: &[u8], at: usize) -> Head
 }
 
 // The place of the second header: the first data block is skipped by its own counts.
+#[tactic(auto, unfolding(crate::specs::Heads::second_at))]
 pub fn second_at(f: &[u8]) -> usize
     ensures { (result ≡ second_at f.now) × (result < headers_end) }
 {
@@ -102,33 +97,19 @@ pub fn second_at(f: &[u8]) -> usize
 fn zero_or(k: usize, n: usize) -> bool
     ensures { result ≡ zero_or k n }
 {
-    if n == 0 {
-        return true;
-    }
-    n == k
+    n == 0 || n == k
 }
 
 // Are a header's counts allowed?
+#[tactic(auto, unfolding(model::specs::Tzif::counts_ok))]
 pub fn counts_ok(h: Head) -> bool
     ensures { result ≡ counts_ok (header_is h) }
 {
-    if h.types < 1 {
-        return false;
-    }
-    if h.types > MOST_TYPES {
-        return false;
-    }
-    if h.times > MOST_TRANSITIONS {
-        return false;
-    }
-    if h.chars < 1 {
-        return false;
-    }
-    if h.leaps != 0 {
-        return false;
-    }
-    if !zero_or(h.types, h.stds) {
-        return false;
-    }
-    zero_or(h.types, h.uts)
+    1 <= h.types
+        && h.types <= MOST_TYPES
+        && h.times <= MOST_TRANSITIONS
+        && 1 <= h.chars
+        && h.leaps == 0
+        && zero_or(h.types, h.stds)
+        && zero_or(h.types, h.uts)
 }

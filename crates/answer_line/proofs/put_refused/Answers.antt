@@ -1,7 +1,8 @@
 -- `answer_line::put_refused` meets its contract.
 use Rattle.answer_line.proofs.Placing.{refused-line}
 use native.Mathlib.Omega.{arith}
+use borrow.Author.Rules.{rules}
 use Rattle.answer_line.proofs.put_refused.Goals as goal
 
 pub returns : goal.returns
-returns c = (refused-line _ _ (omega arith) _ _ c.put_letters-a.ensures c.put_size-b.ensures.0 c.put_size-c.ensures.0 c.put.ensures, omega (arith, c.put_letters-a.ensures.behind, c.put.ensures.behind))
+returns c = (refused-line _ _ (omega arith) _ _ c.letters.ensures.text c.size.ensures.text.0 c.size-2.ensures.text.0 (search rules), omega (arith, c.letters.ensures.text.behind, c.byte.ensures.text.behind))

@@ -1,9 +1,10 @@
 -- `limit` is that of the schedule, or the refusal.
+use Rattle.std.proofs.Common.{◌∙◌}
 use Rattle.bench_clock.proofs.Steps.{limit_is, limit-refused}
 use Rattle.bench_clock.proofs.limit.Goals as goal
 
-pub returns-then-r-ne0 : goal.returns-then-r-ne0
-returns-then-r-ne0 c = limit-refused _ _ _ _ c.build-r.result c.part.ensures c.build-r.ensures.means c.if-r-ne0.true
+pub returns-in-Ok : goal.returns-in-Ok
+returns-in-Ok c = limit_is _ _ _ _ c.part.ensures _ c.in-Ok.ensures.means
 
-pub returns : goal.returns
-returns c = limit_is _ _ _ _ c.build-r.result c.part.ensures c.build-r.ensures.means c.if-r-ne0.false
+pub returns-in-Err : goal.returns-in-Err
+returns-in-Err c = c.from.ensures ∙ c.number.ensures ∙ limit-refused _ _ _ _ c.part.ensures _ c.in-Err.ensures.means

@@ -1,12 +1,13 @@
 -- `period` tells what `marked_period_in` answers, without the marks.
+use Rattle.std.proofs.Common.{◌∙◌, rules}
 use mir.Facts.{to_z-of_z}
-use mir.Syntax.{w64}
-use Rattle.laws_marks.specs.Periods.{period-forgets}
-use Rattle.bench_clock.proofs.Steps.{period-four, period-no}
+use Rattle.refusal.specs.Asked.{passed_on}
+use Rattle.bench_clock.specs.Asked.{numbers_are}
+use Rattle.bench_clock.proofs.Steps.{period-given, period-refused}
 use Rattle.bench_clock.proofs.period.Goals as goal
 
-pub returns-in-Is : goal.returns-in-Is
-returns-in-Is c = period-four (rw (to_z-of_z c.ranges.a, to_z-of_z c.ranges.b) at c.marked_period_in.ensures) (period-forgets _ _ _ _) c.in-Is.is _ _ _ _ (to_z-of_z {w = w64} (record { sfits = c.in-Is.known_told-1-own.given.0.1 })) (to_z-of_z {w = w64} (record { sfits = c.in-Is.known_told-1-own.given.1.0.1 })) (to_z-of_z {w = w64} (record { sfits = c.in-Is.known_told-1-own.given.1.1.0.1 })) (to_z-of_z {w = w64} (record { sfits = c.in-Is.known_told-1-own.given.1.1.1.0.1 }))
+pub returns-in_err-x : goal.returns-in_err-x
+returns-in_err-x c = passed_on numbers_are _ _ c.from_residual.ensures.1 ∙ period-refused _ _ _ _ (rw (to_z-of_z c.ranges.a, to_z-of_z c.ranges.b) at c.in_err-x.ensures)
 
-pub returns-in-Refused : goal.returns-in-Refused
-returns-in-Refused c = period-no (rw (to_z-of_z c.ranges.a, to_z-of_z c.ranges.b) at c.marked_period_in.ensures) (period-forgets _ _ _ _) c.in-Refused.is
+pub returns : goal.returns
+returns c = let h = period-given _ _ _ _ _ (rw (to_z-of_z c.ranges.a, to_z-of_z c.ranges.b) at c.in_ok-x.ensures) in search rules

@@ -12,7 +12,7 @@ pub returns-then-x : goal.returns-then-x
 returns-then-x c = week-late _ (omega arith) (omega arith)
 
 pub total-requires : goal.total-requires
-total-requires c = let f = total-fits _ _ _ (omega arith) (omega arith) _ c.working_into-n.ensures.0 in (omega (arith, c.working_into-n.ensures.1, c.out-1.given, c.requires.1.2), f.0, f.1)
+total-requires c = let f = total-fits _ _ _ (omega arith) (omega arith) _ c.working_in-n.ensures.0 in let u = c.requires.works in let v = c.requires.pauses in let w = c.requires.closings in (omega (arith, c.working_in-n.ensures.1), f.0, f.1)
 
 pub returns : goal.returns
-returns c = week-is _ (omega arith) (omega arith) (c.total.ensures ∙ total-is _ _ _ _ c.working_into-n.ensures.0)
+returns c = week-is _ (omega arith) (omega arith) (c.total.ensures ∙ total-is _ _ _ _ c.working_in-n.ensures.0)

@@ -1,4 +1,3 @@
--- `block_marked::nothing_shown` meets its contract. Assumes nothing.
 use Rattle.block_marked.proofs.Scan.{none-shown}
 use Rattle.block_marked.proofs.nothing_shown.Goals as goal
 

@@ -1,6 +1,5 @@
 -- `block_pairs::add` meets its contract. Assumes nothing.
 use native.Mathlib.Omega.{arith}
-use Prim.Native.Nat.{◌-◌}
 use mathlib.Core.Path.{refl, sym, ◌∙◌}
 use Rattle.block_pairs.proofs.Adding.{add_none, add_apart, add-touch}
 use Rattle.block_pairs.proofs.add.Goals as goal

@@ -5,6 +5,3 @@ use Rattle.block_pairs.proofs.ended.Given as goal
 
 abbrev pub invariant-loop-i : goal.invariant-loop-i
 invariant-loop-i l = (l.i ≤ l.n) × Reach l.s (part l.i (l.n - l.i) l.l)
-
-abbrev pub decreases-loop-i : goal.decreases-loop-i
-decreases-loop-i l = l.i

@@ -1,12 +1,10 @@
--- `block_pairs::insert` meets its contract. Assumes nothing.
-use native.Mathlib.Omega.{arith}
-use Prim.Native.Nat.{◌-◌}
-use lib.ListN.{length-set}
+use Rattle.std.proofs.Common.{◌*◌, arith, length-set}
+use Rattle.block_pairs.specs.Pairs.{Raised}
+use Rattle.block_pairs.proofs.Moving.{raised}
 use Rattle.block_pairs.proofs.Adding.{inserted}
 use Rattle.block_pairs.proofs.insert.Goals as goal
 
-pub bounds-l-i-2 : goal.bounds-l-i-2
-bounds-l-i-2 c = simp length-set (omega (arith, c.raise.ensures.long))
-
 pub returns : goal.returns
-returns c = (inserted _ _ _ _ _ _ c.requires.0 c.requires.1 c.raise.ensures, omega arith, simp length-set c.raise.ensures.long)
+returns c =
+    let m : Raised c.args.l.now c.copy_within.new.self (2 * c.args.i) (2 * c.args.n) = raised _ _ _ _ c.copy_within.ensures.len c.copy_within.ensures.by_index.0 c.copy_within.ensures.by_index.1 in
+    (inserted _ _ _ _ _ _ c.requires.0 c.requires.1 m, omega arith, simp length-set c.copy_within.ensures.len)

@@ -1,5 +1,4 @@
 use native.Mathlib.Omega.{arith}
-use Prim.Native.Nat.{◌-◌}
 use Rattle.block_pairs.proofs.Cutting.{subtract-starts, subtract-order, subtract-turn, subtract-done}
 use Rattle.block_pairs.proofs.subtract.Goals as goal
 

@@ -1,10 +1,6 @@
 -- `block_pairs::subtract` meets its contract. Assumes nothing.
-use Prim.Native.Nat.{◌-◌}
 use Rattle.block_pairs.proofs.Cutting.{Subtracting}
 use Rattle.block_pairs.proofs.subtract.Given as goal
 
 abbrev pub invariant-loop-i : goal.invariant-loop-i
 invariant-loop-i l = Subtracting l.on l.n l.off l.m l.initial.out l.out l.w l.j l.i
-
-abbrev pub decreases-loop-i : goal.decreases-loop-i
-decreases-loop-i l = l.n - l.i

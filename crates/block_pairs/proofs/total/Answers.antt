@@ -1,5 +1,4 @@
 use native.Mathlib.Omega.{arith}
-use Prim.Native.Nat.{◌-◌}
 use Rattle.block_pairs.proofs.Cutting.{sum-starts, sum-order, sum_below, sum-turn, sum_done}
 use Rattle.block_pairs.proofs.total.Goals as goal
 

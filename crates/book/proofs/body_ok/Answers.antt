@@ -1,25 +1,20 @@
 -- `book::body_ok` meets its contract.
 use borrow.Author.Rules.{rules}
+use native.Mathlib.Omega.{arith}
 use Rattle.big_endian.proofs.Tests.{tests}
-use Rattle.book.proofs.Bytes.{body_test, body-says}
+use Rattle.book.proofs.Bytes.{body_test, body-says, body-hours, body-none}
 use Rattle.book.proofs.body_ok.Goals as goal
 
-pub returns-then-kind-eq-DEFAULT_ZONE : goal.returns-then-kind-eq-DEFAULT_ZONE
+pub returns-in-0 : goal.returns-in-0
 unfolding body_test
-returns-then-kind-eq-DEFAULT_ZONE c = body-says _ _ _ (search rules) (search tests)
+returns-in-0 c = body-says _ _ _ (search rules) (search (tests, c.in-0.is))
 
-pub returns-then-kind-eq-WORK : goal.returns-then-kind-eq-WORK
-unfolding body_test
-returns-then-kind-eq-WORK c = body-says _ _ _ (search rules) (search (tests, ← c.hours_ok.ensures))
+pub returns-in-1 : goal.returns-in-1
+returns-in-1 c = body-hours _ _ _ (omega arith) (omega arith) (omega arith) c.hours_ok.ensures
 
-pub returns-then-kind-eq-BREAK : goal.returns-then-kind-eq-BREAK
+pub returns-in-3 : goal.returns-in-3
 unfolding body_test
-returns-then-kind-eq-BREAK c = body-says _ _ _ (search rules) (search (tests, ← c.hours_ok-then-kind-eq-BREAK.ensures))
+returns-in-3 c = body-says _ _ _ (search rules) (search (tests, c.in-3.is, ← c.holidays_ok.ensures))
 
-pub returns-then-kind-eq-HOLIDAYS : goal.returns-then-kind-eq-HOLIDAYS
-unfolding body_test
-returns-then-kind-eq-HOLIDAYS c = body-says _ _ _ (search rules) (search (tests, ← c.holidays_ok.ensures))
-
-pub returns : goal.returns
-unfolding body_test
-returns c = body-says _ _ _ (search rules) (search tests)
+pub returns-in_default : goal.returns-in_default
+returns-in_default c = body-none _ _ _ (omega arith) (omega arith)

@@ -10,8 +10,8 @@ returns-then-l-p c = dates-says _ _ (search rules) (search tests)
 
 pub returns-then-l-p-2 : goal.returns-then-l-p-2
 unfolding holidays_test
-returns-then-l-p-2 c = dates-says _ _ (search rules) (search (tests, ← c.be16_at-n.ensures.0))
+returns-then-l-p-2 c = dates-says _ _ (search rules) (search (tests, ← c.dates_ok.ensures, ← c.be16_at-n.ensures.0))
 
-pub returns : goal.returns
+pub returns-else-l-p-2 : goal.returns-else-l-p-2
 unfolding holidays_test
-returns c = dates-says _ _ (search rules) (search (tests, ← c.dates_ok.ensures, ← c.be16_at-n.ensures.0))
+returns-else-l-p-2 c = dates-says _ _ (search rules) (search (tests, ← c.be16_at-n.ensures.0))

@@ -1,30 +1,17 @@
-use mathlib.Core.Path.{refl}
-use native.Mathlib.Omega.{arith}
-use borrow.Author.Tests.{not-true, not-false}
+-- `book_dates::dates_ok` meets its contract.
+use mathlib.Core.Path.{refl, ◌∙◌}
+use Prim.Native.Nat.{◌+◌, ◌*◌}
+use native.Mathlib.Nat.{sub-zero}
+use borrow.Author.Rules.{rules}
+use Rattle.std.proofs.lemmas.Iterator.{YieldsList-from_range}
+use Rattle.std.proofs.lemmas.Iterator.Search.{all_from_yields_List}
+use Rattle.book_dates.specs.Days.{is_day}
 use Rattle.book_dates.proofs.Reading.{days-says}
-use Rattle.book_dates.proofs.Dates.{days-no, days-yes, days-end}
+use Rattle.book_dates.proofs.Dates.{days-all}
 use Rattle.book_dates.proofs.dates_ok.Goals as goal
 
-pub loop-left-init : goal.loop-left-init
-loop-left-init c = (omega arith, refl)
-
-pub date_ok-requires : goal.date_ok-requires
-date_ok-requires c = omega arith
-
-pub returns-then-not-date_ok : goal.returns-then-not-date_ok
-returns-then-not-date_ok c = days-says _ _ _ (omega arith) (days-no _ _ c.loop-left-test.true c.loop-left.invariant.1 c.date_ok.ensures (not-true _ c.if-not-date_ok.true-raw))
-
-pub overflow_add-at : goal.overflow_add-at
-overflow_add-at c = omega arith
-
-pub overflow_sub-left : goal.overflow_sub-left
-overflow_sub-left c = omega arith
-
-pub loop-left-smaller : goal.loop-left-smaller
-loop-left-smaller c = omega arith
-
-pub loop-left-preserved : goal.loop-left-preserved
-loop-left-preserved c = (omega arith, days-yes _ _ c.loop-left-test.true c.loop-left.invariant.1 c.date_ok.ensures (not-false _ c.if-not-date_ok.false-raw))
-
 pub returns : goal.returns
-returns c = days-says _ _ _ (omega arith) (days-end _ _ c.loop-left-test.false c.loop-left.invariant.1)
+returns c =
+    days-says c.args.l.now c.args.p c.args.n c.requires
+    (all_from_yields_List (λ i. is_day c.args.l.now (c.args.p + 4 * i)) _ _ _ c.all.ensures.ran (YieldsList-from_range 0 c.args.n c.args.n refl (sub-zero c.args.n)) (λ x b q k. search rules)
+    ∙ days-all c.args.l.now c.args.p c.args.n)

@@ -6,7 +6,7 @@ use Rattle.book_dates.proofs.Words.{all-differ}
 use Rattle.book_dates.proofs.distinct_dates.Goals as goal
 
 pub returns-then-ascend : goal.returns-then-ascend
-returns-then-ascend c = (counted _ (λ (k : ℕ). (c.shared_slice_known-1.given k).fits) _ _ c.requires (all-differ _ _ _ c.ascend.ensures c.if-ascend.true), omega arith)
+returns-then-ascend c = (counted _ (λ (k : ℕ). (c.type_inv.b k).fits) _ _ c.requires (all-differ _ _ _ c.ascend.ensures c.if-ascend.true), omega arith)
 
-pub returns : goal.returns
-returns c = (counted _ (λ (k : ℕ). (c.shared_slice_known-1.given k).fits) _ _ c.requires c.marked_count.ensures.0, c.marked_count.ensures.1)
+pub returns-else-ascend : goal.returns-else-ascend
+returns-else-ascend c = (counted _ (λ (k : ℕ). (c.type_inv.b k).fits) _ _ c.requires c.marked_count.ensures.0, c.marked_count.ensures.1)

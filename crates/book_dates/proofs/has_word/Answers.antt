@@ -1,28 +1,16 @@
-use mathlib.Core.Path.{refl}
-use native.Mathlib.Omega.{arith}
-use Rattle.book_dates.proofs.Words.{among-yes, among-no, among-end}
+-- `book_dates::has_word` meets its contract.
+use mathlib.Core.Path.{refl, ◌∙◌}
+use Prim.Native.Nat.{◌+◌, ◌*◌}
+use native.Mathlib.Nat.{sub-zero}
+use borrow.Author.Rules.{rules}
+use lib.Dec.{eqb}
+use Rattle.std.proofs.lemmas.Iterator.{YieldsList-from_range}
+use Rattle.std.proofs.lemmas.Iterator.Search.{any_from_yields_List}
+use Rattle.big_endian.specs.Be.{be32}
+use Rattle.book_dates.proofs.Words.{among-any}
 use Rattle.book_dates.proofs.has_word.Goals as goal
 
-pub loop-left-init : goal.loop-left-init
-loop-left-init c = (omega arith, refl)
-
-pub four_at-requires : goal.four_at-requires
-four_at-requires c = omega arith
-
-pub returns-then-w-four_at : goal.returns-then-w-four_at
-returns-then-w-four_at c = among-yes _ _ c.args.w c.loop-left-test.true c.loop-left.invariant.1 c.four_at.ensures c.if-w-four_at.true
-
-pub overflow_add-at : goal.overflow_add-at
-overflow_add-at c = omega arith
-
-pub overflow_sub-left : goal.overflow_sub-left
-overflow_sub-left c = omega arith
-
-pub loop-left-smaller : goal.loop-left-smaller
-loop-left-smaller c = omega arith
-
-pub loop-left-preserved : goal.loop-left-preserved
-loop-left-preserved c = (omega arith, among-no _ _ c.args.w c.loop-left-test.true c.loop-left.invariant.1 c.four_at.ensures c.if-w-four_at.false)
-
 pub returns : goal.returns
-returns c = among-end _ _ c.args.w c.loop-left-test.false c.loop-left.invariant.1
+returns c =
+    any_from_yields_List (λ i. eqb c.args.w (be32 c.args.b.now (c.args.p + 4 * i))) _ _ _ c.any.ensures.ran (YieldsList-from_range 0 c.args.n c.args.n refl (sub-zero c.args.n)) (λ x b q k. search rules)
+    ∙ among-any c.args.b.now c.args.p c.args.w c.args.n

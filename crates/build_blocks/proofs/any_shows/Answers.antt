@@ -1,5 +1,4 @@
 use mathlib.Core.Path.{◌≡◌, sym, ◌∙◌}
-use Prim.Native.Nat.{◌-◌}
 use native.Mathlib.Omega.{arith}
 use lib.ListN.{length}
 use Rattle.laws_base.specs.Every.{every_front}
@@ -10,9 +9,6 @@ use Rattle.build_blocks.proofs.any_shows.Goals as goal
 pub loop-i-init : goal.loop-i-init
 loop-i-init c = let k : length c.args.rules ≡ 16 = c.well_formed.0.1.0.1 in rules-start _ _ _ _ _ (omega (arith, c.requires.0))
 
-pub offset_bounds-rules-i : goal.offset_bounds-rules-i
-offset_bounds-rules-i c = omega (arith, c.requires.0, c.loop-i-test.true)
-
 pub bounds-rules-i : goal.bounds-rules-i
 bounds-rules-i c = omega (arith, c.requires.0, c.loop-i-test.true)
 
@@ -21,12 +17,6 @@ shows-requires c = (every_front (RuleFits _) _ _ _ _ c.loop-i-test.true c.loop-i
 
 pub returns-then-shows : goal.returns-then-shows
 returns-then-shows c = rule-shows-any _ _ _ _ _ _ c.loop-i.invariant c.loop-i-test.true _ (sym c.shows.ensures ∙ c.if-shows.true)
-
-pub overflow_add-i : goal.overflow_add-i
-overflow_add-i c = omega (arith, c.requires.0, c.loop-i-test.true)
-
-pub loop-i-smaller : goal.loop-i-smaller
-loop-i-smaller c = omega (arith, c.loop-i-test.true)
 
 pub loop-i-preserved : goal.loop-i-preserved
 loop-i-preserved c = rule-passed _ _ _ _ _ _ c.loop-i.invariant c.loop-i-test.true _ (sym c.shows.ensures ∙ c.if-shows.false)

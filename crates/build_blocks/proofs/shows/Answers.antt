@@ -1,10 +1,9 @@
 use mathlib.Core.Path.{sym, ◌∙◌, ap}
-use Prim.Native.Nat.{◌-◌}
 use native.Mathlib.Omega.{arith}
 use mir.Facts.{to_z-of_z}
 use Rattle.laws_calendar.specs.Numbers.{is-fits, day-bits, bits-day}
 use Rattle.build_blocks.specs.Shown.{any_block}
-use Rattle.build_blocks.proofs.Any.{passed-starts, date-shows, date-passed, dates-passed, dates-all}
+use Rattle.build_blocks.proofs.Any.{some_any, passed-starts, date-shows, date-passed, dates-passed, dates-all}
 use Rattle.build_blocks.proofs.shows.Goals as goal
 
 pub shifts_of-x-requires : goal.shifts_of-x-requires
@@ -20,27 +19,21 @@ pub later-requires : goal.later-requires
 later-requires c = let q = c.shifts_of-x.ensures.dates in let a = day-bits (is-fits q.first-number) in let b = day-bits (is-fits q.last-number) in
     rw (to_z-of_z (is-fits q.first-number)) (q.first-number, omega (arith, q.high, c.day_count-count.ensures, c.loop-k-test.true))
 
-pub shows_at-requires : goal.shows_at-requires
-shows_at-requires c = let q = c.shifts_of-x.ensures.dates in let a = day-bits (is-fits q.first-number) in let b = day-bits (is-fits q.last-number) in
+pub piece_on-requires : goal.piece_on-requires
+piece_on-requires c = let q = c.shifts_of-x.ensures.dates in let a = day-bits (is-fits q.first-number) in let b = day-bits (is-fits q.last-number) in
     let n = c.day_count-count.ensures in let l = c.loop-k-test.true in let t = bits-day c.later.ensures (omega (arith, q.high)) in
     (c.requires.0, c.requires.1, c.shifts_of-x.ensures, omega arith, omega arith)
 
-pub returns-then-shows_at : goal.returns-then-shows_at
-returns-then-shows_at c = let q = c.shifts_of-x.ensures.dates in let a = day-bits (is-fits q.first-number) in let b = day-bits (is-fits q.last-number) in
+pub returns-then-is_some : goal.returns-then-is_some
+returns-then-is_some c = let q = c.shifts_of-x.ensures.dates in let a = day-bits (is-fits q.first-number) in let b = day-bits (is-fits q.last-number) in
     let n = c.day_count-count.ensures in let l = c.loop-k-test.true in let t = bits-day c.later.ensures (omega (arith, q.high)) in
-    date-shows _ _ _ _ _ _ c.loop-k.invariant l (sym (rw t at c.shows_at.ensures) ∙ c.if-shows_at.true)
+    date-shows _ _ _ _ _ _ c.loop-k.invariant l (sym (c.is_some.ensures ∙ some_any _ _ _ _ (rw t at c.piece_on.ensures)) ∙ c.if-is_some.true)
     ∙ rw (n, a, b) (ap any_block (dates-all _ _ _ _ q))
-
-pub overflow_add-k : goal.overflow_add-k
-overflow_add-k c = omega (arith, c.loop-k-test.true, c.day_count-count.type_inv)
-
-pub loop-k-smaller : goal.loop-k-smaller
-loop-k-smaller c = omega (arith, c.loop-k-test.true)
 
 pub loop-k-preserved : goal.loop-k-preserved
 loop-k-preserved c = let q = c.shifts_of-x.ensures.dates in let a = day-bits (is-fits q.first-number) in let b = day-bits (is-fits q.last-number) in
     let n = c.day_count-count.ensures in let l = c.loop-k-test.true in let t = bits-day c.later.ensures (omega (arith, q.high)) in
-    date-passed _ _ _ _ _ _ c.loop-k.invariant l (sym (rw t at c.shows_at.ensures) ∙ c.if-shows_at.false)
+    date-passed _ _ _ _ _ _ c.loop-k.invariant l (sym (c.is_some.ensures ∙ some_any _ _ _ _ (rw t at c.piece_on.ensures)) ∙ c.if-is_some.false)
 
 pub returns : goal.returns
 returns c = let q = c.shifts_of-x.ensures.dates in let a = day-bits (is-fits q.first-number) in let b = day-bits (is-fits q.last-number) in

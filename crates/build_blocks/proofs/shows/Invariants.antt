@@ -1,5 +1,4 @@
 -- `build_blocks::shows` meets its contract. Assumes nothing.
-use Prim.Native.Nat.{◌-◌}
 use Rattle.model.specs.DayNumber.{day_of}
 use Rattle.instant.specs.Instant.{nanos}
 use Rattle.rule.specs.Rules.{rule_is}
@@ -8,6 +7,3 @@ use Rattle.build_blocks.proofs.shows.Given as goal
 
 abbrev pub invariant-loop-k : goal.invariant-loop-k
 invariant-loop-k l = Passed (rule_is l.pack l.r) (nanos l.lo) (nanos l.hi) (day_of l.first) l.count l.k
-
-abbrev pub decreases-loop-k : goal.decreases-loop-k
-decreases-loop-k l = l.count - l.k

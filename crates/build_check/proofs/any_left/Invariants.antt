@@ -1,10 +1,6 @@
--- `build_check::any_left` meets its contract. Assumes nothing.
-use Prim.Native.Nat.{◌+◌, ◌-◌}
+-- The blocks in front of the present one are taken whole.
 use Rattle.build_check.proofs.Lefts.{Passing}
 use Rattle.build_check.proofs.any_left.Given as goal
 
-abbrev pub invariant-loop-i : goal.invariant-loop-i
-invariant-loop-i l = Passing l.on.items l.n l.off.items l.m l.i l.j
-
-abbrev pub decreases-loop-i : goal.decreases-loop-i
-decreases-loop-i l = (l.n - l.i) + (l.m - l.j)
+abbrev pub invariant-loop-x : goal.invariant-loop-x
+invariant-loop-x l = Passing l.on l.off l.x-index

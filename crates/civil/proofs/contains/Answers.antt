@@ -1,10 +1,11 @@
 -- `civil::contains` meets its contract.
-use native.Mathlib.Omega.{arith}
+use Rattle.std.proofs.Common.{◌∙◌, arith}
+use borrow.Author.Tests.{lt-leb}
 use Rattle.civil.specs.DateLaws.{past, masked}
 use Rattle.civil.proofs.contains.Goals as goal
 
-pub returns-then-day-gt7 : goal.returns-then-day-gt7
-returns-then-day-gt7 c = past _ _ (omega arith) c.if-day-gt7.true
+pub returns-then-day-le7 : goal.returns-then-day-le7
+returns-then-day-le7 c = rw c.bit.ensures (masked _ _ (omega arith) (omega arith))
 
-pub returns : goal.returns
-returns c = rw c.bit.ensures (masked _ _ (omega arith) (omega arith))
+pub returns-else-day-le7 : goal.returns-else-day-le7
+returns-else-day-le7 c = lt-leb _ _ c.if-day-le7.false ∙ past _ _ (omega arith) (omega arith)

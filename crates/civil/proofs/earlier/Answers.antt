@@ -1,7 +1,6 @@
 -- `civil::earlier` meets its contract.
 use mathlib.Core.Path.{◌∙◌}
 use native.Mathlib.Omega.{arith}
-use Prim.Native.Nat.{◌-◌}
 use mir.Syntax.{w32}
 use mir.Facts.{to_z-of_z, to_z_pos}
 use Rattle.laws_calendar.specs.Numbers.{take-is, number_fits}

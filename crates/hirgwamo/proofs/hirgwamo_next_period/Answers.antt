@@ -1,24 +1,21 @@
 -- `hirgwamo_next_period` meets its contract.
-use mir.Facts.{to_z-of_z}
-use mir.Syntax.{w64}
-use native.Mathlib.Omega.{arith}
-use mathlib.Core.Path.{sym, ap, ◌∙◌}
+use Rattle.std.proofs.Common.{rules}
+use Rattle.std.proofs.Common.{sym, ap, ◌∙◌, arith, to_z-of_z}
+use Rattle.model.specs.Walk.{on}
+use Rattle.laws_marks.specs.Periods.{unmarked_period, next-forgets}
+use Rattle.laws_part.specs.Replies.{period-fits}
 use Rattle.answer_numbers.specs.Written.{stored, no_more}
 use Rattle.hirgwamo.proofs.Told as T
-use Rattle.laws_part.specs.Replies.{period-fits}
-use Rattle.schedule_periods.specs.Replies.{marked_period_is}
-use Rattle.laws_marks.specs.Periods.{unmarked_period, next-forgets}
-use Rattle.model.specs.Walk.{on}
 use Rattle.hirgwamo.proofs.hirgwamo_next_period.Goals as goal
 
 pub returns-then-answer-lt-PERIOD_SIZE : goal.returns-then-answer-lt-PERIOD_SIZE
 returns-then-answer-lt-PERIOD_SIZE c = T.too_short_lem _ _ _ c.if-answer-lt-PERIOD_SIZE.true
 
 pub refuse-requires : goal.refuse-requires
-refuse-requires c = let h = T.said-place (period-fits _ _ on _ _) (sym (next-forgets _ _ _ _) ∙ ap unmarked_period (sym c.next_period.ensures ∙ ap marked_period_is c.in-Refused.is)) in (omega arith, omega arith)
+refuse-requires c = let h = T.said-place (period-fits _ _ on _ _) (sym (next-forgets _ _ _ _) ∙ ap unmarked_period (sym c.in-Err.ensures)) in (omega arith, omega arith)
 
-pub returns-in-Is : goal.returns-in-Is
-returns-in-Is c = T.told _ _ _ c.if-answer-lt-PERIOD_SIZE.false (T.numbers (stored (to_z-of_z {w = w64} (record { sfits = c.in-Is.known_told-1-own.given.0.1 })) (stored (to_z-of_z {w = w64} (record { sfits = c.in-Is.known_told-1-own.given.1.0.1 })) (stored (to_z-of_z {w = w64} (record { sfits = c.in-Is.known_told-1-own.given.1.1.0.1 })) (stored (to_z-of_z {w = w64} (record { sfits = c.in-Is.known_told-1-own.given.1.1.1.0.1 })) no_more)))) ∙ sym (ap (λ r. unmarked_period (marked_period_is r)) c.in-Is.is) ∙ ap unmarked_period (rw (to_z-of_z c.ranges.sec, to_z-of_z c.ranges.ns) at c.next_period.ensures) ∙ next-forgets _ _ _ _) c.give_four.ensures
+pub returns-in-Ok : goal.returns-in-Ok
+returns-in-Ok c = T.told _ _ _ c.if-answer-lt-PERIOD_SIZE.false (T.numbers (stored (search rules) (stored (search rules) (stored (search rules) (stored (search rules) no_more)))) ∙ (ap unmarked_period (rw (to_z-of_z c.ranges.sec, to_z-of_z c.ranges.ns) at c.in-Ok.ensures) ∙ next-forgets _ _ _ _)) c.give.ensures
 
-pub returns-in-Refused : goal.returns-in-Refused
-returns-in-Refused c = T.told _ _ _ c.if-answer-lt-PERIOD_SIZE.false (sym (ap (λ r. unmarked_period (marked_period_is r)) c.in-Refused.is) ∙ ap unmarked_period (rw (to_z-of_z c.ranges.sec, to_z-of_z c.ranges.ns) at c.next_period.ensures) ∙ next-forgets _ _ _ _) c.refuse.ensures
+pub returns-in-Err : goal.returns-in-Err
+returns-in-Err c = T.told _ _ _ c.if-answer-lt-PERIOD_SIZE.false (ap unmarked_period (rw (to_z-of_z c.ranges.sec, to_z-of_z c.ranges.ns) at c.in-Err.ensures) ∙ next-forgets _ _ _ _) c.refuse.ensures

@@ -3,11 +3,11 @@ use native.Mathlib.Omega.{arith}
 use Rattle.query_line.proofs.Feeding.{digit-large, digit-goes-on}
 use Rattle.query_line.proofs.digit.Goals as goal
 
-pub returns-then-f-gt-DIGIT_FITS : goal.returns-then-f-gt-DIGIT_FITS
-returns-then-f-gt-DIGIT_FITS c = λ s. digit-large _ s _ (omega arith) (omega arith) (omega arith)
+pub returns-then-n-gt-DIGIT_FITS : goal.returns-then-n-gt-DIGIT_FITS
+returns-then-n-gt-DIGIT_FITS c = λ s. digit-large c.args.f s c.args.x (omega arith) (omega arith) (omega (arith, c.unwrap_or-n.ensures))
 
-pub returns-then-value-gt-HALF : goal.returns-then-value-gt-HALF
-returns-then-value-gt-HALF c = λ s. digit-large _ s _ (omega arith) (omega arith) c.if-value-gt-HALF.true
+pub returns-then-n-gt-HALF : goal.returns-then-n-gt-HALF
+returns-then-n-gt-HALF c = λ s. digit-large c.args.f s c.args.x (omega arith) (omega arith) (omega (arith, c.unwrap_or-n.ensures))
 
 pub returns : goal.returns
-returns c = λ s. digit-goes-on _ s _ (omega arith) (omega arith)
+returns c = λ s. digit-goes-on c.args.f s c.args.x (omega (arith, c.unwrap_or-n.ensures)) (omega arith) (omega arith)

@@ -1,15 +1,17 @@
 -- `query_line::name_fed` meets its contract.
-use Rattle.query_line.proofs.Feeding.{name-ended, name-goes-on, name-too-long, name-too-large}
+use mathlib.Core.Path.{refl}
+use native.Mathlib.Omega.{arith}
+use Rattle.query_line.proofs.Feeding.{name-ended, name-other, name-goes-on, name-too-long}
 use Rattle.query_line.proofs.name_fed.Goals as goal
 
-pub returns-then-x-eq-SPACE : goal.returns-then-x-eq-SPACE
-returns-then-x-eq-SPACE c = λ s. name-ended _ _ _ _ s c.byte_to_u64-x.ensures.0 _ c.if-x-eq-SPACE.true c.word_of-word.ensures
+pub returns-in_err-word : goal.returns-in_err-word
+returns-in_err-word c = λ s. rw (c.from_residual.ensures, c.if-byte-eq32.true) (name-other c.args.name s c.in_err-word.ensures)
 
-pub returns-then-n-ge-LONGEST_WORD : goal.returns-then-n-ge-LONGEST_WORD
-returns-then-n-ge-LONGEST_WORD c = λ s. name-too-long _ _ _ _ s c.byte_to_u64-x.ensures.0 c.if-x-eq-SPACE.false c.if-n-ge-LONGEST_WORD.true
+pub returns-then-byte-eq32 : goal.returns-then-byte-eq32
+returns-then-byte-eq32 c = λ s. rw c.if-byte-eq32.true (name-ended c.args.name s c.in_ok-word.ensures)
 
-pub returns-then-w-ge-BYTE_FITS : goal.returns-then-w-ge-BYTE_FITS
-returns-then-w-ge-BYTE_FITS c = λ s. name-too-large _ _ _ _ s c.byte_to_u64-x.ensures.0 c.if-x-eq-SPACE.false c.if-w-ge-BYTE_FITS.true
+pub returns-then-name-ge-LONGEST_WORD : goal.returns-then-name-ge-LONGEST_WORD
+returns-then-name-ge-LONGEST_WORD c = λ s. name-too-long c.args.name s c.args.byte c.if-byte-eq32.false (omega arith) (omega arith)
 
 pub returns : goal.returns
-returns c = λ s. name-goes-on _ _ _ _ s c.byte_to_u64-x.ensures.0 c.if-x-eq-SPACE.false
+returns c = λ s. name-goes-on c.args.name s c.args.byte _ c.if-byte-eq32.false (omega arith) refl refl

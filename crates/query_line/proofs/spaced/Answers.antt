@@ -1,13 +1,13 @@
 -- `query_line::spaced` meets its contract.
-use mathlib.Core.Path.{sym, ◌∙◌}
+use native.Mathlib.Omega.{arith}
 use Rattle.query_line.proofs.Feeding.{space-no, space-full, space-next}
 use Rattle.query_line.proofs.spaced.Goals as goal
 
-pub returns-in_default : goal.returns-in_default
-returns-in_default c = λ s. space-no _ s (sym c.in_default.is ∙ c.key_of.ensures)
+pub returns-in_err-key : goal.returns-in_err-key
+returns-in_err-key c = λ s. rw c.from_residual.ensures (space-no c.args.f s c.in_err-key.ensures)
 
 pub returns-then-f-ge3 : goal.returns-then-f-ge3
-returns-then-f-ge3 c = λ s. space-full _ s _ (sym c.in-Is.is ∙ c.key_of.ensures) c.if-f-ge3.true
+returns-then-f-ge3 c = λ s. space-full c.args.f s c.in_ok-key.ensures (omega arith)
 
 pub returns : goal.returns
-returns c = λ s. space-next _ s _ (sym c.in-Is.is ∙ c.key_of.ensures) c.if-f-ge3.false
+returns c = λ s. space-next c.args.f s c.in_ok-key.ensures (omega arith)

@@ -4,4 +4,4 @@ use Rattle.query_stream.proofs.Lines.{from_start}
 use Rattle.query_stream.proofs.begin.Goals as goal
 
 pub returns : goal.returns
-returns c = ((λ s a g. from_start a _ c.start.ensures s g), (refl, refl))
+returns c = ((λ s a g. from_start a _ (λ t k. c.start.ensures t) s g), (refl, refl))

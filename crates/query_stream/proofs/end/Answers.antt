@@ -4,7 +4,7 @@ use native.Mathlib.Omega.{arith}
 use Rattle.query_stream.proofs.end.Goals as goal
 
 pub returns-then-p : goal.returns-then-p
-returns-then-p c = (last_line _ _ _ _ _ _ _ c.if-p.true c.finish.ensures c.answer.ensures.0, c.answer.ensures.1)
+returns-then-p c = (last_line _ _ _ _ _ _ _ c.if-p.true c.query_of.ensures c.answer.ensures.0, c.answer.ensures.1)
 
 pub returns : goal.returns
 returns c = (no_line _ _ _ _ c.if-p.false, omega arith)

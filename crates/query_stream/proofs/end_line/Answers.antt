@@ -8,7 +8,7 @@ returns c =
     record {
       text = _;
       placed = c.answer-used.ensures.0;
-      same = line-ended _ _ _ c.args.p.begun _ c.start.ensures c.finish.ensures;
+      same = line-ended _ _ _ c.args.p.begun _ (λ s g. c.start.ensures s) c.query_of.ensures;
       used = c.answer-used.ensures.1;
       next = refl;
     }

@@ -3,7 +3,6 @@ use Rattle.schedule_listing.proofs.Bound.{none-begun, some-begun, product-fits}
 use Rattle.instant.specs.Instant.{nanos}
 use Prim.Native.Nat.{◌+◌, ◌*◌, ◌-◌, ◌/◌}
 use native.Mathlib.Omega.{arith}
-use borrow.Author.Rules.{rules}
 use Rattle.schedule_listing.proofs.at_most.Goals as goal
 
 pub returns-then-b-a : goal.returns-then-b-a

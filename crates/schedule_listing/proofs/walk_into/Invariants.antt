@@ -2,14 +2,12 @@
 use Rattle.schedule_listing.proofs.Windows.{Walking}
 use Rattle.rule.specs.Rules.{schedule_is}
 use Rattle.instant.specs.Instant.{InRange, nanos}
-use Rattle.block.specs.Counted.{block_of}
-use lib.ListN.{length}
+use Rattle.walk_list_week.specs.Stretched.{open_of}
 use Prim.Native.Nat.{◌-◌}
-use mathlib.Core.Path.{◌≡◌}
 use Rattle.schedule_listing.proofs.walk_into.Given as goal
 
 abbrev pub invariant-loop-s : goal.invariant-loop-s
-invariant-loop-s l = Walking (schedule_is l.book l.pack l.s) (nanos l.initial.lo) (nanos l.b) l.write l.initial.out (nanos l.lo) l.last.known (block_of l.last.block) l.last.count l.out × InRange l.lo × (length l.on ≡ length l.initial.on) × (length l.off ≡ length l.initial.off) × (length l.net ≡ length l.initial.net)
+invariant-loop-s g l = Walking (schedule_is l.book l.pack l.s) (nanos l.initial.lo) (nanos l.b) l.write l.initial.out (nanos l.lo) (open_of l.last.block) l.last.count l.out × InRange l.lo
 
 abbrev pub decreases-loop-s : goal.decreases-loop-s
-decreases-loop-s l = nanos l.b - nanos l.lo
+decreases-loop-s g l = nanos l.b - nanos l.lo

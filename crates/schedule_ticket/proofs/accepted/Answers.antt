@@ -1,7 +1,5 @@
 -- `schedule_ticket::accepted` meets its contract. Assumes nothing.
 use Rattle.schedule_ticket.proofs.Answers.{is-accepted}
-use Rattle.schedule_ticket.proofs.accepted.Reads as reads
-use Rattle.schedule_ticket.proofs.accepted.Lts as lts
 use Rattle.schedule_ticket.proofs.accepted.Goals as goal
 
 -- src/lib.rt:47:1

@@ -1,14 +1,11 @@
 -- `schedule_ticket::elapsed` meets its contract. Assumes nothing.
 use Rattle.schedule_ticket.proofs.Answers.{elapsed-held, spell, sum_fits, elapsed-running}
-use Rattle.schedule_ticket.proofs.elapsed.Reads as reads
-use Rattle.schedule_ticket.proofs.elapsed.Lts as lts
-use Rattle.instant.proofs.sum.Reads as sum-reads
-use Rattle.walk_between.proofs.between.Reads as between-reads
+use Rattle.std.proofs.Common.{rules}
 use Rattle.schedule_ticket.proofs.elapsed.Goals as goal
 
 -- src/lib.rt:66:9
-pub returns-then-k-ne-RUNNING : goal.returns-then-k-ne-RUNNING
-returns-then-k-ne-RUNNING c = elapsed-held _ _ _ c.requires.1 (c.if-k-ne-RUNNING.true)
+pub returns-then-ne : goal.returns-then-ne
+returns-then-ne c = elapsed-held _ c.args.k _ c.requires.1 (search rules)
 
 -- src/lib.rt:69:9
 pub between-spell-requires : goal.between-spell-requires
@@ -20,4 +17,4 @@ sum-requires c = sum_fits _ _ _ c.requires.1 _ c.between-spell.ensures.0 c.betwe
 
 -- src/lib.rt:60:1
 pub returns : goal.returns
-returns c = elapsed-running _ _ _ c.requires.1 _ c.between-spell.ensures.0 _ (c.if-k-ne-RUNNING.false) c.sum.ensures.0 c.sum.ensures.1
+returns c = elapsed-running _ c.args.k _ c.requires.1 _ c.between-spell.ensures.0 _ (search rules) c.sum.ensures.0 c.sum.ensures.1

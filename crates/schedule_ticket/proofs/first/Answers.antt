@@ -1,18 +1,8 @@
 -- `schedule_ticket::first` meets its contract. Assumes nothing.
 use Rattle.schedule_ticket.proofs.Answers.{first-refused, first-started}
 use borrow.Author.Tests.{not-true, not-false}
-use native.Mathlib.Omega.{arith}
 use mathlib.Core.Path.{sym, ◌∙◌}
-use Rattle.schedule_ticket.proofs.first.Reads as reads
-use Rattle.schedule_ticket.proofs.first.Lts as lts
-use Rattle.schedule_ticket.proofs.refused.Reads as refused-reads
-use Rattle.schedule_ticket.proofs.start.Reads as start-reads
-use Rattle.ticket.proofs.may_begin.Reads as may-begin-reads
 use Rattle.schedule_ticket.proofs.first.Goals as goal
-
--- src/lib.rt:116:9
-pub refused-requires : goal.refused-requires
-refused-requires c = omega arith
 
 -- src/lib.rt:116:9
 pub returns-then-not-may_begin : goal.returns-then-not-may_begin

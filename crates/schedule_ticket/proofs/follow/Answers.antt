@@ -2,15 +2,6 @@
 use Rattle.schedule_ticket.proofs.Answers.{done-range}
 use Rattle.schedule_ticket.proofs.Answers.{within-range, not-again, marks-name, goes_back, follows-hold, follows-resume, follows-mark, follows-back}
 use mathlib.Core.Path.{refl}
-use Rattle.schedule_ticket.proofs.follow.Reads as reads
-use Rattle.schedule_ticket.proofs.follow.Lts as lts
-use Rattle.schedule_ticket.proofs.accepted.Reads as accepted-reads
-use Rattle.schedule_ticket.proofs.elapsed.Reads as elapsed-reads
-use Rattle.schedule_ticket.proofs.start.Reads as start-reads
-use Rattle.ticket.proofs.held.Reads as held_reads
-use Rattle.ticket.proofs.marked.Reads as marked-reads
-use Rattle.ticket.proofs.resumed.Reads as resumed-reads
-use Rattle.ticket.proofs.set_back.Reads as set-back-reads
 use Rattle.schedule_ticket.proofs.follow.Goals as goal
 
 -- src/lib.rt:89:26

@@ -1,10 +1,6 @@
 -- `schedule_ticket::start` meets its contract. Assumes nothing.
 use Rattle.schedule_ticket.proofs.Answers.{no-time-within, accepts-as}
 use mathlib.Core.Option.{some}
-use Rattle.schedule_ticket.proofs.start.Reads as reads
-use Rattle.schedule_ticket.proofs.start.Lts as lts
-use Rattle.schedule_ticket.proofs.accepted.Reads as accepted-reads
-use Rattle.ticket.proofs.started.Reads as started-reads
 use Rattle.schedule_ticket.proofs.start.Goals as goal
 
 -- src/lib.rt:80:5

@@ -1,23 +1,13 @@
-use Rattle.test_replay_lists.specs.Compared.{is_mark}
+-- `test_replay_lists::marked_from`: one number decides, or those behind it do.
 use Rattle.big_endian.proofs.Walk.{all-no, all_yes, all_end}
-use mathlib.Core.Path.{refl}
-use native.Mathlib.Omega.{arith}
+use Rattle.test_replay_lists.specs.Compared.{is_mark}
 use Rattle.test_replay_lists.proofs.marked_from.Goals as goal
 
-pub loop-i-init : goal.loop-i-init
-loop-i-init c = refl
-
 pub returns-then-not-marked_at : goal.returns-then-not-marked_at
-returns-then-not-marked_at c = all-no (is_mark c.args.out.now) (c.loop-i-test.true) (c.loop-i.invariant) (c.marked_at.ensures) c.if-not-marked_at.true
-
-pub overflow_add-i : goal.overflow_add-i
-overflow_add-i c = let h = c.loop-i-test.true in omega arith
-
-pub loop-i-smaller : goal.loop-i-smaller
-loop-i-smaller c = let h = c.loop-i-test.true in omega arith
+returns-then-not-marked_at c = all-no (is_mark c.args.out.now) c.loop-i-test.true c.loop-i.invariant c.marked_at.ensures c.if-not-marked_at.true
 
 pub loop-i-preserved : goal.loop-i-preserved
-loop-i-preserved c = all_yes (is_mark c.args.out.now) (c.loop-i-test.true) (c.loop-i.invariant) (c.marked_at.ensures) c.if-not-marked_at.false
+loop-i-preserved c = all_yes (is_mark c.args.out.now) c.loop-i-test.true c.loop-i.invariant c.marked_at.ensures c.if-not-marked_at.false
 
 pub returns : goal.returns
-returns c = all_end (is_mark c.args.out.now) (c.loop-i-test.false) (c.loop-i.invariant)
+returns c = all_end (is_mark c.args.out.now) c.loop-i-test.false c.loop-i.invariant

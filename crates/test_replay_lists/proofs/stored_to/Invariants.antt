@@ -1,12 +1,8 @@
--- `test_replay_lists::stored_to` meets its contract. Assumes nothing.
-use Rattle.test_replay_lists.specs.Compared.{is_stored}
+-- The numbers that are left decide.
+use Rattle.std.proofs.Common.{◌≡◌, ◌-◌}
 use Rattle.big_endian.specs.Walk.{all_from}
-use Prim.Native.Nat.{◌-◌}
-use mathlib.Core.Path.{◌≡◌}
+use Rattle.test_replay_lists.specs.Compared.{is_stored}
 use Rattle.test_replay_lists.proofs.stored_to.Given as goal
 
 abbrev pub invariant-loop-i : goal.invariant-loop-i
 invariant-loop-i l = all_from (is_stored l.out l.q) l.i (l.n - l.i) ≡ all_from (is_stored l.out l.q) 0 l.n
-
-abbrev pub decreases-loop-i : goal.decreases-loop-i
-decreases-loop-i l = l.n - l.i

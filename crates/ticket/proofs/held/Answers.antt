@@ -1,7 +1,5 @@
 -- `ticket::held` meets its contract. Assumes nothing.
 use Rattle.ticket.specs.Sound.{held-becomes}
-use Rattle.ticket.proofs.held.Reads as reads
-use Rattle.ticket.proofs.held.Lts as lts
 use Rattle.ticket.proofs.held.Goals as goal
 
 -- src/lib.rt:148:1

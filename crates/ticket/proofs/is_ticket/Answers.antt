@@ -1,31 +1,22 @@
 -- `ticket::is_ticket` meets its contract. Assumes nothing.
-use Rattle.ticket.specs.Sound.{instant-in, sound-state, sound-last, sound-since, sound-order, sound-done, sound-count, sound-marks}
+use Rattle.ticket.specs.Sound.{instant-in, sound-last, sound-since, sound-order, sound-done, sound-count, sound-marks}
 use borrow.Author.Tests.{not-true, not-false}
 use mathlib.Core.Path.{sym, ◌∙◌}
 use native.Mathlib.Omega.{arith}
-use Rattle.ticket.proofs.is_ticket.Reads as reads
-use Rattle.ticket.proofs.is_ticket.Lts as lts
-use Rattle.instant.proofs.precedes.Reads as precedes-reads
-use Rattle.ticket.proofs.is_instant.Reads as is-instant-reads
-use Rattle.ticket_marks.proofs.are_marks.Reads as are-marks-reads
-use Rattle.ticket_marks.proofs.is_within.Reads as is-within-reads
 use Rattle.ticket.proofs.is_ticket.Goals as goal
 
 -- src/lib.rt:83:9
-pub returns-then-k-gt-HELD : goal.returns-then-k-gt-HELD
-returns-then-k-gt-HELD c = sound-state _ (c.if-k-gt-HELD.true)
-
 -- src/lib.rt:86:9
 pub returns-then-not-is_instant : goal.returns-then-not-is_instant
-returns-then-not-is_instant c = sound-last _ (omega (arith, c.if-k-gt-HELD.false)) (sym (c.is_instant.ensures) ∙ not-true _ (c.if-not-is_instant.true-raw))
+returns-then-not-is_instant c = sound-last _ (sym (c.is_instant.ensures) ∙ not-true _ (c.if-not-is_instant.true-raw))
 
 -- src/lib.rt:89:9
 pub returns-then-not-is_instant-2 : goal.returns-then-not-is_instant-2
-returns-then-not-is_instant-2 c = sound-since _ (omega (arith, c.if-k-gt-HELD.false)) (sym (c.is_instant.ensures) ∙ not-false _ (c.if-not-is_instant.false-raw)) (sym (c.is_instant-2.ensures) ∙ not-true _ (c.if-not-is_instant-2.true-raw))
+returns-then-not-is_instant-2 c = sound-since _ (sym (c.is_instant.ensures) ∙ not-false _ (c.if-not-is_instant.false-raw)) (sym (c.is_instant-2.ensures) ∙ not-true _ (c.if-not-is_instant-2.true-raw))
 
 -- src/lib.rt:92:9
 pub returns-then-precedes : goal.returns-then-precedes
-returns-then-precedes c = sound-order _ (omega (arith, c.if-k-gt-HELD.false)) (sym (c.is_instant.ensures) ∙ not-false _ (c.if-not-is_instant.false-raw)) (sym (c.is_instant-2.ensures) ∙ not-false _ (c.if-not-is_instant-2.false-raw)) (sym (c.precedes.ensures) ∙ c.if-precedes.true)
+returns-then-precedes c = sound-order _ (sym (c.is_instant.ensures) ∙ not-false _ (c.if-not-is_instant.false-raw)) (sym (c.is_instant-2.ensures) ∙ not-false _ (c.if-not-is_instant-2.false-raw)) (sym (c.precedes.ensures) ∙ c.if-precedes.true)
 
 -- src/lib.rt:94:9
 pub is_within-requires : goal.is_within-requires
@@ -33,11 +24,11 @@ is_within-requires c = instant-in _ (sym (c.is_instant-2.ensures) ∙ not-false 
 
 -- src/lib.rt:95:9
 pub returns-then-not-is_within : goal.returns-then-not-is_within
-returns-then-not-is_within c = sound-done _ (omega (arith, c.if-k-gt-HELD.false)) (sym (c.is_instant.ensures) ∙ not-false _ (c.if-not-is_instant.false-raw)) (sym (c.is_instant-2.ensures) ∙ not-false _ (c.if-not-is_instant-2.false-raw)) (sym (c.precedes.ensures) ∙ c.if-precedes.false) (sym (c.is_within.ensures) ∙ not-true _ (c.if-not-is_within.true-raw))
+returns-then-not-is_within c = sound-done _ (sym (c.is_instant.ensures) ∙ not-false _ (c.if-not-is_instant.false-raw)) (sym (c.is_instant-2.ensures) ∙ not-false _ (c.if-not-is_instant-2.false-raw)) (sym (c.precedes.ensures) ∙ c.if-precedes.false) (sym (c.is_within.ensures) ∙ not-true _ (c.if-not-is_within.true-raw))
 
 -- src/lib.rt:98:9
 pub returns-then-marks-gt-CAPACITY : goal.returns-then-marks-gt-CAPACITY
-returns-then-marks-gt-CAPACITY c = sound-count _ (omega (arith, c.if-k-gt-HELD.false)) (sym (c.is_instant.ensures) ∙ not-false _ (c.if-not-is_instant.false-raw)) (sym (c.is_instant-2.ensures) ∙ not-false _ (c.if-not-is_instant-2.false-raw)) (sym (c.precedes.ensures) ∙ c.if-precedes.false) (sym (c.is_within.ensures) ∙ not-false _ (c.if-not-is_within.false-raw)) (c.if-marks-gt-CAPACITY.true)
+returns-then-marks-gt-CAPACITY c = sound-count _ (sym (c.is_instant.ensures) ∙ not-false _ (c.if-not-is_instant.false-raw)) (sym (c.is_instant-2.ensures) ∙ not-false _ (c.if-not-is_instant-2.false-raw)) (sym (c.precedes.ensures) ∙ c.if-precedes.false) (sym (c.is_within.ensures) ∙ not-false _ (c.if-not-is_within.false-raw)) (c.if-marks-gt-CAPACITY.true)
 
 -- src/lib.rt:100:5
 pub are_marks-requires : goal.are_marks-requires
@@ -45,4 +36,4 @@ are_marks-requires c = (omega (arith, c.if-marks-gt-CAPACITY.false), instant-in 
 
 -- src/lib.rt:75:1
 pub returns : goal.returns
-returns c = c.are_marks.ensures ∙ sound-marks _ (omega (arith, c.if-k-gt-HELD.false)) (sym (c.is_instant.ensures) ∙ not-false _ (c.if-not-is_instant.false-raw)) (sym (c.is_instant-2.ensures) ∙ not-false _ (c.if-not-is_instant-2.false-raw)) (sym (c.precedes.ensures) ∙ c.if-precedes.false) (sym (c.is_within.ensures) ∙ not-false _ (c.if-not-is_within.false-raw)) (omega (arith, c.if-marks-gt-CAPACITY.false))
+returns c = c.are_marks.ensures ∙ sound-marks _ (sym (c.is_instant.ensures) ∙ not-false _ (c.if-not-is_instant.false-raw)) (sym (c.is_instant-2.ensures) ∙ not-false _ (c.if-not-is_instant-2.false-raw)) (sym (c.precedes.ensures) ∙ c.if-precedes.false) (sym (c.is_within.ensures) ∙ not-false _ (c.if-not-is_within.false-raw)) (omega (arith, c.if-marks-gt-CAPACITY.false))

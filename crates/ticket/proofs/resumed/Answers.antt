@@ -1,7 +1,5 @@
 -- `ticket::resumed` meets its contract. Assumes nothing.
 use Rattle.ticket.specs.Sound.{resumed-becomes}
-use Rattle.ticket.proofs.resumed.Reads as reads
-use Rattle.ticket.proofs.resumed.Lts as lts
 use Rattle.ticket.proofs.resumed.Goals as goal
 
 -- src/lib.rt:163:1

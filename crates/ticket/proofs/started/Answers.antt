@@ -1,8 +1,5 @@
 -- `ticket::started` meets its contract. Assumes nothing.
 use Rattle.ticket.specs.Sound.{started-becomes}
-use Rattle.ticket.proofs.started.Reads as reads
-use Rattle.ticket.proofs.started.Lts as lts
-use Rattle.ticket_marks.proofs.no_marks.Reads as no-marks-reads
 use Rattle.ticket.proofs.started.Goals as goal
 
 -- src/lib.rt:132:1

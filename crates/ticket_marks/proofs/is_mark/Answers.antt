@@ -1,15 +1,11 @@
 -- `ticket_marks::is_mark` meets its contract. Assumes nothing.
+use Rattle.std.proofs.Common.{◌∙◌}
+use borrow.Author.Tests.{le-ltb}
 use Rattle.ticket_marks.specs.Laws.{mark-no, mark-by}
-use native.Mathlib.Omega.{arith}
-use Rattle.ticket_marks.proofs.is_mark.Reads as reads
-use Rattle.ticket_marks.proofs.is_mark.Lts as lts
-use Rattle.ticket_marks.proofs.is_within.Reads as is-within-reads
 use Rattle.ticket_marks.proofs.is_mark.Goals as goal
 
--- src/lib.rt:142:9
-pub returns-then-x-ge-NAMES : goal.returns-then-x-ge-NAMES
-returns-then-x-ge-NAMES c = mark-no _ _ (c.if-x-ge-NAMES.true)
+pub returns-then-x-lt-NAMES : goal.returns-then-x-lt-NAMES
+returns-then-x-lt-NAMES c = mark-by _ _ c.if-x-lt-NAMES.true c.is_within.ensures
 
--- src/lib.rt:137:1
-pub returns : goal.returns
-returns c = mark-by _ _ (omega (arith, c.if-x-ge-NAMES.false)) (c.is_within.ensures)
+pub returns-else-x-lt-NAMES : goal.returns-else-x-lt-NAMES
+returns-else-x-lt-NAMES c = let h = c.if-x-lt-NAMES.false in le-ltb _ _ h ∙ mark-no _ _ h

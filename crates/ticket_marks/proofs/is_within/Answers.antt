@@ -1,20 +1,11 @@
 -- `ticket_marks::is_within` meets its contract. Assumes nothing.
+use Rattle.std.proofs.Common.{◌∙◌}
+use borrow.Author.Tests.{le-ltb}
 use Rattle.ticket_marks.specs.Laws.{within-no, within_by}
-use native.Mathlib.Omega.{arith}
-use Rattle.ticket_marks.proofs.is_within.Reads as reads
-use Rattle.ticket_marks.proofs.is_within.Lts as lts
-use Rattle.instant.proofs.difference.Reads as difference-reads
-use Rattle.instant.proofs.precedes.Reads as precedes-reads
 use Rattle.ticket_marks.proofs.is_within.Goals as goal
 
--- src/lib.rt:127:9
-pub returns-then-d-ge-SECOND_32 : goal.returns-then-d-ge-SECOND_32
-returns-then-d-ge-SECOND_32 c = within-no _ _ (c.if-d-ge-SECOND_32.true)
+pub returns-then-d-lt-SECOND_32 : goal.returns-then-d-lt-SECOND_32
+returns-then-d-lt-SECOND_32 c = within_by _ _ _ c.if-d-lt-SECOND_32.true c.difference.ensures.0 c.precedes.ensures
 
--- src/lib.rt:133:24
-pub difference-requires : goal.difference-requires
-difference-requires c = omega (arith, c.requires.high, c.requires.ns)
-
--- src/lib.rt:122:1
-pub returns : goal.returns
-returns c = within_by _ _ _ (omega (arith, c.if-d-ge-SECOND_32.false)) c.difference.ensures.0 (c.precedes.ensures)
+pub returns-else-d-lt-SECOND_32 : goal.returns-else-d-lt-SECOND_32
+returns-else-d-lt-SECOND_32 c = let h = c.if-d-lt-SECOND_32.false in le-ltb _ _ h ∙ within-no _ _ h

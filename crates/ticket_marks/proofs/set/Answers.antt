@@ -3,16 +3,10 @@ use Rattle.ticket_marks.specs.Laws.{room-left}
 use mathlib.Core.List.{◌∷◌}
 use mathlib.Core.Path.{◌∙◌, ap}
 use native.Mathlib.Omega.{arith}
-use Rattle.ticket_marks.proofs.set.Reads as reads
-use Rattle.ticket_marks.proofs.set.Lts as lts
-use Rattle.ticket_marks.proofs.push.Reads as push-reads
-use Rattle.ticket_marks.proofs.without.Reads as without-reads
 use Rattle.ticket_marks.proofs.set.Goals as goal
 
--- src/lib.rt:116:5
 pub push-requires : goal.push-requires
 push-requires c = room-left _ _ _ (c.without.ensures) c.requires.1
 
--- src/lib.rt:112:1
 pub returns : goal.returns
 returns c = (c.push.ensures.0 ∙ ap (c.args.x ∷◌) (c.without.ensures), omega (arith, c.push.ensures.1, room-left _ _ _ (c.without.ensures) c.requires.1))

@@ -4,4 +4,4 @@ use Rattle.walk_distance.proofs.Near.{into-placed, placed-inside}
 use Rattle.walk_distance.proofs.window_into.Goals as goal
 
 pub returns : goal.returns
-returns c = (into-placed (way_of c.args.back) _ _ _ _ _ _ _ c.requires.1.1.order c.place-at.ensures.1 c.working_into.ensures.0, placed-inside (way_of c.args.back) _ _ _ _ _ _ _ c.requires.1.1.order c.place-at.ensures.1 c.working_into.ensures.0, c.working_into.ensures.1)
+returns g c = (into-placed (way_of c.args.back) _ _ _ _ _ _ _ c.requires.1.1.order c.place-at.ensures.1 c.working_in.ensures.0, placed-inside (way_of c.args.back) _ _ _ _ _ _ _ c.requires.1.1.order c.place-at.ensures.1 c.working_in.ensures.0, c.working_in.ensures.1)

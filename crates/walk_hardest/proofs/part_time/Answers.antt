@@ -20,7 +20,7 @@ pub returns-then-to-run : goal.returns-then-to-run
 returns-then-to-run c = part-empty (schedule_is (c.args.book.now) (c.args.pack.now) c.args.s) (nanos c.args.t) (c.args.log.now) c.args.width c.args.i c.args.k (let e = c.window_end-to.ensures in let f = c.run_at-run.ensures.0 in let h = c.if-to-run.true in omega arith)
 
 pub time_of-requires : goal.time_of-requires
-time_of-requires c = (c.requires.0.0, tail-part c.requires.0.1 c.requires.1 (let g = c.count.ensures in let h = c.if-k-count.false in let t = c.requires.1.to in omega arith) c.run_at-run.ensures.0 c.window_end-to.ensures c.if-to-run.false, c.requires.0.2)
+time_of-requires c = (c.requires.0.0, tail-part c.requires.0.1 c.requires.1 (let g = c.count.ensures in let h = c.if-k-count.false in let t = c.requires.1.to in omega arith) c.run_at-run.ensures.0 c.window_end-to.ensures c.if-to-run.false)
 
 pub returns : goal.returns
 returns c = c.time_of.ensures ∙ part-some (schedule_is (c.args.book.now) (c.args.pack.now) c.args.s) (nanos c.args.t) (c.args.log.now) c.args.width c.args.i c.args.k (let g = c.count.ensures in let h = c.if-k-count.false in let t = c.requires.1.to in omega arith) c.run_at-run.ensures.0 c.window_end-to.ensures

@@ -17,7 +17,7 @@ pub returns-then-width-run : goal.returns-then-width-run
 returns-then-width-run c = sym (whole_long _ _ c.args.log.now c.args.width c.args.j (let h = c.if-width-run.true in let a = c.run_at-run.ensures.0 in let b = c.run_at-run.ensures.1 in omega arith))
 
 pub time_of-requires : goal.time_of-requires
-time_of-requires c = (c.requires.0.0, whole_part c.requires.0.1 c.requires.1 c.run_at-run.ensures.0 c.run_at-run.ensures.1 (let h = c.if-width-run.false in omega arith), c.requires.0.2)
+time_of-requires c = (c.requires.0.0, whole_part c.requires.0.1 c.requires.1 c.run_at-run.ensures.0 c.run_at-run.ensures.1 (let h = c.if-width-run.false in omega arith))
 
 pub returns : goal.returns
 returns c = c.time_of.ensures ∙ ap₂ (log_time _ _) c.run_at-run.ensures.0 c.run_at-run.ensures.1 ∙ sym (whole-short _ _ c.args.log.now c.args.width c.args.j (let h = c.if-width-run.false in let a = c.run_at-run.ensures.0 in let b = c.run_at-run.ensures.1 in omega arith))

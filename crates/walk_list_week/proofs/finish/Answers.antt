@@ -1,17 +1,15 @@
 -- `walk_list_week::finish` meets its contract.
-use Rattle.walk_list_week.proofs.Turns.{none_open, one-room, one-open}
+use mathlib.Core.Path.{ap}
 use native.Mathlib.Omega.{arith}
-use borrow.Author.Tests.{not-true, not-false}
+use Rattle.walk_list_week.specs.Stretched.{open_of}
+use Rattle.walk_list_week.proofs.Turns.{none_open, one-room, one-open}
 use Rattle.walk_list_week.proofs.finish.Goals as goal
 
-pub returns-then-not-last : goal.returns-then-not-last
-returns-then-not-last c = none_open _ _ _ _ _ (not-true _ c.if-not-last.true)
+pub returns-in_default : goal.returns-in_default
+returns-in_default c = none_open _ _ _ _ (ap open_of c.in_default.is)
 
 pub put-requires : goal.put-requires
-put-requires c = (one-room _ _ _ _ _ (not-false _ c.if-not-last.false) c.requires.2, c.requires.0)
-
-pub overflow_add-result : goal.overflow_add-result
-overflow_add-result c = let h = c.requires.1 in omega arith
+put-requires c = (one-room _ _ _ _ _ (ap open_of c.in-Some.is) c.requires.2, rw c.in-Some.is at c.requires.0)
 
 pub returns : goal.returns
-returns c = one-open _ _ _ _ _ (not-false _ c.if-not-last.false) c.put.ensures
+returns c = one-open _ _ _ _ _ (ap open_of c.in-Some.is) c.put.ensures

@@ -13,5 +13,5 @@ at-far-requires c = (c.requires.0, far-short _ c.requires.0 c.requires.1, c.requ
 pub returns-then-back : goal.returns-then-back
 returns-then-back c = rw c.if-back.true (span-back (rw c.if-back.true at c.at-far.ensures.0) (rw c.if-back.true at c.at-near.ensures.0) c.at-far.ensures.1 c.at-near.ensures.1)
 
-pub returns : goal.returns
-returns c = rw c.if-back.false (span-on (rw c.if-back.false at c.at-near.ensures.0) (rw c.if-back.false at c.at-far.ensures.0) c.at-near.ensures.1 c.at-far.ensures.1)
+pub returns-else-back : goal.returns-else-back
+returns-else-back c = rw c.if-back.false (span-on (rw c.if-back.false at c.at-near.ensures.0) (rw c.if-back.false at c.at-far.ensures.0) c.at-near.ensures.1 c.at-far.ensures.1)

@@ -21,4 +21,4 @@ pub edge_marks-requires : goal.edge_marks-requires
 edge_marks-requires c = (c.requires.0, borders-wanted c.args.back c.border_at-near.ensures c.border_at-far.ensures c.second_if-start.ensures c.second_if-end.ensures c.requires.2.order c.requires.2.near)
 
 pub returns : goal.returns
-returns c = borders-told c.args.back c.border_at-near.ensures c.border_at-far.ensures c.second_if-start.ensures c.second_if-end.ensures _ c.window_of_start.ensures.0 c.window_of_end.ensures.0 c.edge_marks.ensures
+returns c = borders-told c.args.back c.border_at-near.ensures c.border_at-far.ensures c.second_if-start.ensures c.second_if-end.ensures _ c.edge_marks.result c.window_of_start.ensures.0 c.window_of_end.ensures.0 c.edge_marks.ensures

@@ -22,10 +22,10 @@ pub returns-in_default : goal.returns-in_default
 returns-in_default c = open-behind (spanned (goal.at.returns-in_default c).After-last_date-last) c.if-back.true c.nearest_date.ensures.1 c.in_default.is
 
 pub days_behind-requires : goal.days_behind-requires
-days_behind-requires c = (number-kept (c.nearest_date.ensures.0.number _ c.in-Day.is), (first-given (spanned (goal.at.days_behind-requires c).After-last_date-last)).0, c.requires.1.high)
+days_behind-requires c = (number-kept (c.nearest_date.ensures.0.number _ c.in-Some.is), (first-given (spanned (goal.at.days_behind-requires c).After-last_date-last)).0, c.requires.1.high)
 
 pub returns-then-back : goal.returns-then-back
-returns-then-back c = closed-behind (spanned (goal.at.returns-then-back c).After-last_date-last) c.if-back.true c.nearest_date.ensures.0 c.nearest_date.ensures.1 c.in-Day.is c.days_behind.ensures
+returns-then-back c = closed-behind (spanned (goal.at.returns-then-back c).After-last_date-last) c.if-back.true c.nearest_date.ensures.0 c.nearest_date.ensures.1 c.in-Some.is c.days_behind.ensures
 
 pub nearest_date-requires-2 : goal.nearest_date-requires-2
 nearest_date-requires-2 c = (c.requires.0.inside, (first-given (spanned (goal.at.nearest_date-requires-2 c).After-last_date-last)).0, (first-given (spanned (goal.at.nearest_date-requires-2 c).After-last_date-last)).1)
@@ -34,7 +34,7 @@ pub returns-in_default-nearest_date : goal.returns-in_default-nearest_date
 returns-in_default-nearest_date c = open-ahead (spanned (goal.at.returns-in_default-nearest_date c).After-last_date-last) c.if-back.false c.nearest_date-2.ensures.1 c.in_default-nearest_date.is (omega arith)
 
 pub days_ahead-requires : goal.days_ahead-requires
-days_ahead-requires c = (number-kept (c.nearest_date-2.ensures.0.number _ c.in-Day-nearest_date.is), (last-given (spanned (goal.at.days_ahead-requires c).After-last_date-last)).0, c.requires.2.high)
+days_ahead-requires c = (number-kept (c.nearest_date-2.ensures.0.number _ c.in-Some-nearest_date.is), (last-given (spanned (goal.at.days_ahead-requires c).After-last_date-last)).0, c.requires.2.high)
 
 pub returns : goal.returns
-returns c = closed-ahead (spanned (goal.at.returns c).After-last_date-last) c.if-back.false c.nearest_date-2.ensures.0 c.nearest_date-2.ensures.1 c.in-Day-nearest_date.is c.days_ahead.ensures
+returns c = closed-ahead (spanned (goal.at.returns c).After-last_date-last) c.if-back.false c.nearest_date-2.ensures.0 c.nearest_date-2.ensures.1 c.in-Some-nearest_date.is c.days_ahead.ensures

@@ -12,19 +12,19 @@ pub returns-in_default : goal.returns-in_default
 returns-in_default c = near-only _ _ c.requires.1 c.in_default.is
 
 pub meets-requires : goal.meets-requires
-meets-requires c = (number-kept c.requires.0, number-kept (c.requires.2.number _ c.in-Day.is))
+meets-requires c = (number-kept c.requires.0, number-kept (c.requires.2.number _ c.in-Some.is))
 
 pub returns-then-not-meets : goal.returns-then-not-meets
-returns-then-not-meets c = near-outside _ _ c.in-Day.is c.requires.1 (met-told c.args.back c.requires.0 (c.requires.2.number _ c.in-Day.is) c.meets.ensures (not-true _ c.if-not-meets.true-raw))
+returns-then-not-meets c = near-outside _ _ c.in-Some.is c.requires.1 (met-told c.args.back c.requires.0 (c.requires.2.number _ c.in-Some.is) c.meets.ensures (not-true _ c.if-not-meets.true-raw))
 
 pub returns-in_default-near : goal.returns-in_default-near
-returns-in_default-near c = near_first _ _ c.in-Day.is (met-told c.args.back c.requires.0 (c.requires.2.number _ c.in-Day.is) c.meets.ensures (not-false _ c.if-not-meets.false-raw)) c.requires.2 c.in_default-near.is
+returns-in_default-near c = near_first _ _ c.in-Some.is (met-told c.args.back c.requires.0 (c.requires.2.number _ c.in-Some.is) c.meets.ensures (not-false _ c.if-not-meets.false-raw)) c.requires.2 c.in_default-near.is
 
 pub meets-requires-2 : goal.meets-requires-2
-meets-requires-2 c = (number-kept (c.requires.1.number _ c.in-Day-near.is), number-kept (c.requires.2.number _ c.in-Day.is))
+meets-requires-2 c = (number-kept (c.requires.1.number _ c.in-Some-near.is), number-kept (c.requires.2.number _ c.in-Some.is))
 
 pub returns-then-meets : goal.returns-then-meets
-returns-then-meets c = near-further _ _ c.in-Day.is (met-told c.args.back c.requires.0 (c.requires.2.number _ c.in-Day.is) c.meets.ensures (not-false _ c.if-not-meets.false-raw)) c.in-Day-near.is c.requires.1 (met-told c.args.back (c.requires.1.number _ c.in-Day-near.is) (c.requires.2.number _ c.in-Day.is) c.meets-2.ensures c.if-meets.true)
+returns-then-meets c = near-further _ _ c.in-Some.is (met-told c.args.back c.requires.0 (c.requires.2.number _ c.in-Some.is) c.meets.ensures (not-false _ c.if-not-meets.false-raw)) c.in-Some-near.is c.requires.1 (met-told c.args.back (c.requires.1.number _ c.in-Some-near.is) (c.requires.2.number _ c.in-Some.is) c.meets-2.ensures c.if-meets.true)
 
 pub returns : goal.returns
-returns c = near-nearer _ _ c.in-Day.is (met-told c.args.back c.requires.0 (c.requires.2.number _ c.in-Day.is) c.meets.ensures (not-false _ c.if-not-meets.false-raw)) c.in-Day-near.is c.requires.2 (met-told c.args.back (c.requires.1.number _ c.in-Day-near.is) (c.requires.2.number _ c.in-Day.is) c.meets-2.ensures c.if-meets.false)
+returns c = near-nearer _ _ c.in-Some.is (met-told c.args.back c.requires.0 (c.requires.2.number _ c.in-Some.is) c.meets.ensures (not-false _ c.if-not-meets.false-raw)) c.in-Some-near.is c.requires.2 (met-told c.args.back (c.requires.1.number _ c.in-Some-near.is) (c.requires.2.number _ c.in-Some.is) c.meets-2.ensures c.if-meets.false)

@@ -1,4 +1,5 @@
-use Rattle.std.proofs.Common.{List, [], refl, ap, arith, to_z-of_z, if◌then◌else◌}
+use Rattle.std.proofs.Common.{List, [], ap, arith, to_z-of_z, ◌≡◌, ◌∙◌, ◌+◌, ◌-◌, ◌*◌, if◌then◌else◌}
+use Rattle.book.specs.Meaning.{day_at}
 use Rattle.model.specs.Basic.{is_in}
 use Rattle.model.specs.Blocks.{Block}
 use Rattle.model.specs.Working.{holiday_rule}
@@ -29,46 +30,28 @@ rank_of-requires c = let q = c.local_dates-days.ensures in rw (to_z-of_z (is-fit
 pub overflow_add-rank_of : goal.overflow_add-rank_of
 overflow_add-rank_of c = omega (arith, c.rank_of.ensures.1)
 
-pub difference-count-requires : goal.difference-count-requires
-difference-count-requires c = tt
-
-pub overflow_mul-at : goal.overflow_mul-at
-overflow_mul-at c = omega (arith, c.requires.0.inside)
-
-pub overflow_add-at : goal.overflow_add-at
-overflow_add-at c = omega (arith, c.requires.0.inside, c.well_formed)
-
-pub loop-left-init : goal.loop-left-init
-loop-left-init c = closing-starts _ _ _ _ _ _ _ _ _ c.requires.2.normal
-
-pub overflow_sub-left : goal.overflow_sub-left
-overflow_sub-left c = omega (arith, c.loop-left-test.true)
-
-pub overflow_sub-at : goal.overflow_sub-at
-overflow_sub-at c = omega (arith, c.loop-left-test.true, c.loop-left.invariant.place)
+pub loop-i-init : goal.loop-i-init
+loop-i-init c = closing-starts _ _ _ _ _ _ _ _ _ c.requires.2.normal
 
 pub rank_at-k-requires : goal.rank_at-k-requires
-rank_at-k-requires c = omega (arith, c.loop-left-test.true, c.loop-left.invariant.place, c.loop-left.invariant.upto, c.requires.0.inside)
+rank_at-k-requires c = omega (arith, c.loop-i-test.true, c.loop-i.invariant.place, c.loop-i.invariant.upto, c.requires.0.inside)
 
 pub in_ranks-requires : goal.in_ranks-requires
-in_ranks-requires c = omega (arith, c.rank_of-from.ensures.1, c.rank_of.ensures.1, c.difference-count.ensures)
+in_ranks-requires c = omega (arith, c.rank_of-from.ensures.1, c.rank_of.ensures.1, c.saturating_sub-count.ensures)
 
 pub rank_into-n-requires : goal.rank_into-n-requires
-rank_into-n-requires c = ((c.requires.0.opened, window-longer _ _ c.requires.1, c.local_dates-days.ensures, c.frame_of-f.ensures), closing-ready _ _ _ _ _ (piece-apart (holiday_rule (holidays_is c.args.book.now c.args.pack.now c.args.c)) (nanos c.args.lo) (nanos c.args.hi)) _ _ _ _ c.requires.2.normal _ _ _ _ c.loop-left.invariant (piece-short (holiday_rule (holidays_is c.args.book.now c.args.pack.now c.args.c)) (nanos c.args.lo) (nanos c.args.hi)) (few-dates _ _ _ _ _ c.requires.0.opened c.requires.1 c.local_dates-days.ensures) c.requires.2.room)
+rank_into-n-requires c = ((c.requires.0.opened, window-longer _ _ c.requires.1, c.local_dates-days.ensures, c.frame_of-f.ensures), closing-ready _ _ _ _ _ (piece-apart (holiday_rule (holidays_is c.args.book.now c.args.pack.now c.args.c)) (nanos c.args.lo) (nanos c.args.hi)) _ _ _ _ c.requires.2.normal _ _ _ _ c.loop-i.invariant (piece-short (holiday_rule (holidays_is c.args.book.now c.args.pack.now c.args.c)) (nanos c.args.lo) (nanos c.args.hi)) (few-dates _ _ _ _ _ c.requires.0.opened c.requires.1 c.local_dates-days.ensures) c.requires.2.room)
 
-pub loop-left-smaller-then-in_ranks : goal.loop-left-smaller-then-in_ranks
-loop-left-smaller-then-in_ranks c = omega (arith, c.loop-left-test.true)
+pub loop-i-preserved-then-in_ranks : goal.loop-i-preserved-then-in_ranks
+loop-i-preserved-then-in_ranks c =
+    let e : c.args.c.dates + 4 * (c.loop-i.i - 1) ≡ c.args.c.dates + 4 * c.loop-i.i - 4 = omega arith in
+    rw e (closing-turn _ _ _ _ _ (piece-apart (holiday_rule (holidays_is c.args.book.now c.args.pack.now c.args.c)) (nanos c.args.lo) (nanos c.args.hi)) _ _ _ _ c.requires.2.normal _ _ _ _ c.loop-i.invariant (omega (arith, c.loop-i-test.true)) (day_of_rank c.rank_at-k.result) (c.rank_at-k.ensures.1 ∙ ap (day_at c.args.book.now) e) _ _ (filled-same _ _ _ _ _ _ _ _ (ap (λ (l : List Block). if is_in (from_day c.local_dates-days.result) (upto_day c.local_dates-days.result) (day_of_rank c.rank_at-k.result) then l else []) (piece-any (holiday_rule (holidays_is c.args.book.now c.args.pack.now c.args.c)) _ _ _)) c.rank_into-n.ensures))
 
-pub loop-left-preserved-then-in_ranks : goal.loop-left-preserved-then-in_ranks
-loop-left-preserved-then-in_ranks c = closing-turn _ _ _ _ _ (piece-apart (holiday_rule (holidays_is c.args.book.now c.args.pack.now c.args.c)) (nanos c.args.lo) (nanos c.args.hi)) _ _ _ _ c.requires.2.normal _ _ _ _ c.loop-left.invariant (omega (arith, c.loop-left-test.true)) (day_of_rank c.rank_at-k.result) c.rank_at-k.ensures.1 _ _ (filled-same _ _ _ _ _ _ _ _ (ap (λ (l : List Block). if is_in (from_day c.local_dates-days.result) (upto_day c.local_dates-days.result) (day_of_rank c.rank_at-k.result) then l else []) (piece-any (holiday_rule (holidays_is c.args.book.now c.args.pack.now c.args.c)) _ _ _)) c.rank_into-n.ensures)
-
-pub loop-left-smaller : goal.loop-left-smaller
-loop-left-smaller c = omega (arith, c.loop-left-test.true)
-
-pub loop-left-preserved : goal.loop-left-preserved
-loop-left-preserved c = let q = c.local_dates-days.ensures in
-    closing-off _ _ _ _ _ (piece-apart (holiday_rule (holidays_is c.args.book.now c.args.pack.now c.args.c)) (nanos c.args.lo) (nanos c.args.hi)) _ _ _ _ c.requires.2.normal _ _ _ _ c.loop-left.invariant (omega (arith, c.loop-left-test.true)) _ refl (rank-not _ _ _ _ _ _ _ _ (omega (arith, q.low)) (rw (day-bits (is-fits q.first-number)) at c.rank_of-from.ensures.0) (rw (rw (day-bits (is-fits q.last-number)) at c.rank_of.ensures.0) at c.difference-count.ensures) c.rank_at-k.ensures.0 c.in_ranks.ensures c.if-in_ranks.false)
+pub loop-i-preserved : goal.loop-i-preserved
+loop-i-preserved c = let q = c.local_dates-days.ensures in
+    let e : c.args.c.dates + 4 * (c.loop-i.i - 1) ≡ c.args.c.dates + 4 * c.loop-i.i - 4 = omega arith in
+    rw e (closing-off _ _ _ _ _ (piece-apart (holiday_rule (holidays_is c.args.book.now c.args.pack.now c.args.c)) (nanos c.args.lo) (nanos c.args.hi)) _ _ _ _ c.requires.2.normal _ _ _ _ c.loop-i.invariant (omega (arith, c.loop-i-test.true)) _ (ap (day_at c.args.book.now) e) (rank-not _ _ _ _ _ _ _ _ (omega (arith, q.low)) (rw (day-bits (is-fits q.first-number)) at c.rank_of-from.ensures.0) (rw (rw (day-bits (is-fits q.last-number)) at c.rank_of.ensures.0) at c.saturating_sub-count.ensures) c.rank_at-k.ensures.0 c.in_ranks.ensures c.if-in_ranks.false))
 
 pub returns : goal.returns
 returns c = let q = c.local_dates-days.ensures in
-    filled-same _ _ _ _ _ _ _ _ (closed-shows c.args.book.now c.args.pack.now c.args.c _ _ _ _ q.first-is q.last-is) (closing-done _ _ _ _ _ (piece-apart (holiday_rule (holidays_is c.args.book.now c.args.pack.now c.args.c)) (nanos c.args.lo) (nanos c.args.hi)) _ _ _ _ c.requires.2.normal _ _ _ _ c.loop-left.invariant c.loop-left-test.false (piece-short (holiday_rule (holidays_is c.args.book.now c.args.pack.now c.args.c)) (nanos c.args.lo) (nanos c.args.hi)) (few-dates _ _ _ _ _ c.requires.0.opened c.requires.1 c.local_dates-days.ensures))
+    filled-same _ _ _ _ _ _ _ _ (closed-shows c.args.book.now c.args.pack.now c.args.c _ _ _ _ q.first-is q.last-is) (closing-done _ _ _ _ _ (piece-apart (holiday_rule (holidays_is c.args.book.now c.args.pack.now c.args.c)) (nanos c.args.lo) (nanos c.args.hi)) _ _ _ _ c.requires.2.normal _ _ _ _ c.loop-i.invariant c.loop-i-test.false (piece-short (holiday_rule (holidays_is c.args.book.now c.args.pack.now c.args.c)) (nanos c.args.lo) (nanos c.args.hi)) (few-dates _ _ _ _ _ c.requires.0.opened c.requires.1 c.local_dates-days.ensures))

@@ -1,6 +1,5 @@
 -- `window_piece::piece_into` meets its contract. Assumes nothing.
 use native.Mathlib.Omega.{arith}
-use Prim.Native.Nat.{◌-◌}
 use mathlib.Core.Path.{sym, ◌∙◌}
 use borrow.Author.Tests.{ltb-true, ltb-false}
 use Rattle.window_piece.proofs.Fills.{piece-in, piece-out}
@@ -15,11 +14,8 @@ since-b-requires c = let h = ltb-true _ _ (sym c.precedes.ensures ∙ c.if-prece
 pub add-requires : goal.add-requires
 add-requires c = (c.requires.1.normal, omega (arith, c.requires.1.room))
 
-pub shape_of-out-then-precedes : goal.shape_of-out-then-precedes
-shape_of-out-then-precedes c = c.add.ensures.2
-
 pub returns-then-precedes : goal.returns-then-precedes
 returns-then-precedes c = let h = ltb-true _ _ (sym c.precedes.ensures ∙ c.if-precedes.true) in piece-in _ _ _ _ _ _ _ c.args.x (c.requires.0.from h) c.since-a.ensures c.since-b.ensures c.add.ensures.0 c.add.ensures.1 c.add.ensures.2
 
-pub returns : goal.returns
-returns c = piece-out _ _ _ c.args.x (ltb-false _ _ (sym c.precedes.ensures ∙ c.if-precedes.false)) c.requires.1.normal
+pub returns-else-precedes : goal.returns-else-precedes
+returns-else-precedes c = piece-out _ _ _ c.args.x (ltb-false _ _ (sym c.precedes.ensures ∙ c.if-precedes.false)) c.requires.1.normal

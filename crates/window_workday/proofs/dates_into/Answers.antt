@@ -1,5 +1,4 @@
 use native.Mathlib.Omega.{arith}
-use Prim.Native.Nat.{◌-◌}
 use mir.Facts.{to_z-of_z}
 use Rattle.laws_calendar.specs.Numbers.{is-fits, day-bits, bits-day, bits_is}
 use Rattle.instant.specs.Instant.{nanos}
@@ -7,6 +6,7 @@ use Rattle.rule.specs.Rules.{rule_is}
 use Rattle.window_dates.proofs.Fill.{told-on}
 use Rattle.window_piece.proofs.Fills.{dating-starts, dating-ready, dating-on, dating-off, dating-done, filled-same}
 use Rattle.window_piece.proofs.Frames.{rule-shows, piece-apart}
+use Rattle.window_workday.proofs.dates_into.Goals.{then-applies, else-applies}
 use Rattle.window_workday.proofs.dates_into.Goals as goal
 
 pub day_count-count-requires : goal.day_count-count-requires
@@ -29,29 +29,14 @@ date_into-n-requires c = let q = c.requires.0.2 in let a = day-bits (is-fits q.f
     let t = bits-day c.later-d.ensures (omega (arith, q.high)) in
     ((c.requires.0.0, c.requires.0.1, q, omega arith, omega arith), dating-ready _ _ _ (piece-apart (rule_is c.args.pack.now c.args.r) (nanos c.args.lo) (nanos c.args.hi)) _ _ _ _ _ _ _ c.loop-i.invariant l (rw (k, a, b) c.requires.1.room))
 
-pub overflow_add-i : goal.overflow_add-i
-overflow_add-i c = omega (arith, c.loop-i-test.true, c.day_count-count.type_inv)
-
-pub loop-i-smaller-then-applies : goal.loop-i-smaller-then-applies
-loop-i-smaller-then-applies c = omega (arith, c.loop-i-test.true)
-
-pub loop-i-preserved-then-applies : goal.loop-i-preserved-then-applies
-loop-i-preserved-then-applies c = let q = c.requires.0.2 in let a = day-bits (is-fits q.first-number) in let b = day-bits (is-fits q.last-number) in
-    let k = c.day_count-count.ensures in let l = c.loop-i-test.true in
-    let t = bits-day c.later-d.ensures (omega (arith, q.high)) in
-    dating-on _ _ _ (piece-apart (rule_is c.args.pack.now c.args.r) (nanos c.args.lo) (nanos c.args.hi)) _ _ _ _ _ _ _ c.loop-i.invariant l (told-on _ t c.applies.ensures c.if-applies.true) _ _ (rw t at c.date_into-n.ensures)
-
-pub overflow_add-i-else-applies : goal.overflow_add-i-else-applies
-overflow_add-i-else-applies c = omega (arith, c.loop-i-test.true, c.day_count-count.type_inv)
-
-pub loop-i-smaller : goal.loop-i-smaller
-loop-i-smaller c = omega (arith, c.loop-i-test.true)
-
 pub loop-i-preserved : goal.loop-i-preserved
 loop-i-preserved c = let q = c.requires.0.2 in let a = day-bits (is-fits q.first-number) in let b = day-bits (is-fits q.last-number) in
     let k = c.day_count-count.ensures in let l = c.loop-i-test.true in
     let t = bits-day c.later-d.ensures (omega (arith, q.high)) in
-    dating-off _ _ _ (piece-apart (rule_is c.args.pack.now c.args.r) (nanos c.args.lo) (nanos c.args.hi)) _ _ _ _ _ _ _ c.loop-i.invariant l (told-on _ t c.applies.ensures c.if-applies.false)
+    elim c.if-applies.branch [
+      | then-applies w ↦ rw (w.out-is, w.n-is) (dating-on _ _ _ (piece-apart (rule_is c.args.pack.now c.args.r) (nanos c.args.lo) (nanos c.args.hi)) _ _ _ _ _ _ _ c.loop-i.invariant l (told-on _ t c.applies.ensures w.if-applies.true) _ _ (rw t at w.date_into-n.ensures))
+      | else-applies w ↦ rw (w.out-is, w.n-is) (dating-off _ _ _ (piece-apart (rule_is c.args.pack.now c.args.r) (nanos c.args.lo) (nanos c.args.hi)) _ _ _ _ _ _ _ c.loop-i.invariant l (told-on _ t c.applies.ensures w.if-applies.false))
+    ]
 
 pub returns : goal.returns
 returns c = let q = c.requires.0.2 in let a = day-bits (is-fits q.first-number) in let b = day-bits (is-fits q.last-number) in

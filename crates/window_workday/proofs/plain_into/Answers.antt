@@ -1,5 +1,4 @@
 use native.Mathlib.Omega.{arith}
-use Prim.Native.Nat.{◌-◌}
 use mir.Facts.{to_z-of_z}
 use Rattle.laws_calendar.specs.Numbers.{day-bits, bits-day, bits_is}
 use Rattle.window_dates.proofs.Fill.{told-on}
@@ -7,6 +6,7 @@ use Rattle.window_piece.proofs.Fills.{dating-starts, dating-ready, dating-on, da
 use Rattle.window_piece.proofs.Frames.{plain-as}
 use Rattle.window_piece.proofs.Laws.{apart-clipped}
 use Rattle.window_workday.specs.Workday.{plain}
+use Rattle.window_workday.proofs.plain_into.Goals.{then-applies, else-applies}
 use Rattle.window_workday.proofs.plain_into.Goals as goal
 
 pub loop-i-init : goal.loop-i-init
@@ -27,31 +27,17 @@ overflow_add-k-then-applies c = omega (arith, c.loop-i.invariant.1, c.loop-i-tes
 pub span_into-n-requires : goal.span_into-n-requires
 span_into-n-requires c = dating-ready _ _ _ (λ d. apart-clipped _ _ _ _) _ _ _ _ _ _ _ c.loop-i.invariant.0 c.loop-i-test.true c.requires.1.room
 
-pub overflow_add-k-then-applies-2 : goal.overflow_add-k-then-applies-2
-overflow_add-k-then-applies-2 c = omega (arith, c.loop-i.invariant.1, c.loop-i-test.true, c.requires.0.0, c.requires.0.3)
-
-pub overflow_add-i : goal.overflow_add-i
-overflow_add-i c = omega (arith, c.loop-i-test.true, c.requires.0.3)
-
-pub loop-i-smaller-then-applies : goal.loop-i-smaller-then-applies
-loop-i-smaller-then-applies c = omega (arith, c.loop-i-test.true)
-
-pub loop-i-preserved-then-applies : goal.loop-i-preserved-then-applies
-loop-i-preserved-then-applies c = let t = bits-day c.later.ensures (omega (arith, day-bits c.ranges.first, c.loop-i-test.true, c.requires.0.5)) in
-    (dating-on _ _ _ (λ d. apart-clipped _ _ _ _) _ _ _ _ _ _ _ c.loop-i.invariant.0 c.loop-i-test.true (told-on _ t c.applies.ensures c.if-applies.true) _ _ (plain-as (record { first = c.args.f.first; lo = c.args.f.lo; hi = c.args.f.hi }) _ _ _ _ _ _ _ _ _ c.loop-i.invariant.1 c.span_into-n.ensures), omega (arith, c.loop-i.invariant.1))
-
-pub overflow_add-k-else-applies : goal.overflow_add-k-else-applies
-overflow_add-k-else-applies c = omega (arith, c.loop-i.invariant.1, c.loop-i-test.true, c.requires.0.0, c.requires.0.3)
-
-pub overflow_add-i-else-applies : goal.overflow_add-i-else-applies
-overflow_add-i-else-applies c = omega (arith, c.loop-i-test.true, c.requires.0.3)
-
-pub loop-i-smaller : goal.loop-i-smaller
-loop-i-smaller c = omega (arith, c.loop-i-test.true)
+pub overflow_add-k-in-loop-i : goal.overflow_add-k-in-loop-i
+overflow_add-k-in-loop-i c = omega (arith, c.loop-i.invariant.1, c.loop-i-test.true, c.requires.0.0, c.requires.0.3)
 
 pub loop-i-preserved : goal.loop-i-preserved
-loop-i-preserved c = let t = bits-day c.later.ensures (omega (arith, day-bits c.ranges.first, c.loop-i-test.true, c.requires.0.5)) in
-    (dating-off _ _ _ (λ d. apart-clipped _ _ _ _) _ _ _ _ _ _ _ c.loop-i.invariant.0 c.loop-i-test.true (told-on _ t c.applies.ensures c.if-applies.false), omega (arith, c.loop-i.invariant.1))
+loop-i-preserved c = let t = bits-day c.later.ensures (omega (arith, day-bits c.ranges.first, c.loop-i-test.true, c.requires.0.5)) in (
+  elim c.if-applies.branch [
+    | then-applies w ↦ rw (w.out-is, w.n-is) (dating-on _ _ _ (λ d. apart-clipped _ _ _ _) _ _ _ _ _ _ _ c.loop-i.invariant.0 c.loop-i-test.true (told-on _ t c.applies.ensures w.if-applies.true) _ _ (plain-as (record { first = c.args.f.first; lo = c.args.f.lo; hi = c.args.f.hi }) _ _ _ _ _ _ _ _ _ c.loop-i.invariant.1 w.span_into-n.ensures))
+    | else-applies w ↦ rw (w.out-is, w.n-is) (dating-off _ _ _ (λ d. apart-clipped _ _ _ _) _ _ _ _ _ _ _ c.loop-i.invariant.0 c.loop-i-test.true (told-on _ t c.applies.ensures w.if-applies.false))
+  ],
+  omega (arith, c.loop-i.invariant.1),
+)
 
 pub returns : goal.returns
 unfolding plain

@@ -1,14 +1,11 @@
 -- `zone::bounds_of` meets its contract.
 use mathlib.Core.Path.{ap}
-use Rattle.zone_changes.specs.Meaning.{the_footer}
+use Rattle.zone_footer.specs.Parsed.{the_footer}
 use Rattle.zone.proofs.Steps.{bounds-plain, bounds-fixed, bounds-rules}
 use Rattle.zone.proofs.bounds_of.Goals as goal
 
 pub returns-in-Empty : goal.returns-in-Empty
 returns-in-Empty c = bounds-plain c.requires.table c.table_bounds-bounds.ensures c.args.z.footer (ap the_footer c.in-Empty.is)
-
-pub returns-in-Broken : goal.returns-in-Broken
-returns-in-Broken c = bounds-plain c.requires.table c.table_bounds-bounds.ensures c.args.z.footer (ap the_footer c.in-Broken.is)
 
 pub returns-in-Fixed : goal.returns-in-Fixed
 returns-in-Fixed c = bounds-fixed c.requires.table c.table_bounds-bounds.ensures c.in-Fixed.is c.requires.fits.footer-fits c.widened.ensures

@@ -1,6 +1,5 @@
 -- `zone::mark_of` meets its contract.
 use Rattle.zone.proofs.Steps.{second-upto, not-read, read_again, read-only-once, read-in-run}
-use mathlib.Core.Path.{◌∙◌}
 use native.Mathlib.Omega.{arith}
 use Rattle.zone.proofs.mark_of.Goals as goal
 
@@ -15,9 +14,6 @@ returns-then-s-r c = not-read _ c.requires.0.fits c.requires.1 c.requires.3 c.ru
 
 pub returns-then-x-r : goal.returns-then-x-r
 returns-then-x-r c = read-in-run _ c.requires.0.fits c.requires.1 c.requires.3 c.run_after-r.ensures.0.0 c.run_after-r.ensures.0.1 (omega arith) (omega (arith, c.if-x-r.true))
-
-pub reads_from-requires : goal.reads_from-requires
-reads_from-requires c = (record { ok = c.requires.0; from = c.requires.1; to = c.requires.2; bounds = c.bounds_of.ensures }, c.count_on.ensures ∙ c.run_after-r.ensures.1)
 
 pub returns-then-reads_from : goal.returns-then-reads_from
 returns-then-reads_from c = read_again _ c.requires.0.fits c.requires.1 c.requires.3 c.run_after-r.ensures.0.0 c.run_after-r.ensures.0.1 (omega arith) c.reads_from.ensures c.if-reads_from.true

@@ -5,12 +5,6 @@ use Rattle.laws_zone.specs.Resolve.{one_answer}
 use Rattle.zone.proofs.Steps.{at-start, at_offset, at-found}
 use Rattle.zone.proofs.second_of.Goals as goal
 
-pub overflow_sub-x : goal.overflow_sub-x
-overflow_sub-x c = omega arith
-
-pub run_at-r-requires : goal.run_at-r-requires
-run_at-r-requires c = (c.requires.0, omega arith)
-
 pub overflow_sub-x-2 : goal.overflow_sub-x-2
 overflow_sub-x-2 c = omega (arith, at_offset (at-start _ _ (λ u. (offset-fits _ c.requires.0.fits u).1) (omega arith) c.run_at-r.ensures.0 c.run_at-r.ensures.1))
 
@@ -19,12 +13,6 @@ overflow_sub-result c = omega (arith, at_offset (at-start _ _ (λ u. (offset-fit
 
 pub returns-then-x-offset : goal.returns-then-x-offset
 returns-then-x-offset c = one_answer _ (at-found (at-start _ _ (λ u. (offset-fits _ c.requires.0.fits u).1) (omega arith) c.run_at-r.ensures.0 c.run_at-r.ensures.1) (omega arith)) (second-resolves _ c.requires.0.fits _ (omega arith))
-
-pub bounds_of-requires : goal.bounds_of-requires
-bounds_of-requires c = c.requires.0
-
-pub second_by_runs-requires : goal.second_by_runs-requires
-second_by_runs-requires c = record { ok = c.requires.0; from = c.requires.1; to = c.requires.2; bounds = c.bounds_of.ensures }
 
 pub returns : goal.returns
 returns c = one_answer _ c.second_by_runs.ensures (second-resolves _ c.requires.0.fits _ (omega arith))

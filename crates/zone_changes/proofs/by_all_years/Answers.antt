@@ -10,7 +10,7 @@ pub around-b-requires : goal.around-b-requires
 around-b-requires c = (c.requires.0.3, c.requires.0.1.1, c.requires.1)
 
 pub returns-then-b-a : goal.returns-then-b-a
-returns-then-b-a c = by-all-years-daylight _ _ _ _ c.requires.0 c.around-a.ensures c.around-b.ensures c.minimum-until.ensures (omega arith)
+returns-then-b-a c = by-all-years-daylight _ _ _ _ c.requires.0 c.around-a.ensures c.around-b.ensures c.min-until.ensures (omega arith)
 
 pub returns : goal.returns
-returns c = by-all-years-standard _ _ _ _ c.requires.0 c.around-a.ensures c.around-b.ensures c.minimum-until.ensures (omega arith)
+returns c = by-all-years-standard _ _ _ _ c.requires.0 c.around-a.ensures c.around-b.ensures c.min-until.ensures (omega arith)

@@ -16,4 +16,4 @@ overflow_add-midnight-2 c = let s = day-small _ _ c.requires.0.day-fits c.requir
 
 pub returns : goal.returns
 returns c = let s = day-small _ _ c.requires.0.day-fits c.requires.1 in
-    change-is c.args.offset c.args.year (change_rule_is c.args.rule) (bits-day c.day_in.ensures s) (omega (arith, c.difference.ensures, c.midnight.ensures))
+    change-is c.args.offset c.args.year (change_rule_is c.args.rule) (bits-day c.day_in.ensures s) (omega (arith, c.saturating_sub.ensures, c.midnight.ensures))

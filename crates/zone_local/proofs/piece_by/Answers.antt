@@ -1,13 +1,9 @@
 -- `zone_local::piece_by` meets its contract.
 use Prim.Native.Nat.{◌<◌}
 use native.Mathlib.Omega.{arith}
-use mir.Facts.{to_z-of_z}
 use Rattle.laws_calendar.specs.Numbers.{day-bits}
 use Rattle.zone_local.proofs.Facts.{kept_small, plain-piece}
 use Rattle.zone_local.proofs.piece_by.Goals as goal
-
-pub returns-then-o-eq0 : goal.returns-then-o-eq0
-returns-then-o-eq0 c = rw (to_z-of_z c.ranges.day) at c.piece_on.ensures
 
 pub plain_block-requires : goal.plain_block-requires
 plain_block-requires c = let h : 0 < c.args.o = omega (arith, c.if-o-eq0.false) in (kept_small _ _ _ _ _ (c.requires.0) (c.requires.4) (c.requires.5.order) h, rw (day-bits c.ranges.day) c.requires.1, c.requires.2, c.requires.3)

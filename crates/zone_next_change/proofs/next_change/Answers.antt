@@ -8,23 +8,8 @@ use Rattle.zone_next_change.proofs.next_change.Goals as goal
 pub returns-then-u-ge-LAST : goal.returns-then-u-ge-LAST
 returns-then-u-ge-LAST c = late-never _ _ (omega arith)
 
-pub run_at-r-requires : goal.run_at-r-requires
-run_at-r-requires c = (c.requires, omega arith)
-
-pub loop-until-init : goal.loop-until-init
-loop-until-init c = c.run_at-r.ensures.1
-
-pub run_at-q-requires : goal.run_at-q-requires
-run_at-q-requires c = (c.requires, omega arith)
-
 pub returns-then-q-r : goal.returns-then-q-r
 returns-then-q-r c = run-next _ (c.loop-until.invariant) (omega arith) (λ g. c.if-q-r.true (c.run_at-q.ensures.0 ∙ g ∙ sym (c.run_at-r.ensures.0)))
-
-pub loop-until-smaller : goal.loop-until-smaller
-loop-until-smaller c = omega (arith, c.run_at-q.ensures.1.on)
-
-pub loop-until-preserved : goal.loop-until-preserved
-loop-until-preserved c = run_on (c.loop-until.invariant) (c.run_at-q.ensures.1) (sym (c.run_at-q.ensures.0) ∙ c.if-q-r.false ∙ c.run_at-r.ensures.0)
 
 pub returns : goal.returns
 returns c = run-never _ (c.loop-until.invariant) (omega arith)

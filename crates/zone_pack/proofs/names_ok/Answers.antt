@@ -1,18 +1,14 @@
-use borrow.Author.Rules.{rules}
-use Rattle.big_endian.proofs.Walk.{all-no, all_yes, all_end}
-use Prim.Native.Nat.{◌-◌}
-use borrow.Author.Tests.{not-true, not-false}
+-- `zone_pack::names_ok` meets its contract.
+use mathlib.Core.Path.{refl, ◌∙◌}
 use native.Mathlib.Nat.{sub-zero}
+use borrow.Author.Rules.{rules}
+use Rattle.std.proofs.lemmas.Iterator.{YieldsList-from_range}
+use Rattle.std.proofs.lemmas.Iterator.Search.{all_from_yields_List}
+use Rattle.big_endian.proofs.Walk.{all-range}
+use Rattle.zone_pack.specs.Pack.{name_at_ok}
 use Rattle.zone_pack.proofs.names_ok.Goals as goal
 
-pub loop-i-init : goal.loop-i-init
-loop-i-init c = (search rules, simp sub-zero)
-
-pub returns-then-not-name_at_ok : goal.returns-then-not-name_at_ok
-returns-then-not-name_at_ok c = search (all-no, not-true)
-
-pub loop-i-preserved : goal.loop-i-preserved
-loop-i-preserved c = (search rules, search (all_yes, not-false))
-
 pub returns : goal.returns
-returns c = search all_end
+returns c =
+    all_from_yields_List (name_at_ok c.args.s.now) _ _ _ c.all.ensures.ran (YieldsList-from_range 0 c.args.n c.args.n refl (sub-zero c.args.n)) (λ x b q k. search rules)
+    ∙ all-range (name_at_ok c.args.s.now) 0 c.args.n

@@ -2,7 +2,6 @@ use Rattle.zone_steady.proofs.Steps.{on-changes, on-stays}
 use Rattle.laws_zone.specs.Zones.{fits-sound}
 use Rattle.laws_zone.specs.Runs.{run_on}
 use mathlib.Core.Path.{sym, ◌∙◌}
-use Prim.Native.Nat.{◌-◌}
 use native.Mathlib.Omega.{arith}
 use Rattle.zone_steady.proofs.room_on.Goals as goal
 

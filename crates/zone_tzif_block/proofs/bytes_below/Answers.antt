@@ -1,18 +1,12 @@
-use borrow.Author.Tests.{not-true, not-false}
-use native.Mathlib.Nat.{sub-zero}
-use Prim.Native.Nat.{◌-◌}
-use Rattle.big_endian.proofs.Walk.{all-no, all_yes, all_end}
-use borrow.Author.Rules.{rules}
+-- `zone_tzif_block::bytes_below` meets its contract.
+use Rattle.std.proofs.Common.{rules, ◌∙◌}
+use Rattle.std.proofs.lemmas.Iterator.{YieldsList-from_range}
+use Rattle.std.proofs.lemmas.Iterator.Search.{all_from_yields_List}
+use Rattle.zone_tzif_block.specs.Parts.{byte_below}
+use Rattle.zone_tzif_block.proofs.Each.{all-range}
 use Rattle.zone_tzif_block.proofs.bytes_below.Goals as goal
 
-pub loop-i-init : goal.loop-i-init
-loop-i-init c = (search rules, simp sub-zero)
-
-pub returns-then-not-byte_below : goal.returns-then-not-byte_below
-returns-then-not-byte_below c = search (all-no, not-true)
-
-pub loop-i-preserved : goal.loop-i-preserved
-loop-i-preserved c = (search rules, search (all_yes, not-false))
-
 pub returns : goal.returns
-returns c = search all_end
+returns c =
+    all_from_yields_List (byte_below c.args.f.now c.args.at c.args.n) _ _ c.all.result c.all.ensures.ran (YieldsList-from_range 0 c.args.k (c.args.k) (search rules) (search rules)) (λ x b q k. search rules)
+    ∙ all-range _ 0 (c.args.k)

@@ -1,0 +1,4 @@
+pub mod Refused
+pub mod Answered
+pub mod Asked
+pub mod Exits

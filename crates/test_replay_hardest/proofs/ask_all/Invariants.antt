@@ -1,6 +1,0 @@
--- The questions that are left go down: a question has bytes.
-use Rattle.std.proofs.Common.{◌-◌, length}
-use Rattle.test_replay_hardest.proofs.ask_all.Given as goal
-
-abbrev pub decreases-loop-at : goal.decreases-loop-at
-decreases-loop-at g l = length l.questions - l.at

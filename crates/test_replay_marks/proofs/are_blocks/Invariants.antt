@@ -1,9 +1,0 @@
--- `test_replay_marks::are_blocks` meets its contract.
-use Prim.Native.Nat.{◌-◌, ◌≤◌}
-use Rattle.test_replay_marks.proofs.are_blocks.Given as goal
-
-abbrev pub invariant-loop-i : goal.invariant-loop-i
-invariant-loop-i l = l.i ≤ l.n
-
-abbrev pub decreases-loop-i : goal.decreases-loop-i
-decreases-loop-i l = l.n - l.i
