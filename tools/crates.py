@@ -14,12 +14,12 @@ import sys
 from pathlib import Path
 
 ROOT = Path(__file__).resolve().parent.parent
-KIT = {"anyhow"}  # libraries of the toolchain, beside std, which no line names
+KIT = {"anyhow", "arrayvec"}  # libraries of the toolchain, beside std, which no line names
 WINGS = [
     "meaning", "laws", "base", "block", "zone", "book", "window", "walk", "build", "schedule", "part", "query", "clock", "test", "bench",
 ]  # fmt: skip
 WING = {
-    "model": "meaning", "number": "base", "mark": "base", "refusal": "base", "big_endian": "base", "instant": "base", "instant_signed": "base", "civil": "base",
+    "model": "meaning", "mark": "base", "refusal": "base", "big_endian": "base", "instant": "base", "instant_signed": "base", "civil": "base",
     "directory": "base", "run_log": "base", "rule": "book", "answer_line": "query", "pieces": "base",
     "laws_answers": "part", "answer_numbers": "part", "query_numbers": "part", "query_numbers_c": "part", "hirgwamo": "part",
     "model_ticket": "meaning", "ticket": "block", "ticket_marks": "block",
