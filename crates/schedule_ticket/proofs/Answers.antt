@@ -27,7 +27,7 @@ use Rattle.ticket_marks.specs.Marks.{marks_in, has_name, is_within}
 use Rattle.ticket_marks.specs.Laws.{within-later, named-any}
 use Rattle.ticket.specs.declared.Ticket.{Ticket}
 use Rattle.ticket.specs.declared.State.{State}
-use Rattle.ticket.specs.declared.State.TheVariants.{New, Running, Held}
+use Rattle.ticket.specs.declared.State.TheVariants.{New, Running, Held, Other}
 use Rattle.ticket.specs.declared.Action.{Action}
 use Rattle.ticket.specs.declared.Action.TheVariants as A
 use Rattle.ticket.specs.Tickets.{action_is, is_sound, is_new, is_running, standing, ticket_is, Begun, Goes, Becomes}
@@ -211,6 +211,7 @@ new-by : (state : State) → is_new state ≡ true → state ≡ New
 new-by New e = refl
 new-by Running e = clash false e refl
 new-by Held e = clash false e refl
+new-by (Other n) e = clash false e refl
 
 pub goes_by : (k : Ticket) (t : Instant) → Begun k → InRange t → ltb (nanos t) (nanos k.last) ≡ false → Goes k t
 goes_by k t b r l = record { begun = b; in-range = r; later = ltb-false (nanos t) (nanos k.last) l }

@@ -17,10 +17,10 @@ use Rattle.ticket_marks.specs.declared.Mark.{Mark}
 use Rattle.ticket_marks.specs.declared.Marks.{Marks}
 use Rattle.ticket.specs.declared.Ticket.{Ticket}
 use Rattle.ticket.specs.declared.State.{State}
-use Rattle.ticket.specs.declared.State.TheVariants.{New, Running, Held}
+use Rattle.ticket.specs.declared.State.TheVariants.{New, Running, Held, Other}
 use Rattle.ticket.specs.declared.Action.{Action}
 use Rattle.ticket.specs.declared.Action.TheVariants as A
-use Rattle.ticket.specs.Tickets.{action_is, is_instant, is_sound, is_new, is_running, standing, ticket_is, Begun, Goes, Becomes}
+use Rattle.ticket.specs.Tickets.{action_is, is_instant, is_sound, state_number, is_state, is_new, is_running, standing, ticket_is, Begun, Goes, Becomes}
 
 -- ---- an instant
 
@@ -50,7 +50,18 @@ module _ (t : Instant) where
 
 -- ---- a ticket
 
+-- one of the states has a number of at most 2, and what is none may have any
+pub state-most : (state : State) → is_state state ≡ true → state_number state ≤ 2
+state-most New e = omega arith
+state-most Running e = omega arith
+state-most Held e = omega arith
+state-most (Other n) e = clash false e refl
+
+pub state-above : (state : State) → 2 < state_number state → is_state state ≡ false
+state-above state h = by-test (is_state state) (λ e. let m = state-most state e in absurd (omega arith)) (λ e. e)
+
 pub record Sound (k : Ticket) : Type 0 where
+  pub state : is_state k.state ≡ true
   pub last : InRange k.last
   pub since : InRange k.since
   pub ordered : nanos k.since ≤ nanos k.last
@@ -61,12 +72,14 @@ pub record Sound (k : Ticket) : Type 0 where
 pub sound-facts : (k : Ticket) → is_sound k ≡ true → Sound k
 unfolding is_sound
 sound-facts k e =
-    let b = and_both (is_instant k.last) _ e in
+    let a = and_both (is_state k.state) _ e in
+    let b = and_both (is_instant k.last) _ a.1 in
     let c = and_both (is_instant k.since) _ b.1 in
     let d = and_both (leb (nanos k.since) (nanos k.last)) _ c.1 in
     let f = and_both (is_within k.done (nanos k.since)) _ d.1 in
     let g = and_both (leb k.marks.len capacity) (are_marks (nanos k.last) (marks_in k.marks)) f.1 in
     record {
+      state = a.0;
       last = instant-in k.last b.0;
       since = instant-in k.since c.0;
       ordered = leb-true _ _ d.0;
@@ -79,6 +92,7 @@ pub sound-made : (k : Ticket) → Sound k → is_sound k ≡ true
 unfolding is_sound
 sound-made k s =
     rw (
+      s.state,
       in-instant k.last s.last,
       in-instant k.since s.since,
       le-leb (nanos k.since) (nanos k.last) s.ordered,
@@ -89,33 +103,48 @@ sound-made k s =
 
 -- the tests in the code's order
 module _ (k : Ticket) where
+  pub sound-state : is_state k.state ≡ false → false ≡ is_sound k
+  unfolding is_sound
+  sound-state e = rw e
+
+  -- so a state above 2 is no ticket's, and no other value is
+  pub sound-above : 2 < state_number k.state → false ≡ is_sound k
+  sound-above h = sound-state (state-above k.state h)
+
+  pub sound-other : (n : ℕ) → k.state ≡ Other n → false ≡ is_sound k
+  sound-other n e = sound-state (rw e refl)
+
+  -- what makes a value of one of the states no ticket makes any value none
+  sound-no : (is_state k.state ≡ true → false ≡ is_sound k) → false ≡ is_sound k
+  sound-no f = by-test (is_state k.state) f sound-state
+
   pub sound-last : is_instant k.last ≡ false → false ≡ is_sound k
   unfolding is_sound
-  sound-last e = rw e
+  sound-last e = sound-no (λ a. rw (a, e))
 
   module _ (b : is_instant k.last ≡ true) where
     pub sound-since : is_instant k.since ≡ false → false ≡ is_sound k
     unfolding is_sound
-    sound-since e = rw (b, e)
+    sound-since e = sound-no (λ a. rw (a, b, e))
 
     module _ (c : is_instant k.since ≡ true) where
       pub sound-order : ltb (nanos k.last) (nanos k.since) ≡ true → false ≡ is_sound k
       unfolding is_sound
-      sound-order e = rw (b, c, lt-leb (nanos k.since) (nanos k.last) (ltb-true _ _ e))
+      sound-order e = sound-no (λ a. rw (a, b, c, lt-leb (nanos k.since) (nanos k.last) (ltb-true _ _ e)))
 
       module _ (d : ltb (nanos k.last) (nanos k.since) ≡ false) where
         pub sound-done : is_within k.done (nanos k.since) ≡ false → false ≡ is_sound k
         unfolding is_sound
-        sound-done e = rw (b, c, le-leb (nanos k.since) (nanos k.last) (ltb-false _ _ d), e)
+        sound-done e = sound-no (λ a. rw (a, b, c, le-leb (nanos k.since) (nanos k.last) (ltb-false _ _ d), e))
 
         module _ (f : is_within k.done (nanos k.since) ≡ true) where
           pub sound-count : capacity < k.marks.len → false ≡ is_sound k
           unfolding is_sound
-          sound-count h = rw (b, c, le-leb (nanos k.since) (nanos k.last) (ltb-false _ _ d), f, lt-leb k.marks.len capacity h)
+          sound-count h = sound-no (λ a. rw (a, b, c, le-leb (nanos k.since) (nanos k.last) (ltb-false _ _ d), f, lt-leb k.marks.len capacity h))
 
-          pub sound-marks : k.marks.len ≤ capacity → are_marks (nanos k.last) (marks_in k.marks) ≡ is_sound k
+          pub sound-marks : is_state k.state ≡ true → k.marks.len ≤ capacity → are_marks (nanos k.last) (marks_in k.marks) ≡ is_sound k
           unfolding is_sound
-          sound-marks h = rw (b, c, le-leb (nanos k.since) (nanos k.last) (ltb-false _ _ d), f, le-leb k.marks.len capacity h)
+          sound-marks a h = rw (a, b, c, le-leb (nanos k.since) (nanos k.last) (ltb-false _ _ d), f, le-leb k.marks.len capacity h)
 
 -- ---- what each command leaves
 
@@ -133,6 +162,7 @@ module _ (t : Instant) (r : InRange t) where
     begun = record {
       not_new = refl;
       sound = sound-made (record { state = Running; last = t; since = t; done = record { sec = 0; ns = 0 }; marks = m }) (record {
+        state = refl;
         last = r;
         since = r;
         ordered = omega arith;
@@ -155,11 +185,12 @@ module _ (k : Ticket) (t : Instant) (g : Goes k t) where
 
   -- a state begins at t, when the time e has elapsed
   from-now :
-      (state : State) (e : Instant) (m : Marks) → is_new state ≡ false → is_within e (nanos t) ≡ true → m.len ≤ capacity → are_marks (nanos t) (marks_in m) ≡ true →
+      (state : State) (e : Instant) (m : Marks) → is_new state ≡ false → is_state state ≡ true → is_within e (nanos t) ≡ true → m.len ≤ capacity → are_marks (nanos t) (marks_in m) ≡ true →
       Begun (record { state = state; last = t; since = t; done = e; marks = m })
-  from-now state e m a w c l = record {
+  from-now state e m a b w c l = record {
     not_new = a;
     sound = sound-made (record { state = state; last = t; since = t; done = e; marks = m }) (record {
+      state = b;
       last = g.in-range;
       since = g.in-range;
       ordered = omega arith;
@@ -172,7 +203,7 @@ module _ (k : Ticket) (t : Instant) (g : Goes k t) where
   pub held-becomes :
       (e : Instant) → is_within e (nanos t) ≡ true →
       Becomes (record { state = Held; last = t; since = t; done = e; marks = k.marks }) (model.next_ticket hold (nanos t) (nanos e) (standing k))
-  held-becomes e w = record { begun = from-now Held e k.marks refl w facts.count marks_then; stands = refl }
+  held-becomes e w = record { begun = from-now Held e k.marks refl refl w facts.count marks_then; stands = refl }
 
   -- the time done is within at t too
   pub done-then : is_within k.done (nanos t) ≡ true
@@ -180,7 +211,7 @@ module _ (k : Ticket) (t : Instant) (g : Goes k t) where
 
   pub resumed-becomes :
       Becomes (record { state = Running; last = t; since = t; done = k.done; marks = k.marks }) (model.next_ticket resume (nanos t) 0 (standing k))
-  resumed-becomes = record { begun = from-now Running k.done k.marks refl done-then facts.count marks_then; stands = refl }
+  resumed-becomes = record { begun = from-now Running k.done k.marks refl refl done-then facts.count marks_then; stands = refl }
 
   -- there is room for a mark
   pub mark-room : (name : ℕ) → name < names → length (others name (marks_in k.marks)) < capacity
@@ -194,6 +225,7 @@ module _ (k : Ticket) (t : Instant) (g : Goes k t) where
     begun = record {
       not_new = g.begun.not_new;
       sound = sound-made (record { state = k.state; last = t; since = k.since; done = k.done; marks = m }) (record {
+        state = facts.state;
         last = g.in-range;
         since = facts.since;
         ordered = (let o = facts.ordered in let l = g.later in omega arith);
@@ -227,9 +259,9 @@ module _ (k : Ticket) (t : Instant) (g : Goes k t) where
     marks-left : are_marks (nanos t) (latest i k.marks.items) ≡ true
     marks-left = rw e (marks-upto (nanos t) name (marks_in k.marks) marks_then)
 
-    state-told : (r : Bool) (n : State) → n ≡ (if r then Running else Held) → (is_new n ≡ false) × (is_running n ≡ r)
-    state-told true n p = rw p (refl, refl)
-    state-told false n p = rw p (refl, refl)
+    state-told : (r : Bool) (n : State) → n ≡ (if r then Running else Held) → (is_new n ≡ false) × (is_state n ≡ true) × (is_running n ≡ r)
+    state-told true n p = rw p (refl, refl, refl)
+    state-told false n p = rw p (refl, refl, refl)
 
     it-within : is_within x.time (nanos t) ≡ true
     unfolding is_mark_at
@@ -247,8 +279,8 @@ module _ (k : Ticket) (t : Instant) (g : Goes k t) where
     back-becomes d =
         let q = state-told x.running state c in
         record {
-          begun = from-now state x.time m q.0 it-within d (rw f marks-left);
-          stands = as-set-back (is_running state) q.1 ∙ ap (model.set_back (nanos t)) (ap (map mark_is) e ∙ named-upto name (marks_in k.marks));
+          begun = from-now state x.time m q.0 q.1 it-within d (rw f marks-left);
+          stands = as-set-back (is_running state) q.2 ∙ ap (model.set_back (nanos t)) (ap (map mark_is) e ∙ named-upto name (marks_in k.marks));
         }
 
 -- ---- which command may follow
@@ -301,10 +333,14 @@ pub not-new : (state : State) → (state ≡ New → ⊥) → is_new state ≡ f
 not-new New n = absurd (n refl)
 not-new Running n = refl
 not-new Held n = refl
+not-new (Other m) n = refl
 
 pub no-ticket : (k : Ticket) → (k.state ≡ New → ⊥) → is_sound k ≡ false → ticket_is k ≡ none
 unfolding ticket_is
 no-ticket k n e = rw (not-new k.state n, e)
+
+pub no-state : (k : Ticket) → is_state k.state ≡ false → ticket_is k ≡ none
+no-state k e = no-ticket k (λ q. clash (is_state k.state) (ap is_state q) e) (sym (sound-state k e))
 
 pub new_is : (k : Ticket) → k.state ≡ New → ticket_is k ≡ some model.new_ticket
 unfolding ticket_is

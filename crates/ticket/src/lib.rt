@@ -8,17 +8,18 @@ ghost use Rattle.model_ticket.specs.Ticket as model;
 ghost use Rattle.instant.specs.Instant.{nanos, InRange};
 ghost use Rattle.ticket_marks.specs.Marks.{capacity, marks_in, has_name, is_within};
 ghost use Rattle.ticket.specs.declared.State.TheVariants.{New, Running, Held};
-ghost use Rattle.ticket.specs.Tickets.{action_is, is_instant, is_sound, standing, Begun, Goes, Becomes};
+ghost use Rattle.ticket.specs.Tickets.{action_is, is_state, is_instant, is_sound, standing, Begun, Goes, Becomes};
 
 use instant::{Instant, Length};
 use ticket_marks::{Mark, Marks};
 
-// The states of a ticket.
+// The states of a ticket. Other stands for any number that is no state's: a value with it is no ticket, and every command refuses it.
 #[derive(Clone, Copy, PartialEq)]
 pub enum State {
     New,
     Running,
     Held,
+    Other(u32),
 }
 
 // A new ticket has nothing but its state.
@@ -60,6 +61,13 @@ pub fn new_ticket() -> Ticket
 
 // ---- which values are tickets
 
+// Whether a state is one of the three.
+fn is_state(state: State) -> bool
+    ensures { result ≡ is_state state }
+{
+    !matches!(state, State::Other(_))
+}
+
 // Whether an instant is one of the range.
 #[tactic(auto, unfolding(crate::specs::Tickets::is_instant))]
 fn is_instant(t: Instant) -> bool
@@ -68,8 +76,8 @@ fn is_instant(t: Instant) -> bool
     instant::FIRST <= t.sec && t.sec <= instant::LAST && t.ns < instant::SECOND_32
 }
 
-// Whether a ticket that is not new keeps what every command leaves: instants of the range, in order; times no longer than what has passed since the first instant;
-// at most eight marks, each name once.
+// Whether a ticket that is not new keeps what every command leaves: one of the states; instants of the range, in order; times no longer than what has passed since the
+// first instant; at most eight marks, each name once.
 pub fn is_ticket(k: Ticket) -> bool
     ensures { result ≡ is_sound k }
 {
@@ -77,6 +85,9 @@ pub fn is_ticket(k: Ticket) -> bool
     let since = k.since;
     let done = k.done;
     let marks = k.marks;
+    if !is_state(k.state) {
+        return false;
+    }
     if !is_instant(last) {
         return false;
     }

@@ -1,11 +1,13 @@
 -- `ticket::is_ticket` meets its contract. Assumes nothing.
-use Rattle.ticket.specs.Sound.{instant-in, sound-last, sound-since, sound-order, sound-done, sound-count, sound-marks}
+use Rattle.ticket.specs.Sound.{instant-in, sound-state, sound-last, sound-since, sound-order, sound-done, sound-count, sound-marks}
 use borrow.Author.Tests.{not-true, not-false}
 use mathlib.Core.Path.{sym, ◌∙◌}
 use native.Mathlib.Omega.{arith}
 use Rattle.ticket.proofs.is_ticket.Goals as goal
 
--- src/lib.rt:83:9
+pub returns-then-not-is_state : goal.returns-then-not-is_state
+returns-then-not-is_state c = sound-state _ (sym (c.is_state.ensures) ∙ not-true _ (c.if-not-is_state.true-raw))
+
 -- src/lib.rt:86:9
 pub returns-then-not-is_instant : goal.returns-then-not-is_instant
 returns-then-not-is_instant c = sound-last _ (sym (c.is_instant.ensures) ∙ not-true _ (c.if-not-is_instant.true-raw))
@@ -36,4 +38,4 @@ are_marks-requires c = (omega (arith, c.if-marks-gt-CAPACITY.false), instant-in 
 
 -- src/lib.rt:75:1
 pub returns : goal.returns
-returns c = c.are_marks.ensures ∙ sound-marks _ (sym (c.is_instant.ensures) ∙ not-false _ (c.if-not-is_instant.false-raw)) (sym (c.is_instant-2.ensures) ∙ not-false _ (c.if-not-is_instant-2.false-raw)) (sym (c.precedes.ensures) ∙ c.if-precedes.false) (sym (c.is_within.ensures) ∙ not-false _ (c.if-not-is_within.false-raw)) (omega (arith, c.if-marks-gt-CAPACITY.false))
+returns c = c.are_marks.ensures ∙ sound-marks _ (sym (c.is_instant.ensures) ∙ not-false _ (c.if-not-is_instant.false-raw)) (sym (c.is_instant-2.ensures) ∙ not-false _ (c.if-not-is_instant-2.false-raw)) (sym (c.precedes.ensures) ∙ c.if-precedes.false) (sym (c.is_within.ensures) ∙ not-false _ (c.if-not-is_within.false-raw)) (sym (c.is_state.ensures) ∙ not-false _ (c.if-not-is_state.false-raw)) (omega (arith, c.if-marks-gt-CAPACITY.false))
