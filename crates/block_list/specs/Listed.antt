@@ -1,8 +1,8 @@
 -- What the block list of the code means: the blocks of the definitions.
 use Rattle.std.specs.Prelude.{ℕ, List, map, take}
-use Rattle.arrayvec.specs.ArrayVec.{ArrayVec}
 use Rattle.model.specs.Blocks.{Block as Block', block}
 use Rattle.block_list.specs.declared.Block.{Block}
+use Rattle.block_list.specs.declared.Blocks.{Blocks}
 
 -- how many blocks a list holds at most
 abbrev pub capacity : ℕ
@@ -15,9 +15,9 @@ block_is b = block b.start b.end
 abbrev pub first_blocks : ℕ → List Block → List Block'
 first_blocks n l = map block_is (take n l)
 
--- the blocks of a list
-abbrev pub list_of : ArrayVec Block → List Block'
-list_of b = map block_is b.items
+-- the blocks that are used
+abbrev pub list_of : Blocks → List Block'
+list_of b = first_blocks b.len b.items
 
 -- what the code reads past the end of an array
 abbrev pub nil : Block

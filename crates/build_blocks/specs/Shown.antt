@@ -1,6 +1,5 @@
 -- What the functions that fill a block list are asked and answer.
-use Rattle.std.specs.Prelude.{◌≡◌, Bool, not, Option, None, Some, List, [], ◌∷◌, ◌++◌, map, ℕ, ◌+◌, ◌≤◌, ◌<◌, take, if◌then◌else◌}
-use Rattle.arrayvec.specs.ArrayVec.{ArrayVec, array_vec_len}
+use Rattle.std.specs.Prelude.{◌≡◌, Bool, not, Option, None, Some, List, [], ◌∷◌, ◌++◌, map, ℕ, ◌+◌, ◌≤◌, ◌<◌, length, take, if◌then◌else◌}
 use Rattle.model.specs.Blocks.{Block as Block'}
 use Rattle.model.specs.Build.{is_none}
 use Rattle.model.specs.Instant.{day}
@@ -8,8 +7,9 @@ use Rattle.model.specs.Walk.{onward}
 use Rattle.model.specs.Working.{blocks_of_all}
 use Rattle.instant.specs.Instant.{nanos}
 use Rattle.instant.specs.declared.Instant.{Instant}
-use Rattle.block_list.specs.Listed.{block_is, list_of}
+use Rattle.block_list.specs.Listed.{capacity, block_is, list_of}
 use Rattle.block_list.specs.declared.Block.{Block}
+use Rattle.block_list.specs.declared.Blocks.{Blocks}
 use Rattle.civil.specs.Dates.{time_in}
 use Rattle.rule.specs.Rules.{rule_is, RuleFits}
 use Rattle.laws_base.specs.Every.{Every}
@@ -58,11 +58,12 @@ abbrev pub most_shown : ℕ
 most_shown = 336
 
 -- the blocks that a rule has in the window [lo, hi), from lo, stand behind those of a list; a rule shows at most 21 dates
-pub record RuleAdded (pack : List ℕ) (r : Rule) (lo hi : Instant) (old new : ArrayVec Block) : Type 0 where
+pub record RuleAdded (pack : List ℕ) (r : Rule) (lo hi : Instant) (old new : Blocks) : Type 0 where
   pub same : list_of new ≡ list_of old ++ onward (nanos lo) (rule_blocks pack r lo hi)
-  pub few : array_vec_len new ≤ array_vec_len old + most_window_dates
+  pub few : new.len ≤ old.len + most_window_dates
+  pub long : length new.items ≡ capacity
 
 -- the blocks of the first n rules in the window [lo, hi), from lo; a rule shows at most 21 dates
-pub record Listed (pack : List ℕ) (rules : List Rule) (n : ℕ) (lo hi : Instant) (b : ArrayVec Block) : Type 0 where
+pub record Listed (pack : List ℕ) (rules : List Rule) (n : ℕ) (lo hi : Instant) (b : Blocks) : Type 0 where
   pub same : list_of b ≡ onward (nanos lo) (blocks_shown pack rules n lo hi)
-  pub few : array_vec_len b ≤ most_shown
+  pub few : b.len ≤ most_shown

@@ -2,8 +2,7 @@
 // borders are nanoseconds from the window's start. And whether there is any, for which no list is made.
 #![tactic(auto)]
 
-ghost use Rattle.std.specs.Prelude.{◌≡◌, ◌+◌, ◌≤◌, ◌<◌};
-ghost use Rattle.arrayvec.specs.ArrayVec.{array_vec_len};
+ghost use Rattle.std.specs.Prelude.{◌≡◌, ◌+◌, ◌≤◌, ◌<◌, length};
 ghost use Rattle.model.specs.Blocks.{clipped};
 ghost use Rattle.model.specs.DayNumber.{day_of};
 ghost use Rattle.model.specs.Walk.{onward};
@@ -151,7 +150,7 @@ pub fn any_shows(
 
 // Adds the blocks of a rule, of which it shows at most one on each of 21 dates.
 fn rule_into(pack: &[u8], r: Rule, lo: Instant, hi: Instant, out: &mut Blocks)
-    requires { RuleFits pack.now r × Window 14 lo hi × (array_vec_len out.old + most_window_dates ≤ capacity) }
+    requires { RuleFits pack.now r × Window 14 lo hi × (out.old.len + most_window_dates ≤ capacity) × (length out.old.items ≡ capacity) }
     ensures { RuleAdded pack.now r lo hi out.old out.new }
 {
     let x = shifts_of(pack, r, lo, hi);
@@ -160,12 +159,13 @@ fn rule_into(pack: &[u8], r: Rule, lo: Instant, hi: Instant, out: &mut Blocks)
     let count = civil::day_count(first, days.last);
     for k in 0..count {
         if let Some(y) = piece_on(pack, r, x, civil::later(first, k), lo, hi) {
-            out.push(y);
+            out.items[out.len] = y;
+            out.len += 1;
         }
     }
 }
 
-// The blocks of the first n rules. A rule shows at most 21 dates of 14 days, so 16 rules have at most 336.
+// The blocks of the first n rules, in a list that starts as one block value repeated. A rule shows at most 21 dates of 14 days, so 16 rules have at most 336.
 pub fn shift_blocks(
     rules: [Rule; book::MOST_WORK],
     n: usize,
@@ -176,7 +176,7 @@ pub fn shift_blocks(
     requires { RulesIn pack.now rules n lo hi }
     ensures { Listed pack.now rules n lo hi result }
 {
-    let mut out = Blocks::new();
+    let mut out = block_list::empty();
     for i in 0..n {
         rule_into(pack, rules[i], lo, hi, &mut out);
     }

@@ -15,13 +15,12 @@ use Rattle.model.specs.Build.{works_in_2001}
 use Rattle.model.specs.Walk.{onward}
 use Rattle.model.specs.Working.{Schedule, blocks_of_all, working}
 use Rattle.laws_base.specs.Test.{by-test}
-use Rattle.laws_blocks.specs.Members.{NonEmpty, Chain, Normal, chain-weaken, chain-nonempty, union-normal}
+use Rattle.laws_blocks.specs.Members.{NonEmpty, Chain, Normal, From, chain-weaken, chain-sorted, chain-nonempty, union-normal}
 use Rattle.instant.specs.Instant.{nanos}
 use Rattle.instant.specs.declared.Instant.{Instant}
 use Rattle.block_list.specs.declared.Block.{Block}
-use Rattle.arrayvec.specs.ArrayVec.{ArrayVec}
+use Rattle.block_list.specs.declared.Blocks.{Blocks}
 use Rattle.block_list.specs.Listed.{block_is, list_of, nil}
-use Rattle.std.specs.List.Sorted.{IsNonDecreasingBy, IsPartitionPoint}
 use Rattle.rule.specs.Rules.{rule_is}
 use Rattle.rule.specs.declared.Rule.{Rule as Rule'}
 use Rattle.build_blocks.specs.Shown.{Listed, any_block}
@@ -44,6 +43,12 @@ cut-none s e (g ∷ off) h =
     (λ q.
     let a = leb-false g.end s p in let b = leb-false e g.start q in
     rw (p, q, le-ltb s g.start (omega arith)) (cut-none g.end e off (omega arith))))
+
+-- blocks from the end of g on are left by g as they are
+subtract-past : (g : Block') (off l : List Block') → From g.end l → subtract l (g ∷ off) ≡ subtract l off
+unfolding subtract cut
+subtract-past g off [] f = refl
+subtract-past g off (b ∷ l) f = rw (le-leb g.end b.start f.0) (ap (λ (x : List Block'). cut b.start b.end off ++ x) (subtract-past g off l f.1))
 
 module _ (b : Block') (n : b.start < b.end) (g : Block') (off : List Block') where
   -- g begins behind the block's start
@@ -94,89 +99,98 @@ leaves_all (b ∷ l) n = rw (lt-ltb b.start b.end n.0)
 
 -- ---- the block that covers another
 
--- the blocks that end at s or before take nothing of [s, e)
-cut-behind : (s e j : ℕ) (off : List Block) → ((k : ℕ) (d : Block) → k < j → (get_or off k d).end ≤ s) → cut s e (map block_is off) ≡ cut s e (map block_is (drop j off))
-unfolding cut
-cut-behind s e zero off h = refl
-cut-behind s e (suc j) [] h = refl
-cut-behind s e (suc j) (g ∷ off) h = rw (le-leb g.end s (h zero g (omega arith))) (cut-behind s e j off (λ k d p. h (suc k) d (omega arith)))
-
--- a part of blocks that are apart is apart
-normal-drop : (m j : ℕ) (l : List Block) → Chain m (map block_is l) → Chain 0 (map block_is (drop j l))
-normal-drop m zero l c = chain-weaken 0 m (map block_is l) (omega arith) c
-normal-drop m (suc j) [] c = tt
-normal-drop m (suc j) (b ∷ l) c = normal-drop (suc b.end) j l c.2
-
 -- what is left of x without blocks that are apart, of which the first ends behind its start
-covers : (x : Block') → x.start < x.end → (g : Block) (l : List Block) → Normal (map block_is (g ∷ l)) → x.start < g.end
-    → any_block (cut x.start x.end (map block_is (g ∷ l))) ≡ not (leb g.start x.start && leb x.end g.end)
+covers : (x : Block') → x.start < x.end → (g : Block') (l : List Block') → Normal (g ∷ l) → x.start < g.end → any_block (cut x.start x.end (g ∷ l)) ≡ not (leb g.start x.start && leb x.end g.end)
 unfolding cut any_block
 covers x n g l c p =
     by-test (leb g.start x.start)
     (λ a. by-test (leb x.end g.end)
-    (λ b. rw (a, b) (ap any_block (covered x n (block_is g) (map block_is l) p (leb-true g.start x.start a) (leb-true x.end g.end b))))
-    (λ b. rw (a, b) (at-end x n (block_is g) (map block_is l) p (leb-true g.start x.start a) (leb-false x.end g.end b) c.2)))
-    (λ a. rw a (in-front x n (block_is g) (map block_is l) c.1 (leb-false g.start x.start a)))
+    (λ b. rw (a, b) (ap any_block (covered x n g l p (leb-true g.start x.start a) (leb-true x.end g.end b))))
+    (λ b. rw (a, b) (at-end x n g l p (leb-true g.start x.start a) (leb-false x.end g.end b) c.2)))
+    (λ a. rw a (in-front x n g l c.1 (leb-false g.start x.start a)))
 
--- ---- the blocks of a list
+-- ---- the walk through both lists
 
--- the ends of blocks that are apart rise
-ends-from : (m : ℕ) (l : List Block) → Chain m (map block_is l) → (i : ℕ) (d : Block) → i < length l → m ≤ (get_or l i d).end
-ends-from m [] c i d h = absurd (omega arith)
-ends-from m (b ∷ l) c zero d h = let p = c.0 in let q = c.1 in omega arith
-ends-from m (b ∷ l) c (suc i) d h = let p = c.0 in let q = c.1 in let r = ends-from (suc b.end) l c.2 i d (omega arith) in omega arith
+-- a part of blocks that are apart is apart
+normal-drop : (m j : ℕ) (l : List Block) → Chain m (map block_is l) → Normal (map block_is (drop j l))
+normal-drop m zero l c = chain-weaken 0 m (map block_is l) (omega arith) c
+normal-drop m (suc j) [] c = tt
+normal-drop m (suc j) (b ∷ l) c = normal-drop (suc b.end) j l c.2
 
-pub ends-rise : (m : ℕ) (l : List Block) → Chain m (map block_is l) → IsNonDecreasingBy (λ (b : Block). b.end) l
-ends-rise m [] c i j d o h = absurd (omega arith)
-ends-rise m (b ∷ l) c zero zero d o h = omega arith
-ends-rise m (b ∷ l) c zero (suc j) d o h = let r = ends-from (suc b.end) l c.2 j d (omega arith) in omega arith
-ends-rise m (b ∷ l) c (suc i) zero d o h = absurd (omega arith)
-ends-rise m (b ∷ l) c (suc i) (suc j) d o h = ends-rise (suc b.end) l c.2 i j d (omega arith) (omega arith)
+-- the blocks from i on, of which the first is that at i
+from_on : (l : List Block) (i : ℕ) → i < length l → map block_is (drop i l) ≡ block_is (get_or l i nil) ∷ map block_is (drop (i + 1) l)
+from_on l i h = ap (map block_is) (drop-cons l i nil h ∙ ap (λ (k : ℕ). get_or l i nil ∷ drop k l) (sym (add-one i)))
 
--- of the blocks of `off`, those in front of j end at the start of x or before
-module _ (x : Block) (n : x.start < x.end) (off : List Block) (c : Normal (map block_is off)) (j : ℕ)
-    (p : IsPartitionPoint (λ (y : Block). leb y.end x.start ≡ true) (λ (y : Block). leb y.end x.start ≡ false) off j) where
-  behind-j : cut x.start x.end (map block_is off) ≡ cut x.start x.end (map block_is (drop j off))
-  behind-j = cut-behind x.start x.end j off (λ k d h. leb-true _ _ (p.0 k d (omega arith) h))
+-- the blocks from i on are to come, and those of off in front of j take nothing of them
+pub record Passing (on off : List Block) (i j : ℕ) : Type 0 where
+  pub same : leaves (map block_is (drop i on)) (map block_is (drop j off)) ≡ leaves (map block_is on) (map block_is off)
 
-  pub covered-by : j < length off → any_block (cut x.start x.end (map block_is off)) ≡ not (leb (get_or off j nil).start x.start && leb x.end (get_or off j nil).end)
-  covered-by h =
-      let e : drop j off ≡ get_or off j nil ∷ drop (suc j) off = drop-cons off j nil h in
-      let q : Normal (map block_is (get_or off j nil ∷ drop (suc j) off)) = rw e at (normal-drop 0 j off c) in
-      ap any_block behind-j ∙ ap (λ (l : List Block). any_block (cut x.start x.end (map block_is l))) e
-      ∙ covers (block_is x) n (get_or off j nil) (drop (suc j) off) q (leb-false _ _ (p.1 j nil (omega arith) h))
-
-  pub covered-by-none : length off ≤ j → any_block (cut x.start x.end (map block_is off)) ≡ true
-  unfolding cut any_block
-  covered-by-none h = ap any_block behind-j ∙ ap (λ (l : List Block). any_block (cut x.start x.end (map block_is l))) (drop_of_length-le off h) ∙ rw (lt-ltb x.start x.end n) refl
-
--- a block of a list that is apart holds something
-pub holds-some : (m : ℕ) (l : List Block) → Chain m (map block_is l) → (i : ℕ) (d : Block) → i < length l → (get_or l i d).start < (get_or l i d).end
-holds-some m [] c i d h = absurd (omega arith)
-holds-some m (b ∷ l) c zero d h = c.1
-holds-some m (b ∷ l) c (suc i) d h = holds-some (suc b.end) l c.2 i d (omega arith)
-
--- the blocks from i on are to come, and those in front are taken whole
-pub record Passing (on off : List Block) (i : ℕ) : Type 0 where
-  pub same : leaves (map block_is (drop i on)) (map block_is off) ≡ leaves (map block_is on) (map block_is off)
-
-pub passing-starts : (on off : List Block) → Passing on off 0
+pub passing-starts : (on off : List Block) → Passing on off 0 0
 passing-starts on off = record { same = refl }
 
-module _ (on off : List Block) (i : ℕ) (m : Passing on off i) where
-  step : i < length on → (d : Block) → map block_is (drop i on) ≡ block_is (get_or on i d) ∷ map block_is (drop (i + 1) on)
-  step h d = ap (map block_is) (drop-cons on i d h ∙ ap (λ (k : ℕ). get_or on i d ∷ drop k on) (sym (add-one i)))
-
-  pub passing-left : i < length on → (d : Block) → any_block (cut (get_or on i d).start (get_or on i d).end (map block_is off)) ≡ true → true ≡ leaves (map block_is on) (map block_is off)
-  passing-left h d t = sym (left-first (block_is (get_or on i d)) (map block_is (drop (i + 1) on)) (map block_is off) t) ∙ sym (ap (λ (l : List Block'). leaves l (map block_is off)) (step h d)) ∙ m.same
-
-  pub passing-gone : i < length on → (d : Block) → any_block (cut (get_or on i d).start (get_or on i d).end (map block_is off)) ≡ false → Passing on off (i + 1)
-  passing-gone h d t =
-      record { same = sym (gone-first (block_is (get_or on i d)) (map block_is (drop (i + 1) on)) (map block_is off) (none (cut (get_or on i d).start (get_or on i d).end (map block_is off)) t)) ∙ sym (ap (λ (l : List Block'). leaves l (map block_is off)) (step h d)) ∙ m.same }
-
+module _ (on off : List Block) (i j : ℕ) (c : Passing on off i j) where
   pub passing-done : length on ≤ i → false ≡ leaves (map block_is on) (map block_is off)
   unfolding leaves subtract any_block
-  passing-done h = sym (ap (λ (l : List Block). leaves (map block_is l) (map block_is off)) (drop_of_length-le on h)) ∙ m.same
+  passing-done h = sym (ap (λ (l : List Block). leaves (map block_is l) (map block_is (drop j off))) (drop_of_length-le on h)) ∙ c.same
+
+  module _ (h : i < length on) (a : Normal (map block_is on)) where
+    -- the block at i, and those behind it
+    x : Block'
+    x = block_is (get_or on i nil)
+
+    xs : List Block'
+    xs = map block_is (drop (i + 1) on)
+
+    first : map block_is (drop i on) ≡ x ∷ xs
+    unfolding x xs
+    first = from_on on i h
+
+    chain : Normal (x ∷ xs)
+    chain = rw first at (normal-drop 0 i on a)
+
+    -- nothing of off is to come
+    pub passing-free : length off ≤ j → true ≡ leaves (map block_is on) (map block_is off)
+    unfolding cut any_block
+    passing-free k =
+        let e : map block_is (drop j off) ≡ [] = ap (map block_is) (drop_of_length-le off k) in
+        sym (left-first x xs [] (rw (lt-ltb x.start x.end chain.1))) ∙ sym (ap₂ leaves first e) ∙ c.same
+
+    module _ (k : j < length off) (b : Normal (map block_is off)) where
+      y : Block'
+      y = block_is (get_or off j nil)
+
+      ys : List Block'
+      ys = map block_is (drop (j + 1) off)
+
+      first_off : map block_is (drop j off) ≡ y ∷ ys
+      unfolding y ys
+      first_off = from_on off j k
+
+      chain-off : Normal (y ∷ ys)
+      chain-off = rw first_off at (normal-drop 0 j off b)
+
+      now-first : leaves (x ∷ xs) (y ∷ ys) ≡ leaves (map block_is on) (map block_is off)
+      now-first = sym (ap₂ leaves first first_off) ∙ c.same
+
+      pub passing-past : (get_or off j nil).end ≤ (get_or on i nil).start → Passing on off i (j + 1)
+      unfolding x xs y ys leaves
+      passing-past p =
+          let q : Chain y.end (x ∷ xs) = (p, chain.1, chain.2) in
+          record { same = ap (λ (l : List Block'). leaves l ys) first ∙ sym (ap any_block (subtract-past y ys (x ∷ xs) (chain-sorted y.end (x ∷ xs) q).1)) ∙ now-first }
+
+      module _ (p : (get_or on i nil).start < (get_or off j nil).end) (r : Bool) (e : r ≡ (leb (get_or off j nil).start (get_or on i nil).start && leb (get_or on i nil).end (get_or off j nil).end)) where
+        -- what is left of the block at i, by the answer whether that at j covers it
+        left : any_block (cut x.start x.end (y ∷ ys)) ≡ not r
+        unfolding x y
+        left = covers x chain.1 y ys chain-off p ∙ ap not (sym e)
+
+        pub passing-left : r ≡ false → true ≡ leaves (map block_is on) (map block_is off)
+        passing-left t = sym (left-first x xs (y ∷ ys) (left ∙ ap not t)) ∙ now-first
+
+        pub passing-gone : r ≡ true → Passing on off (i + 1) j
+        unfolding xs
+        passing-gone t =
+            record { same = ap (leaves xs) first_off ∙ sym (gone-first x xs (y ∷ ys) (none (cut x.start x.end (y ∷ ys)) (left ∙ ap not t))) ∙ now-first }
 
 -- ---- the whole
 
@@ -209,14 +223,14 @@ abbrev end : ℕ → ℕ
 end t = t + 1209600000000000
 
 -- the union of a filled list
-pub union-is : (p : List ℕ) (rules : List Rule') (n : ℕ) (lo hi : Instant) (b r : ArrayVec Block) → Listed p rules n lo hi b → list_of r ≡ union (list_of b) → UnionOf p rules n lo hi r
-union-is p rules n lo hi b r f e =
+pub union-is : (p : List ℕ) (rules : List Rule') (n : ℕ) (lo hi : Instant) (b r : Blocks) → Listed p rules n lo hi b → list_of r ≡ union (list_of b) → r.len ≤ b.len → UnionOf p rules n lo hi r
+union-is p rules n lo hi b r f e k =
     let t : ℕ = nanos lo in
     let o : List Block' = blocks_of_all t (nanos hi) (map (rule_is p) (take n rules)) in
     let q : list_of r ≡ union (onward t o) = e ∙ ap union f.same in
     record {
       same = q;
-      normal = rw q (union-normal (onward t o) (apart-onward t o (rules-apart t (nanos hi) (map (rule_is p) (take n rules)))));
+      merged = record { few = omega (arith, f.few); normal = rw q (union-normal (onward t o) (apart-onward t o (rules-apart t (nanos hi) (map (rule_is p) (take n rules))))) };
     }
 
 module _ (s : Schedule) (t : ℕ) (z : t ≡ 391337827200000000000) where

@@ -1,14 +1,13 @@
 // Whether a schedule has work at all: in two weeks of 2001, without breaks, holidays ignored. The blocks of work and those of breaks go into a block list
-// each, which is sorted and merged in its own array. Then the blocks of work are gone through up to one that is not taken whole.
+// each, which is sorted and merged in its own array. Then the two lists are gone through together, until a block of work is found that is not taken whole.
 // Where there are no breaks, any block of work will do, and no list is made.
 #![tactic(auto)]
 
-ghost use Rattle.std.specs.Prelude.{◌≡◌, ◌<◌, ◌&&◌, leb, map, not};
-ghost use Rattle.model.specs.Blocks.{cut};
+ghost use Rattle.std.specs.Prelude.{◌≡◌, ◌&&◌, leb, map};
 ghost use Rattle.laws_blocks.specs.Members.{Normal};
 ghost use Rattle.model.specs.Build.{works_in_2001};
 ghost use Rattle.rule.specs.Rules.{schedule_is, ScheduleFits};
-ghost use Rattle.build_blocks.specs.Shown.{any_block, RulesIn};
+ghost use Rattle.build_blocks.specs.Shown.{RulesIn};
 ghost use Rattle.block_list.specs.Listed.{block_is};
 ghost use Rattle.build_check.specs.Left.{leaves, UnionOf};
 
@@ -43,22 +42,24 @@ fn covers(y: Block, x: Block) -> bool
     y.start <= x.start && x.end <= y.end
 }
 
-// Does a block of `off` cover x? These blocks are apart, so only the first that ends behind the start of x may.
-fn is_covered(x: Block, off: &[Block]) -> bool
-    requires { Normal (map block_is off.now) × (x.start < x.end) }
-    ensures { any_block (cut x.start x.end (map block_is off.now)) ≡ not result }
-{
-    let j = off.partition_point(|y| y.end <= x.start);
-    j < off.len() && covers(off[j], x)
-}
-
 // Is anything of `on` left without `off`? The blocks of either list are apart, so a block is taken whole only by one that covers it.
 fn any_left(on: &[Block], off: &[Block]) -> bool
     requires { Normal (map block_is on.now) × Normal (map block_is off.now) }
     ensures { result ≡ leaves (map block_is on.now) (map block_is off.now) }
 {
-    for x in on {
-        if !is_covered(*x, off) {
+    let mut i = 0;
+    let mut j = 0;
+    while i < on.len() {
+        if off.len() <= j {
+            return true;
+        }
+        let x = on[i];
+        let y = off[j];
+        if y.end <= x.start {
+            j += 1;
+        } else if covers(y, x) {
+            i += 1;
+        } else {
             return true;
         }
     }
@@ -79,5 +80,5 @@ pub fn has_work(book: &[u8], pack: &[u8], s: Schedule) -> bool
     let on = union_of(work, s.works, pack, lo, hi);
     let breaks = s.breaks;
     let off = union_of(breaks, s.pauses, pack, lo, hi);
-    any_left(&on, &off)
+    any_left(&on.items[..on.len], &off.items[..off.len])
 }

@@ -1,18 +1,20 @@
-use Rattle.std.proofs.Common.{ap, ◌∙◌, not}
-use Rattle.build_check.proofs.Lefts.{passing-starts, passing-left, passing-gone, passing-done, holds-some}
+use Rattle.build_check.proofs.Lefts.{passing-starts, passing-done, passing-free, passing-past, passing-left, passing-gone}
 use Rattle.build_check.proofs.any_left.Goals as goal
 
-pub loop-x-init : goal.loop-x-init
-loop-x-init c = passing-starts _ _
+pub loop-i-init : goal.loop-i-init
+loop-i-init c = passing-starts _ _
 
-pub is_covered-requires : goal.is_covered-requires
-is_covered-requires c = (c.requires.1, holds-some 0 _ c.requires.0 _ _ c.loop-x-test.true)
+pub returns-then-off-j : goal.returns-then-off-j
+returns-then-off-j c = passing-free _ _ _ _ c.loop-i.invariant c.loop-i-test.true c.requires.0 c.if-off-j.true
 
-pub returns-then-not-is_covered : goal.returns-then-not-is_covered
-returns-then-not-is_covered c = passing-left _ _ _ c.loop-x.invariant c.loop-x-test.true _ (c.is_covered.ensures ∙ ap not c.if-not-is_covered.true)
+pub loop-i-preserved-then-y-x : goal.loop-i-preserved-then-y-x
+loop-i-preserved-then-y-x c = passing-past _ _ _ _ c.loop-i.invariant c.loop-i-test.true c.requires.0 c.if-off-j.false c.requires.1 c.if-y-x.true
 
-pub loop-x-preserved : goal.loop-x-preserved
-loop-x-preserved c = passing-gone _ _ _ c.loop-x.invariant c.loop-x-test.true _ (c.is_covered.ensures ∙ ap not c.if-not-is_covered.false)
+pub loop-i-preserved : goal.loop-i-preserved
+loop-i-preserved c = passing-gone _ _ _ _ c.loop-i.invariant c.loop-i-test.true c.requires.0 c.if-off-j.false c.requires.1 c.if-y-x.false _ c.covers.ensures c.if-covers.true
+
+pub returns-else-covers : goal.returns-else-covers
+returns-else-covers c = passing-left _ _ _ _ c.loop-i.invariant c.loop-i-test.true c.requires.0 c.if-off-j.false c.requires.1 c.if-y-x.false _ c.covers.ensures c.if-covers.false
 
 pub returns : goal.returns
-returns c = passing-done _ _ _ c.loop-x.invariant c.loop-x-test.false
+returns c = passing-done _ _ _ _ c.loop-i.invariant c.loop-i-test.false

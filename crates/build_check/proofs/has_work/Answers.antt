@@ -10,4 +10,4 @@ pub returns-then-s-eq0 : goal.returns-then-s-eq0
 returns-then-s-eq0 c = works-bare (schedule_is c.args.book.now c.args.pack.now c.args.s) _ refl (ap (λ k. map (rule_is c.args.pack.now) (take k c.args.s.breaks)) c.if-s-eq0.true) _ c.any_shows.ensures
 
 pub returns : goal.returns
-returns c = works-left (schedule_is c.args.book.now c.args.pack.now c.args.s) _ refl _ c.union_of-on.ensures.same _ c.union_of-off.ensures.same _ (rw (c.deref.ensures.0, c.deref-2.ensures.0) at c.any_left.ensures)
+returns c = works-left (schedule_is c.args.book.now c.args.pack.now c.args.s) _ refl _ c.union_of-on.ensures.same _ c.union_of-off.ensures.same _ c.any_left.ensures
