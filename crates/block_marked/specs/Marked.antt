@@ -1,12 +1,12 @@
 -- What marked blocks of the code mean, and what they show around an instant.
-use Rattle.std.specs.Prelude.{◌≡◌, List, map, ℕ}
+use Rattle.std.specs.Prelude.{◌≡◌, List, map, take, ℕ}
 use Rattle.model.specs.Marks as model
 use Rattle.laws_marks.specs.Around as marks
 use Rattle.laws_marks.specs.AroundLaws.{both_around}
-use Rattle.arrayvec.specs.ArrayVec.{ArrayVec}
 use Rattle.instant.specs.Instant.{nanos}
 use Rattle.mark.specs.Marks.{mark_number}
 use Rattle.block_marked.specs.declared.MarkedBlock.{MarkedBlock}
+use Rattle.block_marked.specs.declared.MarkedBlocks.{MarkedBlocks}
 use Rattle.block_marked.specs.declared.Around.{Around}
 use Rattle.block_marked.specs.declared.Sides.{Sides}
 
@@ -18,9 +18,13 @@ most_marked = 21
 abbrev pub marked_is : MarkedBlock → model.MarkedBlock
 marked_is b = model.marked (model.edge (nanos b.start) (mark_number b.start_mark)) (model.edge (nanos b.end) (mark_number b.end_mark))
 
--- the blocks of a list
-abbrev pub marked_list : ArrayVec MarkedBlock → List model.MarkedBlock
-marked_list b = map marked_is b.items
+-- the first n of an array
+abbrev pub first_marked : ℕ → List MarkedBlock → List model.MarkedBlock
+first_marked n l = map marked_is (take n l)
+
+-- the blocks that are used
+abbrev pub marked_list : MarkedBlocks → List model.MarkedBlock
+marked_list b = first_marked b.len b.items
 
 -- what is shown around an instant
 abbrev pub around_is : Around → marks.Around

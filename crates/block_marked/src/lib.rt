@@ -1,16 +1,15 @@
-// The list of the marked blocks of one rule: a vector of a fixed capacity, by value. A block is its start and its end, the end excluded, each an instant
+// The list of the marked blocks of one rule: an array of blocks with its own count, by value. A block is its start and its end, the end excluded, each an instant
 // with its mark. And what blocks show around an instant u: whether they hold it and the one before it, and which marks their starts and ends there have.
 #![tactic(auto)]
 
-ghost use Rattle.std.specs.Prelude.{◌≡◌, [], ℕ, map, eqb, if◌then◌else◌};
+ghost use Rattle.std.specs.Prelude.{◌≡◌, [], ℕ, map, max, eqb, if◌then◌else◌};
 ghost use Rattle.model.specs.Marks.{plain};
 ghost use Rattle.laws_marks.specs.Around as marks;
 ghost use Rattle.laws_marks.specs.AroundLaws.{both_around, around_block};
 ghost use Rattle.instant.specs.Instant.{nanos};
 ghost use Rattle.mark.specs.Marks.{mark_number};
-ghost use Rattle.block_marked.specs.Marked.{marked_is, around_is, SidesOf, BothSides};
+ghost use Rattle.block_marked.specs.Marked.{marked_is, marked_list, around_is, SidesOf, BothSides};
 
-use arrayvec::ArrayVec;
 use instant::Instant;
 use mark::Mark;
 
@@ -26,20 +25,12 @@ pub struct MarkedBlock {
     pub end_mark: Mark,
 }
 
-// What stands in the places of a list that are not used.
-impl Default for MarkedBlock {
-    fn default() -> MarkedBlock {
-        let t = Instant { sec: 0, ns: 0 };
-        MarkedBlock {
-            start: t,
-            end: t,
-            start_mark: Mark::Plain,
-            end_mark: Mark::Plain,
-        }
-    }
+// The first `len` items are the list.
+#[derive(Clone, Copy)]
+pub struct MarkedBlocks {
+    pub items: [MarkedBlock; CAPACITY],
+    pub len: usize,
 }
-
-pub type MarkedBlocks = ArrayVec<MarkedBlock, CAPACITY>;
 
 // What blocks show around an instant.
 #[derive(Clone, Copy)]
@@ -57,6 +48,23 @@ pub struct Around {
 pub struct Sides {
     pub start: Around,
     pub end: Around,
+}
+
+// No block: one block value repeated, of which none is used.
+pub fn empty_marked() -> MarkedBlocks
+    ensures { (marked_list result ≡ []) × (result.len ≡ 0) }
+{
+    let t = Instant { sec: 0, ns: 0 };
+    let x = MarkedBlock {
+        start: t,
+        end: t,
+        start_mark: Mark::Plain,
+        end_mark: Mark::Plain,
+    };
+    MarkedBlocks {
+        items: [x; CAPACITY],
+        len: 0,
+    }
 }
 
 // ---- one block
@@ -100,15 +108,22 @@ fn around_block(b: MarkedBlock, u: Instant) -> Around
 
 // ---- more than one
 
-// What two lists show together. Of two marks the greater is kept.
+// Of two marks the greater is kept.
+fn greater_mark(a: Mark, b: Mark) -> Mark
+    ensures { mark_number result ≡ max (mark_number a) (mark_number b) }
+{
+    a.max(b)
+}
+
+// What two lists show together.
 fn together(a: Around, b: Around) -> Around
     ensures { around_is result ≡ both_around (around_is a) (around_is b) }
 {
     Around {
         before: a.before || b.before,
         here: a.here || b.here,
-        starts: a.starts.max(b.starts),
-        ends: a.ends.max(b.ends),
+        starts: greater_mark(a.starts, b.starts),
+        ends: greater_mark(a.ends, b.ends),
     }
 }
 

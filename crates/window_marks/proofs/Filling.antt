@@ -1,23 +1,22 @@
 -- Filling a list with the marked blocks of a rule that may touch an instant from a to b, and going through rules: what a turn of each loop keeps. Assumes nothing.
 use Rattle.std.specs.Prelude.{Option, None, Some}
-use Rattle.std.specs.Option.{option_to_list}
-use Rattle.std.proofs.lemmas.List.{map-append}
-use Rattle.arrayvec.specs.ArrayVec.{ArrayVec}
 use mathlib.Core.Path.{◌≡◌, refl, sym, ◌∙◌, ap}
 use mathlib.Core.Bool.{true, false}
-use mathlib.Core.List.{List, [], ◌++◌, map}
+use mathlib.Core.List.{List, [], ◌++◌, map, append-nil}
 use Prim.Native.Nat.{ℕ, ◌+◌, ◌-◌, ◌≤◌, ◌<◌}
 use native.Mathlib.Omega.{arith}
-use lib.ListN.{length, take, get_or, length-append}
+use lib.ListN.{length, take, get_or, set, length-set}
 use lib.Seq.{take_all}
 use Rattle.model.specs.Basic.{run, joined}
 use Rattle.model.specs.Marks.{MarkedBlock, whole_on, whole_of, whole_of_all}
 use Rattle.model.specs.Working.{Rule, first_date, last_date, local_dates}
+use Rattle.laws_base.specs.Front.{front-push}
 use Rattle.laws_base.specs.Test.{by-test}
 use Rattle.instant.specs.Instant.{nanos}
 use Rattle.instant.specs.declared.Instant.{Instant}
-use Rattle.block_marked.specs.Marked.{most_marked, marked_is, marked_list, around_is, SidesOf, BothSides}
+use Rattle.block_marked.specs.Marked.{most_marked, marked_is, marked_list, first_marked, around_is, SidesOf, BothSides}
 use Rattle.block_marked.specs.declared.MarkedBlock.{MarkedBlock as Item}
+use Rattle.block_marked.specs.declared.MarkedBlocks.{MarkedBlocks}
 use Rattle.block_marked.specs.declared.Sides.{Sides}
 use Rattle.laws_marks.specs.Around.{Around, around_of}
 use Rattle.laws_marks.specs.AroundLaws.{both_around, around-lists, around-group, none_before, none-behind}
@@ -33,58 +32,59 @@ use Rattle.window_marks.specs.declared.Dates.{Dates}
 -- ---- the dates of a rule
 
 -- of k dates in a row, those from the i-th on are to come; around each instant from a to b the blocks so far and theirs show what all show
-pub record Nearing (r : Rule) (a b first k : ℕ) (out : List Item) (i : ℕ) : Type 0 where
-  pub same : (u : ℕ) → a ≤ u → u ≤ b → around_of u (map marked_is out ++ shown r.on (whole_on r) (dates_from first k i)) ≡ around_of u (shown r.on (whole_on r) (run first k))
-  pub count : length out ≤ i
+pub record Nearing (r : Rule) (a b first k : ℕ) (out : List Item) (w i : ℕ) : Type 0 where
+  pub same : (u : ℕ) → a ≤ u → u ≤ b → around_of u (first_marked w out ++ shown r.on (whole_on r) (dates_from first k i)) ≡ around_of u (shown r.on (whole_on r) (run first k))
+  pub count : w ≤ i
+  pub long : length out ≡ most_marked
 
-pub nearing-starts : (r : Rule) (a b first k : ℕ) (out : List Item) → out ≡ [] → Nearing r a b first k out 0
-nearing-starts r a b first k out e =
-    rw e (record { same = λ u _ _. ap (λ (d : List ℕ). around_of u (shown r.on (whole_on r) d)) (dates-whole first k); count = omega arith })
+pub nearing-starts : (r : Rule) (a b first k : ℕ) (out : List Item) → length out ≡ most_marked → Nearing r a b first k out 0 0
+nearing-starts r a b first k out l =
+    record { same = λ u _ _. ap (λ (d : List ℕ). around_of u (shown r.on (whole_on r) d)) (dates-whole first k); count = omega arith; long = l }
 
-module _ (r : Rule) (a b first k : ℕ) (out : List Item) (i : ℕ) (m : Nearing r a b first k out i) where
+module _ (r : Rule) (a b first k : ℕ) (out : List Item) (w i : ℕ) (m : Nearing r a b first k out w i) where
   -- what the dates from the j-th on show
   abbrev rest : ℕ → List MarkedBlock
   rest j = shown r.on (whole_on r) (dates_from first k j)
 
-  pub nearing-room : i < k → k ≤ most_marked → length out < most_marked
+  pub nearing-room : i < k → k ≤ most_marked → w < most_marked
   nearing-room h u = let c = m.count in omega arith
 
-  -- a date that is on: its block, if it holds anything, is put behind the others
-  pub nearing-on : i < k → r.on (first + i) ≡ true → (x : Option Item) → held_marked x ≡ whole_on r (first + i) → (out' : List Item) → out' ≡ out ++ option_to_list x
-      → Nearing r a b first k out' (i + 1)
-  nearing-on h t x e out' q =
+  -- a date that is on: its block, if it holds anything, is stored behind the others
+  nearing-on : i < k → r.on (first + i) ≡ true → (x : Option Item) → held_marked x ≡ whole_on r (first + i) → (out' : List Item) (n : ℕ) → first_marked n out' ≡ first_marked w out ++ held_marked x
+      → n ≤ w + 1 → length out' ≡ most_marked → Nearing r a b first k out' n (i + 1)
+  nearing-on h t x e out' n f p l =
       let c = m.count in
-      let f : map marked_is out' ≡ map marked_is out ++ whole_on r (first + i) = ap (map marked_is) q ∙ map-append marked_is out (option_to_list x) ∙ ap (λ (l : List MarkedBlock). map marked_is out ++ l) (listed x ∙ e) in
-      let s = date-on r.on (whole_on r) first k i (map marked_is out) (map marked_is out ++ rest i) refl h t (map marked_is out') f in
-      record { same = λ u g j. ap (around_of u) s ∙ m.same u g j; count = omega (arith, ap length q, length-append out (option_to_list x), one x) }
-    where
-      listed : (y : Option Item) → map marked_is (option_to_list y) ≡ held_marked y
-      listed None = refl
-      listed (Some y) = refl
+      let s = date-on r.on (whole_on r) first k i (first_marked w out) (first_marked w out ++ rest i) refl h t (first_marked n out') (f ∙ ap (λ (l : List MarkedBlock). first_marked w out ++ l) e) in
+      record { same = λ u g j. ap (around_of u) s ∙ m.same u g j; count = omega arith; long = l }
 
-      one : (y : Option Item) → length (option_to_list y) ≤ 1
-      one None = omega arith
-      one (Some y) = omega arith
+  pub nearing-stored : i < k → k ≤ most_marked → r.on (first + i) ≡ true → (x : Item) → held_marked (Some x) ≡ whole_on r (first + i) → Nearing r a b first k (set out w x) (w + 1) (i + 1)
+  nearing-stored h f t x e =
+      let l = m.long in let v : w < length out = omega (arith, nearing-room h f) in
+      nearing-on h t (Some x) e (set out w x) (w + 1) (front-push marked_is w out x v) (omega arith) (length-set out w x ∙ m.long)
 
-  off-same : i < k → r.on (first + i) ≡ false → map marked_is out ++ rest (i + 1) ≡ map marked_is out ++ rest i
-  off-same h t = date-off r.on (whole_on r) first k i (map marked_is out) (map marked_is out ++ rest i) refl h t
+  pub nearing-none : i < k → r.on (first + i) ≡ true → held_marked None ≡ whole_on r (first + i) → Nearing r a b first k out w (i + 1)
+  nearing-none h t e = nearing-on h t None e out w (sym (append-nil (first_marked w out))) (omega arith) m.long
+
+  off-same : i < k → r.on (first + i) ≡ false → first_marked w out ++ rest (i + 1) ≡ first_marked w out ++ rest i
+  off-same h t = date-off r.on (whole_on r) first k i (first_marked w out) (first_marked w out ++ rest i) refl h t
 
   -- a date that is off, or whose block shows nothing around these instants
-  pub nearing-off : i < k → r.on (first + i) ≡ false → Nearing r a b first k out (i + 1)
-  nearing-off h t = let c = m.count in record { same = λ u g j. ap (around_of u) (off-same h t) ∙ m.same u g j; count = omega arith }
+  pub nearing-off : i < k → r.on (first + i) ≡ false → Nearing r a b first k out w (i + 1)
+  nearing-off h t = let c = m.count in record { same = λ u g j. ap (around_of u) (off-same h t) ∙ m.same u g j; count = omega arith; long = m.long }
 
-  pub nearing-apart : i < k → ((u : ℕ) → a ≤ u → u ≤ b → around_of u (whole_on r (first + i)) ≡ around_of u []) → Nearing r a b first k out (i + 1)
+  pub nearing-apart : i < k → ((u : ℕ) → a ≤ u → u ≤ b → around_of u (whole_on r (first + i)) ≡ around_of u []) → Nearing r a b first k out w (i + 1)
   nearing-apart h f =
       let c = m.count in
       by-test (r.on (first + i))
-      (λ t. let s = date-on r.on (whole_on r) first k i (map marked_is out) (map marked_is out ++ rest i) refl h t (map marked_is out ++ whole_on r (first + i)) refl in
+      (λ t. let s = date-on r.on (whole_on r) first k i (first_marked w out) (first_marked w out ++ rest i) refl h t (first_marked w out ++ whole_on r (first + i)) refl in
       record {
         same = λ u g j.
-            around-lists u (map marked_is out) (rest (i + 1))
-            ∙ ap (λ (x : Around). both_around x (around_of u (rest (i + 1)))) (sym (around-lists u (map marked_is out) (whole_on r (first + i)) ∙ ap (both_around (around_of u (map marked_is out))) (f u g j) ∙ none-behind u (around_of u (map marked_is out))))
-            ∙ sym (around-lists u (map marked_is out ++ whole_on r (first + i)) (rest (i + 1)))
+            around-lists u (first_marked w out) (rest (i + 1))
+            ∙ ap (λ (x : Around). both_around x (around_of u (rest (i + 1)))) (sym (around-lists u (first_marked w out) (whole_on r (first + i)) ∙ ap (both_around (around_of u (first_marked w out))) (f u g j) ∙ none-behind u (around_of u (first_marked w out))))
+            ∙ sym (around-lists u (first_marked w out ++ whole_on r (first + i)) (rest (i + 1)))
             ∙ ap (around_of u) s ∙ m.same u g j;
         count = omega arith;
+        long = m.long;
       })
       (λ t. nearing-off h t)
 
@@ -95,17 +95,18 @@ whole-shows r lo hi a b p q = rw (p, q)
 
 -- the dates of a window are done
 pub nearing-done : (r : Rule) (lo hi : Instant) (days : LocalDates) → IsLocalDates r.zone lo hi days → (a b : Instant) (first k : ℕ) → first ≡ from_day days → k ≡ upto_day days + 1 - first
-    → (l : ArrayVec Item) (i : ℕ) → Nearing r (nanos a) (nanos b) first k l.items i → k ≤ i → NearBlocks r lo hi a b l
-nearing-done r lo hi days q a b first k e c l i m h =
+    → (l : MarkedBlocks) (i : ℕ) → Nearing r (nanos a) (nanos b) first k l.items l.len i → k ≤ i → i ≤ k → NearBlocks r lo hi a b l
+nearing-done r lo hi days q a b first k e c l i m h n =
+    let f = q.few in let g = m.count in
     let d : shown r.on (whole_on r) (run first k) ≡ whole_of (nanos lo) (nanos hi) r =
     ap (λ (n : ℕ). shown r.on (whole_on r) (run first n)) c ∙ whole-shows r (nanos lo) (nanos hi) first (upto_day days) (e ∙ q.first-is) q.last-is in
     let s = dates-done r.on (whole_on r) first k i (marked_list l) (marked_list l ++ shown r.on (whole_on r) (dates_from first k i)) refl h in
-    record { same = λ u x y. ap (around_of u) s ∙ m.same u x y ∙ ap (around_of u) d }
+    record { same = λ u x y. ap (around_of u) s ∙ m.same u x y ∙ ap (around_of u) d; few = omega arith }
 
 -- the zone's file is a part of the pack
-pub near-moved : (k f g : List ℕ) (z : Zone) (from to : Time) (dates : Dates) (a b first n : ℕ) (out : List Item) (i : ℕ) → f ≡ g
-    → Nearing (rule_by k f z from to dates) a b first n out i → Nearing (rule_by k g z from to dates) a b first n out i
-near-moved k f g z from to dates a b first n out i e m = rw e at m
+pub near-moved : (k f g : List ℕ) (z : Zone) (from to : Time) (dates : Dates) (a b first n : ℕ) (out : List Item) (w i : ℕ) → f ≡ g
+    → Nearing (rule_by k f z from to dates) a b first n out w i → Nearing (rule_by k g z from to dates) a b first n out w i
+near-moved k f g z from to dates a b first n out w i e m = rw e at m
 
 -- ---- the rules of a counted array
 

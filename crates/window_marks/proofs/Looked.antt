@@ -14,8 +14,7 @@ use Rattle.laws_base.specs.Test.{by-test}
 use Rattle.instant.specs.declared.Instant.{Instant}
 use Rattle.instant.specs.Instant.{nanos}
 use Rattle.block_marked.specs.Marked.{marked_list, SidesOf}
-use Rattle.arrayvec.specs.ArrayVec.{ArrayVec}
-use Rattle.block_marked.specs.declared.MarkedBlock.{MarkedBlock as MarkedItem}
+use Rattle.block_marked.specs.declared.MarkedBlocks.{MarkedBlocks}
 use Rattle.block_marked.specs.declared.Sides.{Sides}
 use Rattle.window_dates.specs.Windows.{Window}
 use Rattle.window_marks.specs.Whole.{NearBlocks, SameWindow, BordersAsked, RuleSides, MarksWanted}
@@ -41,7 +40,7 @@ pub same_ends : (a b : Border) → a.lo.sec ≡ b.lo.sec → a.lo.ns ≡ b.lo.ns
 same_ends a b p q r s = (omega arith, omega arith)
 
 -- one list for both
-pub one_list : (r : Rule) (a b : Border) (l : ArrayVec MarkedItem) (x : Sides) → nanos a.at ≤ nanos b.at → SameWindow a b → NearBlocks r a.lo a.hi a.at b.at l
+pub one_list : (r : Rule) (a b : Border) (l : MarkedBlocks) (x : Sides) → nanos a.at ≤ nanos b.at → SameWindow a b → NearBlocks r a.lo a.hi a.at b.at l
     → SidesOf (nanos a.at) (nanos b.at) (marked_list l) x → RuleSides r a b x
 one_list r a b l x o w n s = (
   s.0 ∙ n.same (nanos a.at) (omega arith) o,
@@ -49,7 +48,7 @@ one_list r a b l x o w n s = (
 )
 
 -- a list for each
-pub own-list : (r : Rule) (a : Border) (l : ArrayVec MarkedItem) {x : Around} → NearBlocks r a.lo a.hi a.at a.at l → x ≡ around_of (nanos a.at) (marked_list l)
+pub own-list : (r : Rule) (a : Border) (l : MarkedBlocks) {x : Around} → NearBlocks r a.lo a.hi a.at a.at l → x ≡ around_of (nanos a.at) (marked_list l)
     → x ≡ around_of (nanos a.at) (whole_of (nanos a.lo) (nanos a.hi) r)
 own-list r a l n e = e ∙ n.same (nanos a.at) (omega arith) (omega arith)
 

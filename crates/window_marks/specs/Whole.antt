@@ -7,12 +7,12 @@ use Rattle.model.specs.Working as model
 use Rattle.laws_demand3.specs.Windows.{OfRules}
 use Rattle.laws_marks.specs.Around.{around_of, start_by, end_by}
 use Rattle.laws_marks.specs.Plain.{SteadyIn}
-use Rattle.arrayvec.specs.ArrayVec.{ArrayVec}
 use Rattle.mark.specs.Marks.{mark_number}
 use Rattle.instant.specs.Instant.{nanos, InRange}
 use Rattle.instant.specs.declared.Instant.{Instant}
-use Rattle.block_marked.specs.Marked.{marked_is, marked_list, around_is}
+use Rattle.block_marked.specs.Marked.{most_marked, marked_is, marked_list, around_is}
 use Rattle.block_marked.specs.declared.MarkedBlock.{MarkedBlock as Item}
+use Rattle.block_marked.specs.declared.MarkedBlocks.{MarkedBlocks}
 use Rattle.block_marked.specs.declared.Sides.{Sides}
 use Rattle.book_dates.specs.Days.{dates_at}
 use Rattle.civil.specs.Dates.{time_in, TimeFits}
@@ -86,8 +86,9 @@ pub record NearDate (book : List ℕ) (dates : Dates) (bounds : OffsetBounds) (f
   pub far : answer ≡ false → (on_is book dates d ≡ false) ⊎ Apart bounds from to d a b
 
 -- l shows around each instant from a to b what all whole blocks of the rule in the window [lo, hi) show
-pub record NearBlocks (r : model.Rule) (lo hi a b : Instant) (l : ArrayVec Item) : Type 0 where
+pub record NearBlocks (r : model.Rule) (lo hi a b : Instant) (l : MarkedBlocks) : Type 0 where
   pub same : (u : ℕ) → nanos a ≤ u → u ≤ nanos b → around_of u (marked_list l) ≡ around_of u (whole_of (nanos lo) (nanos hi) r)
+  pub few : l.len ≤ most_marked
 
 -- ---- two ends, each in its window
 

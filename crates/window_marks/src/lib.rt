@@ -194,12 +194,13 @@ fn blocks_near(
     let days = window_dates::local_dates(pack, x.at, x.len, z, lo, hi);
     let first = days.first;
     let count = civil::day_count(first, days.last);
-    let mut out = MarkedBlocks::new();
+    let mut out = block_marked::empty_marked();
     for k in 0..count {
         let d = civil::later(first, k);
         if is_near(book, dates, bounds, from, to, d, a, b) {
             if let Some(y) = whole_on(f, z, from, to, d) {
-                out.push(y);
+                out.items[out.len] = y;
+                out.len += 1;
             }
         }
     }
@@ -222,13 +223,13 @@ fn rule_sides(book: &[u8], pack: &[u8], x: AnyRule, a: Border, b: Border) -> Sid
 {
     if same_window(a, b) {
         let l = blocks_near(book, pack, x, a.lo, a.hi, a.at, b.at);
-        return block_marked::shown_at(&l, a.at, b.at);
+        return block_marked::shown_at(&l.items[..l.len], a.at, b.at);
     }
     let l = blocks_near(book, pack, x, a.lo, a.hi, a.at, a.at);
     let m = blocks_near(book, pack, x, b.lo, b.hi, b.at, b.at);
     Sides {
-        start: block_marked::shown_around(&l, a.at),
-        end: block_marked::shown_around(&m, b.at),
+        start: block_marked::shown_around(&l.items[..l.len], a.at),
+        end: block_marked::shown_around(&m.items[..m.len], b.at),
     }
 }
 

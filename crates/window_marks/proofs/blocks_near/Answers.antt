@@ -1,13 +1,12 @@
-use Rattle.window_marks.proofs.Filling.{nearing-starts, nearing-room, nearing-on, nearing-off, nearing-apart, nearing-done, near-moved}
+use Rattle.std.specs.Prelude.{None, Some}
+use Rattle.window_marks.proofs.Filling.{nearing-starts, nearing-stored, nearing-none, nearing-off, nearing-apart, nearing-done, near-moved}
 use Rattle.window_marks.proofs.Taken.{held-taken, rule-on, rule-dates, apart_none, apart-near}
 use Rattle.window_dates.proofs.Fill.{zone-moved, local-date-in}
 use Rattle.laws_calendar.specs.Numbers.{is-fits, day-bits, bits-day}
-use Prim.Native.Nat.{◌<◌}
 use lib.ListN.{length}
-use mathlib.Core.List.{append-nil}
 use mir.Facts.{to_z-of_z}
 use mathlib.Core.Logic.{⊎_elim}
-use mathlib.Core.Path.{sym}
+use mathlib.Core.Path.{◌≡◌}
 use native.Mathlib.Omega.{arith}
 use Rattle.window_marks.proofs.blocks_near.Goals.{then-is_near+in-Some, then-is_near+in_default, else-is_near}
 use Rattle.window_marks.proofs.blocks_near.Goals as goal
@@ -31,19 +30,15 @@ pub whole_on-requires : goal.whole_on-requires
 whole_on-requires c = let q = c.local_dates-days.ensures in let a = day-bits (is-fits q.first-number) in let b = day-bits (is-fits q.last-number) in let n = c.day_count-count.ensures in let l = c.loop-k-test.true in let t = bits-day c.later-d.ensures (omega (arith, q.high)) in (zone-moved _ _ _ c.part-f.ensures c.requires.0.opened, local-date-in _ _ _ _ _ q (omega arith) (omega arith), c.requires.0.from, c.requires.0.to)
 
 pub loop-k-init : goal.loop-k-init
-loop-k-init c = nearing-starts _ _ _ _ _ _ c.new-out.ensures
-
-pub push-requires : goal.push-requires
-push-requires c = let q = c.local_dates-days.ensures in let a = day-bits (is-fits q.first-number) in let b = day-bits (is-fits q.last-number) in
-    let v : length c.loop-k.out.items < 21 = nearing-room _ _ _ _ _ _ _ c.loop-k.invariant c.loop-k-test.true (omega (arith, q.few, c.day_count-count.ensures)) in (omega arith, v)
+loop-k-init c = let l : length c.empty_marked-out.result.items ≡ 21 = omega (arith, c.empty_marked-out.type_inv) in rw c.empty_marked-out.ensures.1 (nearing-starts _ _ _ _ _ _ l)
 
 pub loop-k-preserved : goal.loop-k-preserved
 loop-k-preserved c = let q = c.local_dates-days.ensures in let a = day-bits (is-fits q.first-number) in let b = day-bits (is-fits q.last-number) in let n = c.day_count-count.ensures in let l = c.loop-k-test.true in let t = bits-day c.later-d.ensures (omega (arith, q.high)) in
     elim c.if-is_near.branch [
-      | then-is_near+in-Some w ↦ rw w.out-is (nearing-on _ _ _ _ _ _ _ c.loop-k.invariant l (rule-on _ _ _ _ _ _ t (c.is_near.ensures.near w.if-is_near.true)) w.whole_on.result (held-taken _ _ _ _ _ _ _ t w.whole_on.ensures) _ (rw w.in-Some.is w.push.ensures.items))
-      | then-is_near+in_default w ↦ rw w.out-is (nearing-on _ _ _ _ _ _ _ c.loop-k.invariant l (rule-on _ _ _ _ _ _ t (c.is_near.ensures.near w.if-is_near.true)) w.whole_on.result (held-taken _ _ _ _ _ _ _ t w.whole_on.ensures) _ (rw w.in_default.is (sym (append-nil c.loop-k.out.items))))
-      | else-is_near w ↦ rw w.out-is (⊎_elim (λ e. nearing-off _ _ _ _ _ _ _ c.loop-k.invariant l (rule-on _ _ _ _ _ _ t e)) (λ e. nearing-apart _ _ _ _ _ _ _ c.loop-k.invariant l (apart-near _ _ _ _ _ _ _ _ _ t (apart_none _ _ _ _ _ _ _ _ _ _ (zone-moved _ _ _ c.part-f.ensures c.requires.0.opened) c.bounds_of-bounds.ensures record { is-day = local-date-in _ _ _ _ _ q (omega arith) (omega arith); from-fits = c.requires.0.from; to-fits = c.requires.0.to; least = let x = c.bounds_of-bounds.ensures.least 0 in let y = c.bounds_of-bounds.ensures.greatest 0 in let m = c.bounds_of-bounds.ensures.most in omega arith; greatest = c.bounds_of-bounds.ensures.most; from_in = c.requires.1.from_in; upto-in = c.requires.1.upto-in } e))) (c.is_near.ensures.far w.if-is_near.false))
+      | then-is_near+in-Some w ↦ rw w.out-is (nearing-stored _ _ _ _ _ _ _ _ c.loop-k.invariant l (omega (arith, q.few, n)) (rule-on _ _ _ _ _ _ t (c.is_near.ensures.near w.if-is_near.true)) _ (held-taken _ _ _ _ _ _ (Some w.in-Some.y) t (rw w.in-Some.is at w.whole_on.ensures)))
+      | then-is_near+in_default w ↦ rw w.out-is (nearing-none _ _ _ _ _ _ _ _ c.loop-k.invariant l (rule-on _ _ _ _ _ _ t (c.is_near.ensures.near w.if-is_near.true)) (held-taken _ _ _ _ _ _ None t (rw w.in_default.is at w.whole_on.ensures)))
+      | else-is_near w ↦ rw w.out-is (⊎_elim (λ e. nearing-off _ _ _ _ _ _ _ _ c.loop-k.invariant l (rule-on _ _ _ _ _ _ t e)) (λ e. nearing-apart _ _ _ _ _ _ _ _ c.loop-k.invariant l (apart-near _ _ _ _ _ _ _ _ _ t (apart_none _ _ _ _ _ _ _ _ _ _ (zone-moved _ _ _ c.part-f.ensures c.requires.0.opened) c.bounds_of-bounds.ensures record { is-day = local-date-in _ _ _ _ _ q (omega arith) (omega arith); from-fits = c.requires.0.from; to-fits = c.requires.0.to; least = let x = c.bounds_of-bounds.ensures.least 0 in let y = c.bounds_of-bounds.ensures.greatest 0 in let m = c.bounds_of-bounds.ensures.most in omega arith; greatest = c.bounds_of-bounds.ensures.most; from_in = c.requires.1.from_in; upto-in = c.requires.1.upto-in } e))) (c.is_near.ensures.far w.if-is_near.false))
     ]
 
 pub returns : goal.returns
-returns c = let q = c.local_dates-days.ensures in let a = day-bits (is-fits q.first-number) in let b = day-bits (is-fits q.last-number) in nearing-done _ _ _ _ (rule-dates _ _ _ _ _ _ _ _ _ q) _ _ _ _ a (omega (arith, c.day_count-count.ensures)) _ _ (near-moved _ _ _ _ _ _ _ _ _ _ _ _ _ c.part-f.ensures c.loop-k.invariant) c.loop-k-test.false
+returns c = let q = c.local_dates-days.ensures in let a = day-bits (is-fits q.first-number) in let b = day-bits (is-fits q.last-number) in nearing-done _ _ _ _ (rule-dates _ _ _ _ _ _ _ _ _ q) _ _ _ _ a (omega (arith, c.day_count-count.ensures)) _ _ (near-moved _ _ _ _ _ _ _ _ _ _ _ _ _ _ c.part-f.ensures c.loop-k.invariant) c.loop-k-test.false (omega arith)

@@ -6,4 +6,4 @@ use Rattle.instant.specs.Instant.{nanos}
 use Rattle.window_marks.proofs.blocks_near.Given as goal
 
 abbrev pub invariant-loop-k : goal.invariant-loop-k
-invariant-loop-k l = Nearing (rule_by l.book l.f l.z l.from l.to l.dates) (nanos l.a) (nanos l.b) (day_of l.first) l.count l.out.items l.k
+invariant-loop-k l = Nearing (rule_by l.book l.f l.z l.from l.to l.dates) (nanos l.a) (nanos l.b) (day_of l.first) l.count l.out.items l.out.len l.k
