@@ -63,14 +63,16 @@ fn layout_at(f: &[u8], b: usize, h: Head) -> Layout
 pub fn read(f: &[u8]) -> Option<Layout>
     ensures { result ≡ read_of f.now }
 {
+    if !zone_tzif_head::head_ok(f, 0) {
+        return None;
+    }
     let s = zone_tzif_head::second_at(f);
+    if !zone_tzif_head::head_ok(f, s) {
+        return None;
+    }
     let h = zone_tzif_head::head_at(f, s);
     let b = s + zone_tzif_head::HEADER_SIZE;
-    if zone_tzif_head::head_ok(f, 0)
-        && zone_tzif_head::head_ok(f, s)
-        && big_endian::small_at(f, VERSION_AT) == h.version
-        && zone_tzif_block::block_ok(f, b, h)
-    {
+    if big_endian::small_at(f, VERSION_AT) == h.version && zone_tzif_block::block_ok(f, b, h) {
         Some(layout_at(f, b, h))
     } else {
         None

@@ -50,7 +50,18 @@ fn times_rise(f: &[u8], b: usize, n: usize) -> bool
     requires { (b < places_end) × (n < words_end) }
     ensures { result ≡ times_rise f.now b n }
 {
-    (0..n.saturating_sub(1)).all(|i| key_at(f, b, i) < key_at(f, b, i + 1))
+    if n == 0 {
+        return true;
+    }
+    let mut last = key_at(f, b, 0);
+    for i in 0..n - 1 {
+        let next = key_at(f, b, i + 1);
+        if last >= next {
+            return false;
+        }
+        last = next;
+    }
+    true
 }
 
 // Is byte i from `at` on below n?
