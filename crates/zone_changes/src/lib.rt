@@ -112,8 +112,15 @@ pub fn around(offset: u32, rule: ChangeRule, u: u64) -> Changes
     ensures { Near (model.change_in offset (change_rule_is rule)) u result.last result.next }
 {
     let first = first_year(u);
-    let mut next = change_in(offset, rule, first + 4);
-    for year in (first..first + 4).rev() {
+    let fourth = change_in(offset, rule, first + 3);
+    if fourth <= u {
+        return Changes {
+            last: fourth,
+            next: change_in(offset, rule, first + 4),
+        };
+    }
+    let mut next = fourth;
+    for year in (first..first + 3).rev() {
         let last = change_in(offset, rule, year);
         if last <= u {
             return Changes { last, next };
