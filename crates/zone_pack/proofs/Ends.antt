@@ -153,3 +153,6 @@ module _ (p nm : List ℕ) {n : ℕ} (ok : is_some (pack_of p) ≡ true) (en : n
 
   pub look-found : {i : ℕ} {r : Found} → first_file p nm n ≡ some (named_at p i).file → IsFileOf p i r → IsZone p nm r
   look-found e f = record { file = zone-is ∙ e ∙ ap some (sym f.file); part = f.part }
+
+-- the two answers, for `look_in`
+pub ruleset looks = (look-absent, look-found)

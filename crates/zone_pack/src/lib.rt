@@ -87,6 +87,7 @@ fn find_in(p: &[u8], name: &[u8], n: usize) -> Option<usize>
 
 // The finder: the zone file of a name in a pack that keeps its layout. None where the pack has not got the name, so that an absent name is told
 // from an empty file.
+#[tactic(auto, using(crate::proofs::Ends::looks))]
 pub fn look_in<'a>(p: &'a [u8], name: &[u8]) -> Option<Found<'a>>
     requires { is_pack p.now ≡ true }
     ensures { FindsZone p.now name.now result }
