@@ -1,5 +1,5 @@
 -- What the code answers, in terms of the definitions: the zone of a record, a schedule with one record more, and the answer of `build`.
-use Rattle.std.specs.Prelude.{◌≡◌, refl, List, [], ◌∷◌, ◌++◌, ℕ, ◌+◌, ◌*◌, ◌≤◌, eqb, length, take, drop, set, Bool, true, if◌then◌else◌, Some, None, Result, IfOk}
+use Rattle.std.specs.Prelude.{◌≡◌, refl, List, [], ◌∷◌, ◌++◌, ℕ, ◌+◌, ◌*◌, ◌≤◌, eqb, length, take, drop, set, Bool, true, if◌then◌else◌, Some, None, Result, Ok, Err, IfOk}
 use Rattle.std.specs.Prelude as std
 use Rattle.std.proofs.Common.{sym}
 use Rattle.std.proofs.Math.Option.{Option, none, some}
@@ -221,6 +221,15 @@ pub record ReadsBook (b p : List ℕ) (r : Result Schedule Refused) (a : Answer 
 pub record Answers (b p : List ℕ) (r : Result Schedule Refused) (a : Answer model.Schedule) : Type 0 where
   pub means : answer_of (schedule_is b p) r ≡ a
   pub fits : IfOk r (ScheduleFits b p)
+
+-- a schedule that has no rules
+abbrev pub IsEmpty : Schedule → Type 0
+IsEmpty s = Sized s 0 0 0 first_limit × Long s
+
+-- what filling a schedule comes to: the schedule as it is then, or the refusal
+abbrev pub filled : Result (Unit {0}) Refused → Schedule → Result Schedule Refused
+filled (Ok x) s = Ok s
+filled (Err e) s = Err e
 
 -- what the loop over the records answers where d is the default zone, what is answered before the search for work, and what `build` answers
 abbrev pub ReadsRules : List ℕ → List ℕ → Opened → Result Schedule Refused → Type 0

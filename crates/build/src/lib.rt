@@ -5,7 +5,7 @@ ghost use Rattle.std.specs.Prelude.{◌≡◌, true, List, ℕ, ◌+◌, ◌≤�
 ghost use Rattle.zone_pack.specs.Pack.{is_pack};
 ghost use Rattle.book.specs.Meaning.{NameIn};
 ghost use Rattle.build.specs.Read.{Checked, OpenedWell, IsUtc, AnswersNamed, AnswersDefault, AnswersUsed, SameName, Searchable};
-ghost use Rattle.build.specs.Read.{lookup_after, rule_from, holidays_from, first_limit, Sized, Long, RecordRoom, Adds, ReadsRules, AnswersRules, Builds};
+ghost use Rattle.build.specs.Read.{lookup_after, rule_from, holidays_from, Long, RecordRoom, Adds, IsEmpty, filled, ReadsRules, AnswersRules, Builds};
 
 use book::Entry;
 use civil::Time;
@@ -167,7 +167,7 @@ fn holidays_of(e: Entry, o: Opened) -> HolidayDates
 
 // No rules.
 fn no_rules() -> Schedule
-    ensures { Sized result 0 0 0 first_limit × Long result }
+    ensures { IsEmpty result }
 {
     let zone = zone::utc();
     let from = Time {
@@ -221,25 +221,25 @@ fn add_record(book: &[u8], s: &mut Schedule, e: Entry, o: Opened)
     }
 }
 
-// The rules of the book's records, where d is the default zone.
-fn read_rules(book: &[u8], pack: &[u8], d: Opened) -> Result<Schedule, Refused>
-    requires { Checked book.now pack.now × OpenedWell pack.now d }
-    ensures { ReadsRules book.now pack.now d result }
+// Adds the rules of the book's records to a schedule that has none, where d is the default zone. A schedule is 5.4 kB, which are not copied here.
+fn read_rules(book: &[u8], pack: &[u8], d: Opened, s: &mut Schedule) -> Result<(), Refused>
+    requires { Checked book.now pack.now × OpenedWell pack.now d × IsEmpty s.old }
+    ensures { ReadsRules book.now pack.now d (filled result s.new) }
 {
-    let mut s = no_rules();
     let mut k = None;
     for i in 0..book::count(book) {
         let e = book::entry_at(book, i);
         let o = zone_used(book, pack, e, d, k)?;
         k = lookup_after(e, o, k);
-        add_record(book, &mut s, e, o);
+        add_record(book, s, e, o);
     }
-    Ok(s)
+    Ok(())
 }
 
-// The schedule of a book and a pack, whether or not there is work in it: refusals 1 to 5, in this order.
-fn rules_of(book: &[u8], pack: &[u8]) -> Result<Schedule, Refused>
-    ensures { AnswersRules book.now pack.now result }
+// Makes a schedule that has no rules that of a book and a pack, whether or not there is work in it: refusals 1 to 5, in this order.
+fn rules_into(book: &[u8], pack: &[u8], s: &mut Schedule) -> Result<(), Refused>
+    requires { IsEmpty s.old }
+    ensures { AnswersRules book.now pack.now (filled result s.new) }
 {
     if !book::book_ok(book) {
         return Err(Refusal::BookLayout.into());
@@ -250,14 +250,15 @@ fn rules_of(book: &[u8], pack: &[u8]) -> Result<Schedule, Refused>
     if !zone_pack::pack_ok(pack) {
         return Err(Refusal::PackLayout.into());
     }
-    read_rules(book, pack, default_zone(book, pack)?)
+    read_rules(book, pack, default_zone(book, pack)?, s)
 }
 
 // The schedule of a book and a pack, or its first refusal.
 pub fn build(book: &[u8], pack: &[u8]) -> Result<Schedule, Refused>
     ensures { Builds book.now pack.now result }
 {
-    let s = rules_of(book, pack)?;
+    let mut s = no_rules();
+    rules_into(book, pack, &mut s)?;
     if build_check::has_work(book, pack, s) {
         return Ok(s);
     }

@@ -90,13 +90,13 @@ fn load<R: Files + Eprint>(rt: &R, path: &str, buf: &mut [u8]) -> usize
 fn pass<W: Write>(
     book: &[u8],
     pack: &[u8],
-    b: Result<Schedule, Refused>,
+    b: &Result<Schedule, Refused>,
     p: Progress,
     input: &[u8],
     out: &mut [u8],
     output: &mut W,
 ) -> io::Result<Progress>
-    requires { Builds book.now pack.now b × (longest ≤ length out.old) }
+    requires { Builds book.now pack.now b.now × (longest ≤ length out.old) }
     ensures ok { IfOk result (λ r. Passes (build book.now pack.now) input.now (W.contents output.old) (W.contents output.new) p r) }
     ensures err { IfErr result (λ _. PassFails (build book.now pack.now) input.now (W.contents output.old) (W.contents output.new) p) }
 {
@@ -130,13 +130,13 @@ pub fn answer_all<R: Read, W: Write>(
             Err(e) => return Err(Failure::Input(e)),
         };
         if n == 0 {
-            let k = query_stream::end(book, pack, b, p, &mut out);
+            let k = query_stream::end(book, pack, &b, p, &mut out);
             return match pieces::write_all(output, &out[..k]) {
                 Ok(()) => Ok(()),
                 Err(e) => Err(Failure::Output(e)),
             };
         }
-        p = match pass(book, pack, b, p, &piece[..n], &mut out, output) {
+        p = match pass(book, pack, &b, p, &piece[..n], &mut out, output) {
             Ok(r) => r,
             Err(e) => return Err(Failure::Output(e)),
         };

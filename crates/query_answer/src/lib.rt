@@ -76,23 +76,23 @@ fn put_answer(book: &[u8], pack: &[u8], s: Schedule, q: Query, out: &mut [u8], a
     }
 }
 
-// Writes the answer line of a query, from what `build` answered. None is a line that is no query.
+// Writes the answer line of a query, from what `build` answered. None is a line that is no query. The schedule is not copied where it is not asked.
 pub fn answer(
     book: &[u8],
     pack: &[u8],
-    b: Result<Schedule, Refused>,
+    b: &Result<Schedule, Refused>,
     q: Option<Query>,
     out: &mut [u8],
     at: usize,
 ) -> usize
-    requires { Builds book.now pack.now b × (at + longest ≤ length out.old) }
+    requires { Builds book.now pack.now b.now × (at + longest ≤ length out.old) }
     ensures { Replied book.now pack.now q out.old out.new at result }
 {
     let Some(q) = q else {
         return answer_line::put_bad(out, at);
     };
     match b {
-        Ok(s) => put_answer(book, pack, s, q, out, at),
-        Err(r) => put_refused(out, at, r),
+        Ok(s) => put_answer(book, pack, *s, q, out, at),
+        Err(r) => put_refused(out, at, *r),
     }
 }

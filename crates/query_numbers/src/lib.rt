@@ -170,19 +170,19 @@ fn refused(r: Refused, kind: i64, a: i64, b: i64, c: i64, d: i64) -> Result<AnyA
 fn reply(
     book: &[u8],
     pack: &[u8],
-    built: Result<Schedule, Refused>,
+    built: &Result<Schedule, Refused>,
     kind: i64,
     a: i64,
     b: i64,
     c: i64,
     d: i64,
 ) -> Result<AnyAnswer, Unanswered>
-    requires { Builds book.now pack.now built }
+    requires { Builds book.now pack.now built.now }
     ensures { AnswersAs (build book.now pack.now) «kind» «a» «b» «c» «d» result }
 {
     match built {
-        Ok(s) => answer(book, pack, s, kind, a, b, c, d),
-        Err(r) => refused(r, kind, a, b, c, d),
+        Ok(s) => answer(book, pack, *s, kind, a, b, c, d),
+        Err(r) => refused(*r, kind, a, b, c, d),
     }
 }
 
@@ -223,13 +223,13 @@ fn put(out: &mut [i64], at: usize, r: Result<AnyAnswer, Unanswered>)
 fn answer_one(
     book: &[u8],
     pack: &[u8],
-    built: Result<Schedule, Refused>,
+    built: &Result<Schedule, Refused>,
     queries: &[i64],
     i: usize,
     out: &mut [i64],
     at: usize,
 )
-    requires { Builds book.now pack.now built × (i + 5 ≤ length queries.now) × (at + 6 ≤ length out.old) }
+    requires { Builds book.now pack.now built.now × (i + 5 ≤ length queries.now) × (at + 6 ≤ length out.old) }
     ensures { OneAnswered (build book.now pack.now) queries.now i at
         out.old out.new }
 {
@@ -246,11 +246,11 @@ fn answer_one(
 fn answer_all(
     book: &[u8],
     pack: &[u8],
-    built: Result<Schedule, Refused>,
+    built: &Result<Schedule, Refused>,
     queries: &[i64],
     out: &mut [i64],
 )
-    requires { Builds book.now pack.now built × (6 * (length queries.now / 5) ≤ length out.old) }
+    requires { Builds book.now pack.now built.now × (6 * (length queries.now / 5) ≤ length out.old) }
     ensures { BatchAnswered (build book.now pack.now) queries.now
         out.old out.new }
 {
@@ -275,6 +275,6 @@ pub fn hirgwamo_answers(book: &[u8], pack: &[u8], queries: &[i64], answers: &mut
     if answers.len() / ANSWER_SIZE < queries.len() / QUERY_SIZE {
         return answer_numbers::TOO_SHORT;
     }
-    answer_all(book, pack, build::build(book, pack), queries, answers);
+    answer_all(book, pack, &build::build(book, pack), queries, answers);
     answer_numbers::ANSWERED
 }

@@ -57,11 +57,11 @@ fn fed(line: Option<Line>, byte: u8) -> Option<Line>
 fn end_line(
     book: &[u8],
     pack: &[u8],
-    b: Result<Schedule, Refused>,
+    b: &Result<Schedule, Refused>,
     p: Progress,
     out: &mut [u8],
 ) -> Progress
-    requires { Builds book.now pack.now b × HasLineRoom p out.old }
+    requires { Builds book.now pack.now b.now × HasLineRoom p out.old }
     ensures { LineEnded book.now pack.now out.old out.new p result }
 {
     let used = query_answer::answer(book, pack, b, query_of(p.line), out, p.used);
@@ -90,12 +90,12 @@ fn read_byte(p: Progress, byte: u8) -> Progress
 pub fn feed(
     book: &[u8],
     pack: &[u8],
-    b: Result<Schedule, Refused>,
+    b: &Result<Schedule, Refused>,
     p: Progress,
     input: &[u8],
     out: &mut [u8],
 ) -> Progress
-    requires { Builds book.now pack.now b × ((p.used ≤ length out.old) × (p.next ≤ length input.now)) }
+    requires { Builds book.now pack.now b.now × ((p.used ≤ length out.old) × (p.next ≤ length input.now)) }
     ensures { FedBy book.now pack.now input.now out.old out.new p result }
 {
     let mut r = p;
@@ -116,11 +116,11 @@ pub fn feed(
 pub fn end(
     book: &[u8],
     pack: &[u8],
-    b: Result<Schedule, Refused>,
+    b: &Result<Schedule, Refused>,
     p: Progress,
     out: &mut [u8],
 ) -> usize
-    requires { Builds book.now pack.now b × (longest ≤ length out.old) }
+    requires { Builds book.now pack.now b.now × (longest ≤ length out.old) }
     ensures { Ended book.now pack.now out.old out.new p result }
 {
     if p.begun {

@@ -78,8 +78,11 @@ pub fn between(
 ) -> Result<Counted, Refused>
     ensures { CountedAs result (model.between book.now pack.now a_sec a_ns b_sec b_ns) }
 {
-    let s = build::build(book, pack)?;
-    between_in(book, pack, s, a_sec, a_ns, b_sec, b_ns)
+    // Not by `?`: that copies the schedule.
+    match build::build(book, pack) {
+        Ok(s) => between_in(book, pack, s, a_sec, a_ns, b_sec, b_ns),
+        Err(refused) => Err(refused),
+    }
 }
 
 // ---- an instant moved by working time
@@ -156,8 +159,11 @@ fn build_and_move(
 ) -> Result<Counted, Refused>
     ensures { CountedAs result (move_of back book.now pack.now t_sec t_ns d_sec d_ns) }
 {
-    let built = build::build(book, pack)?;
-    move_in(book, pack, built, back, t_sec, t_ns, d_sec, d_ns)
+    // Not by `?`: that copies the schedule.
+    match build::build(book, pack) {
+        Ok(s) => move_in(book, pack, s, back, t_sec, t_ns, d_sec, d_ns),
+        Err(r) => Err(r),
+    }
 }
 
 // The instant that is a duration of working time after the instant t.

@@ -78,6 +78,9 @@ pub fn hardest(
     ensures { answer_of hardest_reply result ≡ model.hardest book.now pack.now
         t_sec t_ns log.now «width» }
 {
-    let s = build::build(book, pack)?;
-    hardest_in(book, pack, s, t_sec, t_ns, log, width)
+    // Not by `?`: that copies the schedule.
+    match build::build(book, pack) {
+        Ok(s) => hardest_in(book, pack, s, t_sec, t_ns, log, width),
+        Err(r) => Err(r),
+    }
 }

@@ -130,6 +130,9 @@ pub fn list(
     ensures { ListsAs out.old out.new result
         (model.list book.now pack.now a_sec a_ns b_sec b_ns out.old) }
 {
-    let s = build::build(book, pack)?;
-    list_in(book, pack, s, a_sec, a_ns, b_sec, b_ns, out)
+    // Not by `?`: that copies the schedule.
+    match build::build(book, pack) {
+        Ok(s) => list_in(book, pack, s, a_sec, a_ns, b_sec, b_ns, out),
+        Err(r) => Err(r),
+    }
 }

@@ -133,8 +133,11 @@ fn build_and_find(
 ) -> Result<MarkedPeriod, Refused>
     ensures { answer_of marked_numbers result ≡ marked_of back book.now pack.now sec ns }
 {
-    let s = build::build(book, pack)?;
-    marked_period_in(book, pack, s, back, sec, ns)
+    // Not by `?`: that copies the schedule.
+    match build::build(book, pack) {
+        Ok(s) => marked_period_in(book, pack, s, back, sec, ns),
+        Err(r) => Err(r),
+    }
 }
 
 // The period at an instant or the first one after it. It starts at the instant if that lies inside, and is cut to the search limit.

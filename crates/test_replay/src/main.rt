@@ -32,12 +32,12 @@ fn lines_in(s: &[u8]) -> u64 {
 // Are the answers to the lines of `input` those that are expected?
 fn agrees(book: &[u8], pack: &[u8], input: &[u8], expected: &[u8], out: &mut [u8]) -> bool {
     let b = build::build(book, pack);
-    let p = query_stream::feed(book, pack, b, query_stream::begin(), input, out);
+    let p = query_stream::feed(book, pack, &b, query_stream::begin(), input, out);
     if p.next != input.len() {
         return false;
     }
     let mut tail = [0u8; LONGEST];
-    let k = query_stream::end(book, pack, b, p, &mut tail);
+    let k = query_stream::end(book, pack, &b, p, &mut tail);
     let n = p.used;
     stands_at(expected, 0, &out[..n])
         && stands_at(expected, n, &tail[..k])

@@ -7,7 +7,7 @@ ghost use Rattle.instant.specs.Instant.{nanos, most, Exact, InRange};
 ghost use Rattle.rule.specs.Rules.{ScheduleFits};
 ghost use Rattle.walk_period_week.specs.SoFars.{PeriodExact};
 ghost use Rattle.walk_period.specs.Found.{IsCut, FindsPeriod};
-ghost use Rattle.window_week.specs.Room.{HasRoom};
+ghost use Rattle.window_week.specs.Room.{Lends};
 
 use instant::{Instant, Length};
 use refusal::SearchError;
@@ -51,16 +51,18 @@ fn width(x: Length, y: Length) -> u64
 }
 
 // The nearest period to t, going on or back. A window's blocks are found in lent memory. The loop calls no other function with the schedule than
-// `working_in`, because each such call copies it.
-fn walk_into<const N: usize>(
+// `working_into`, because each such call copies it. `working_in` is one: it hands the schedule on.
+fn walk_into(
     book: &[u8],
     pack: &[u8],
     s: Schedule,
     t: Instant,
     back: bool,
-    memory: &mut Memory<N>,
+    on: &mut [u64],
+    off: &mut [u64],
+    out: &mut [u64],
 ) -> Result<Period, SearchError>
-    requires { ScheduleFits book.now pack.now s × InRange t × HasRoom s N }
+    requires { ScheduleFits book.now pack.now s × InRange t × Lends s on.old off.old out.old }
     ensures { FindsPeriod book.now pack.now s t back result }
 {
     let end = walk_distance::reach(t, back);
@@ -71,9 +73,9 @@ fn walk_into<const N: usize>(
     while instant::precedes(x, end) {
         let y = walk_distance::window_end(x, end);
         let at = walk_distance::place(t, back, x, y);
-        let n = window_week::working_in(book, pack, s, at.lo, at.hi, memory);
+        let n = window_week::working_into(book, pack, s, at.lo, at.hi, on, off, out);
         let w = width(x, y);
-        match walk_period_week::period_in_window(&memory.out, n, back, w, x, limit, known)? {
+        match walk_period_week::period_in_window(out, n, back, w, x, limit, known)? {
             SoFar::Nothing => {
                 if instant::precedes(limit, y) {
                     return Err(SearchError::NoWork);
@@ -108,8 +110,17 @@ pub fn period_walk(
     ensures { FindsPeriod book.now pack.now s t back result }
 {
     match window_memory::size_for(s.works + s.pauses + s.closings) {
-        Size::One => walk_into(book, pack, s, t, back, &mut Memory::<ONE>::new()),
-        Size::Four => walk_into(book, pack, s, t, back, &mut Memory::<FOUR>::new()),
-        Size::All => walk_into(book, pack, s, t, back, &mut Memory::<ALL>::new()),
+        Size::One => {
+            let mut m = Memory::<ONE>::new();
+            walk_into(book, pack, s, t, back, &mut m.on, &mut m.off, &mut m.out)
+        },
+        Size::Four => {
+            let mut m = Memory::<FOUR>::new();
+            walk_into(book, pack, s, t, back, &mut m.on, &mut m.off, &mut m.out)
+        },
+        Size::All => {
+            let mut m = Memory::<ALL>::new();
+            walk_into(book, pack, s, t, back, &mut m.on, &mut m.off, &mut m.out)
+        },
     }
 }

@@ -51,7 +51,8 @@ fn fitting(time: Length, left: Length) -> u64
 }
 
 // The windows from the distance x on that have the time of the one before them, if that time is kept, and take less than what is left to find: none
-// only if the first has not, or takes as much.
+// only if the first has not, or takes as much. Put into its callers, which are one for each size of memory: a call would copy the schedule.
+#[inline(always)]
 fn skips(
     book: &[u8],
     pack: &[u8],

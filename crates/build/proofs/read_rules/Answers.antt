@@ -6,7 +6,7 @@ use Rattle.build.proofs.Loop.{reading-start, reading-end, room-is, step-more, st
 use Rattle.build.proofs.read_rules.Goals as goal
 
 pub loop-i-init : goal.loop-i-init
-loop-i-init c = (reading-start _ _ _ c.requires.0.1 c.no_rules-s.ensures.0, c.no_rules-s.ensures.1, tt)
+loop-i-init c = (reading-start _ _ _ c.requires.0.1 c.requires.2.0, c.requires.2.1, tt)
 
 pub returns-in_err-o : goal.returns-in_err-o
 returns-in_err-o c =

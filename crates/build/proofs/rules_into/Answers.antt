@@ -1,8 +1,8 @@
--- `build::rules_of` meets its contract.
+-- `build::rules_into` meets its contract.
 use mathlib.Core.Path.{sym, ◌∙◌}
 use Rattle.std.proofs.lemmas.Result.{err_from_is_err_and}
 use Rattle.build.proofs.Refusals.{no-book, no-limits, no-pack, no_default, reads_all}
-use Rattle.build.proofs.rules_of.Goals as goal
+use Rattle.build.proofs.rules_into.Goals as goal
 
 pub returns-then-not-book_ok : goal.returns-then-not-book_ok
 returns-then-not-book_ok c = no-book _ _ c.book_ok.ensures c.if-not-book_ok.true c.into.ensures
