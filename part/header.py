@@ -7,8 +7,8 @@ Says what differs, one sentence for each difference, and ends with 1; where noth
 
 - each function that the code exports with the prototype in the header, names of parameters included, and that neither has one more: a lent slice `&[T]` is
   a pointer to const and a length, `&mut [T]` a pointer and a length, and the length of the slice `book` is `book_len`;
-- the refusals' numbers with the constants of the crate `refusal`, but for those of calls that are not exported, and the marks' with those of the crate
-  `mark`; the version, the sizes, the two numbers that are no refusals and the kinds of queries with those of these crates, or of the crates that they name;
+- the refusals' numbers with those that the enum of the crate `refusal` gives its variants, but for those of calls that are not exported, and the marks'
+  with those of the enum of the crate `mark`; the version, the sizes, the two numbers that are no refusals and the kinds of queries with those of these crates, or of the crates that they name;
 - the names in the version script with the header's functions, and the script's version and that of hirgwamo.pc.in with the code's;
 - with --library, the symbols that a shared library exports (nm) and their version with the header's functions and the script's, and the number in the
   library's name with the code's version.
@@ -85,6 +85,23 @@ def constants(code):
     return {name: int(number.replace("_", "")) for name, number in found}
 
 
+def variant_numbers(code):
+    """The numbers that the functions `number` of the code give to the variants of their enums, by the variants' names in capitals."""
+    told = {}
+    for enum, arms in re.findall(r"impl (\w+) \{\s*pub fn number\(self\) -> u32[^{}]*\{[^{}]*\}\s*\{\s*match self \{([^{}]*)\}\s*\}\s*\}", without_line_comments(code)):
+        for arm in filter(None, (part.strip() for part in arms.split(","))):
+            found = re.fullmatch(enum + r"::(\w+) => (\d[\d_]*)", arm)
+            if not found:
+                raise Unreadable(f"{enum}: `{arm}` is no variant with its number")
+            name = re.sub(r"(?<=[a-z])(?=[A-Z])", "_", found[1]).upper()
+            if name in told:
+                raise Unreadable(f"{enum}: {name} has two numbers")
+            told[name] = int(found[2].replace("_", ""))
+    if not told:
+        raise Unreadable("the refusals or the marks have no function `number` that is a match over the variants of an enum")
+    return told
+
+
 # ---- the header
 
 
@@ -157,7 +174,7 @@ def wanted_numbers(code, named, crates):
     missing = [f"the code has no constant {name}, or its crates have different ones" for name, number in own.items() if number is None]
     wanted = {**OK, **{name: number for name, number in own.items() if number is not None}}
     for file in named:
-        wanted |= constants(file)
+        wanted |= variant_numbers(file)
     return {name: number for name, number in wanted.items() if name not in OF_TICKETS}, missing
 
 
@@ -169,7 +186,7 @@ def number_differences(code, named, header, crates):
         if name not in told:
             yield f"the header lacks {PREFIX}{name} = {wanted[name]}"
         elif name not in wanted:
-            yield f"the header has {PREFIX}{name} = {told[name]} and the code has no such constant"
+            yield f"the header has {PREFIX}{name} = {told[name]} and the code has no such number"
         elif wanted[name] != told[name]:
             yield f"{PREFIX}{name} must be {wanted[name]} and the header has {told[name]}"
 

@@ -8,6 +8,9 @@ Reads the code of all crates (crates/NAME/src) and follows the calls from the fu
 - `main` of each program and each function that is exported to C;
 - the calls that README.md names, in the rows `| crate | calls |` of its table.
 
+Methods count as functions of their crate. Of which type a method is called is not known here, so a call `x.name(..)` or `Type::name(..)` goes to every
+method of that name. A method of a trait's impl counts as called, since `?`, `for` and the library call such methods unseen.
+
 A crate whose name begins with test_ or bench_ is a test. Prints each function that is not reached at all, and each function outside the tests that
 only tests reach. Prints too what the table names and the code does not have. Ends with status 1 where one of these but the second was found.
 """
@@ -16,10 +19,12 @@ import sys
 from pathlib import Path
 
 ROOT = Path(__file__).resolve().parent.parent
-HEAD = re.compile(r'^(?:pub )?(extern "C" )?fn ([a-z_0-9]+)', re.MULTILINE)
+HEAD = re.compile(r'^( *)(?:pub )?(extern "C" )?fn ([a-z_0-9]+)', re.MULTILINE)
+IMPL = re.compile(r"^(?:impl\b|pub trait\b|trait\b)[^{;]*", re.MULTILINE)
 GHOST = re.compile(r"^ *ghost\b.*$", re.MULTILINE)
 CLAUSE = re.compile(r"^ *(?:requires|ensures)\b[^{\n]*\{", re.MULTILINE)
-CALL = re.compile(r"(?:\b([a-z_0-9]+)::)?\b([a-z_0-9]+)\(")
+# What stands in front of a called name: nothing, the dot of a method, a type or a module; and the name.
+CALL = re.compile(r"(?:(\.)\s*|(?:\b([A-Z]\w*)|(>)|\b([a-z_0-9]+))::)?\b([a-z_0-9]+)(?:::<[^()]*>)?\(")
 ROW = re.compile(r"^\| `([a-z_0-9]+)` \|(.*)$", re.MULTILINE)
 WORD = re.compile(r"`([a-z_0-9]+)`")
 
@@ -41,28 +46,43 @@ def without_clauses(text):
     return "".join(kept) + text[at:]
 
 
+def is_of_trait(impls, at):
+    """Is what stands at a place, within an impl, in one by which a type has a trait?"""
+    before = [impl for impl in impls if impl.start() < at]
+    return bool(before) and (" for " in before[-1].group() or "trait" in before[-1].group())
+
+
 def functions_of(crate, text):
-    """The functions of a file: (name, is it exported, its text without comments and contracts)."""
+    """The functions of a file: (name, is it a method, is it called from outside, its text without comments and contracts)."""
     text = without_clauses(GHOST.sub("", re.sub(r"//.*", "", text)))
-    heads = list(HEAD.finditer(text))
+    heads, impls = list(HEAD.finditer(text)), list(IMPL.finditer(text))
     ends = [head.start() for head in heads[1:]] + [len(text)]
     for head, end in zip(heads, ends):
-        yield (crate, head.group(2)), head.group(1) is not None, text[head.end() : end]
+        indent, exported, name = head.groups()
+        called = exported is not None or (indent != "" and is_of_trait(impls, head.start()))
+        yield (crate, name), indent != "", called, text[head.end() : end]
 
 
 def read_code():
-    """What each function calls, and the functions that are called from outside: programs' main and those exported."""
-    bodies, roots = {}, set()
+    """What each function calls, and the functions that are called from outside: programs' main, those exported and those of a trait's impl."""
+    bodies, roots, methods = {}, set(), {}
     for path in sorted(ROOT.glob("crates/*/src/**/*.rt")):
         crate = path.relative_to(ROOT).parts[1]
-        for function, exported, body in functions_of(crate, path.read_text(encoding="utf-8")):
+        for function, is_method, is_called, body in functions_of(crate, path.read_text(encoding="utf-8")):
             bodies[function] = bodies.get(function, "") + body
-            if exported or function[1] == "main":
+            if is_method:
+                methods.setdefault(function[1], set()).add(function)
+            if is_called or function[1] == "main":
                 roots.add(function)
     crates = {crate for crate, _ in bodies}
     calls = {}
     for function, body in bodies.items():
-        named = {(crate if crate in crates else function[0], name) for crate, name in CALL.findall(body)}
+        named = set()
+        for dot, of_type, of_trait, module, name in CALL.findall(body):
+            if dot or of_type or of_trait:
+                named |= methods.get(name, set())
+            else:
+                named.add((module if module in crates else function[0], name))
         calls[function] = named & bodies.keys()
     return calls, roots
 
