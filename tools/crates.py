@@ -14,7 +14,7 @@ import sys
 from pathlib import Path
 
 ROOT = Path(__file__).resolve().parent.parent
-KIT = {"anyhow", "arrayvec"}  # libraries of the toolchain, beside std, which no line names
+KIT = {"anyhow"}  # libraries of the toolchain, beside std, which no line names
 WINGS = [
     "meaning", "laws", "base", "block", "zone", "book", "window", "walk", "build", "schedule", "part", "query", "clock", "test", "bench",
 ]  # fmt: skip
