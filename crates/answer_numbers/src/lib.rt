@@ -4,10 +4,7 @@
 
 ghost use Rattle.std.specs.Prelude.{◌≡◌, [], ◌∷◌, ◌+◌, ◌^◌, ◌≤◌, ◌<◌, length};
 ghost use Rattle.model.specs.Answer.{gives, refuses};
-ghost use Rattle.refusal.specs.Refused.{number_of};
 ghost use Rattle.answer_numbers.specs.Outcomes.{written, answering, EndsAs};
-
-use refusal::Refused;
 
 // Returned where the call answers.
 pub const ANSWERED: u32 = 0;
@@ -34,10 +31,10 @@ pub fn give<const N: usize>(answer: &mut [i64], numbers: [i64; N]) -> u32
 
 // Gives a refusal's place, and returns its number.
 #[tactic(auto, unfolding(crate::specs::Outcomes::written))]
-pub fn refuse(answer: &mut [i64], r: Refused) -> u32
-    requires { (1 ≤ length answer.old) × (r.place < 2 ^ 63) }
-    ensures { EndsAs result answer.new (answering (refuses (number_of r.refusal) r.place) answer.old) }
+pub fn refuse(answer: &mut [i64], number: u32, place: usize) -> u32
+    requires { (1 ≤ length answer.old) × (place < 2 ^ 63) }
+    ensures { EndsAs result answer.new (answering (refuses number place) answer.old) }
 {
-    answer[0] = r.place as i64;
-    r.refusal.number()
+    answer[0] = place as i64;
+    number
 }

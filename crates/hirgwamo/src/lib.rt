@@ -3,13 +3,18 @@
 // `hirgwamo_answers`, is that of crate `query_numbers`.
 #![tactic(auto)]
 
-ghost use Rattle.std.specs.Prelude.{◌≡◌};
+ghost use Rattle.std.specs.Prelude.{◌≡◌, ◌^◌, ◌≤◌, ◌<◌, length};
 ghost use Rattle.model.specs.Build as books;
 ghost use Rattle.model.specs.Calls as model;
 ghost use Rattle.model.specs.Hardest as logs;
 ghost use Rattle.model.specs.Marks as marks;
 ghost use Rattle.model.specs.ZoneCalls as zones;
+ghost use Rattle.model.specs.Answer.{refuses};
+ghost use Rattle.refusal.specs.Refused.{number_of};
+ghost use Rattle.answer_numbers.specs.Outcomes.{answering, EndsAs};
 ghost use Rattle.hirgwamo.specs.Part.{version, Tells, TellsList, verdict, with_count, one_number, when_changed, verdict_size, between_size, instant_size, period_size, marked_period_size, stretch_size, offset_size, change_size, resolved_size, marked_instant_size};
+
+use refusal::Refused;
 
 // Major times 1,000,000, minor times 1,000, patch.
 pub const VERSION: u32 = 1001000;
@@ -37,6 +42,16 @@ pub const RESOLVED_SIZE: usize = 2;
 
 pub const MARKED_INSTANT_SIZE: usize = 3;
 
+// ---- refusals
+
+// Gives a refusal's place, and returns its number.
+fn refuse(answer: &mut [i64], r: Refused) -> u32
+    requires { (1 ≤ length answer.old) × (r.place < 2 ^ 63) }
+    ensures { EndsAs result answer.new (answering (refuses (number_of r.refusal) r.place) answer.old) }
+{
+    answer_numbers::refuse(answer, r.refusal.number(), r.place)
+}
+
 // ---- books
 
 // Whether a book builds.
@@ -50,7 +65,7 @@ pub extern "C" fn hirgwamo_build(book: &[u8], pack: &[u8], answer: &mut [i64]) -
     }
     match build::build(book, pack) {
         Ok(_) => answer_numbers::give(answer, [0]),
-        Err(refused) => answer_numbers::refuse(answer, refused),
+        Err(refused) => refuse(answer, refused),
     }
 }
 
@@ -74,7 +89,7 @@ pub extern "C" fn hirgwamo_between(
     }
     match schedule::between(book, pack, a_sec, a_ns, b_sec, b_ns) {
         Ok(x) => answer_numbers::give(answer, [x.secs, x.nanos, x.windows as i64]),
-        Err(r) => answer_numbers::refuse(answer, r),
+        Err(r) => refuse(answer, r),
     }
 }
 
@@ -98,7 +113,7 @@ pub extern "C" fn hirgwamo_add(
     }
     match schedule::add(book, pack, t_sec, t_ns, d_sec, d_ns) {
         Ok(x) => answer_numbers::give(answer, [x.secs, x.nanos, x.windows as i64]),
-        Err(r) => answer_numbers::refuse(answer, r),
+        Err(r) => refuse(answer, r),
     }
 }
 
@@ -122,7 +137,7 @@ pub extern "C" fn hirgwamo_sub(
     }
     match schedule::sub(book, pack, t_sec, t_ns, d_sec, d_ns) {
         Ok(x) => answer_numbers::give(answer, [x.secs, x.nanos, x.windows as i64]),
-        Err(r) => answer_numbers::refuse(answer, r),
+        Err(r) => refuse(answer, r),
     }
 }
 
@@ -147,7 +162,7 @@ pub extern "C" fn hirgwamo_next_period(
             let p = x.period;
             answer_numbers::give(answer, [p.start.sec, p.start.ns, p.end.sec, p.end.ns])
         }
-        Err(r) => answer_numbers::refuse(answer, r),
+        Err(r) => refuse(answer, r),
     }
 }
 
@@ -172,7 +187,7 @@ pub extern "C" fn hirgwamo_previous_period(
             let p = x.period;
             answer_numbers::give(answer, [p.start.sec, p.start.ns, p.end.sec, p.end.ns])
         }
-        Err(r) => answer_numbers::refuse(answer, r),
+        Err(r) => refuse(answer, r),
     }
 }
 
@@ -207,7 +222,7 @@ pub extern "C" fn hirgwamo_next_period_marked(
                 ],
             )
         }
-        Err(r) => answer_numbers::refuse(answer, r),
+        Err(r) => refuse(answer, r),
     }
 }
 
@@ -242,7 +257,7 @@ pub extern "C" fn hirgwamo_previous_period_marked(
                 ],
             )
         }
-        Err(r) => answer_numbers::refuse(answer, r),
+        Err(r) => refuse(answer, r),
     }
 }
 
@@ -267,7 +282,7 @@ pub extern "C" fn hirgwamo_list(
     }
     match schedule_listing::list(book, pack, a_sec, a_ns, b_sec, b_ns, stretches) {
         Ok(n) => answer_numbers::give(answer, [n as i64]),
-        Err(r) => answer_numbers::refuse(answer, r),
+        Err(r) => refuse(answer, r),
     }
 }
 
@@ -291,7 +306,7 @@ pub extern "C" fn hirgwamo_hardest(
     }
     match schedule_hardest::hardest(book, pack, t_sec, t_ns, log, width) {
         Ok(x) => answer_numbers::give(answer, [x.time.secs, x.time.nanos, x.start.sec, x.start.ns]),
-        Err(r) => answer_numbers::refuse(answer, r),
+        Err(r) => refuse(answer, r),
     }
 }
 
@@ -308,7 +323,7 @@ pub extern "C" fn hirgwamo_offset(file: &[u8], sec: i64, ns: i64, answer: &mut [
     }
     match zone_calls::offset_in(file, sec, ns) {
         Ok(offset) => answer_numbers::give(answer, [offset]),
-        Err(r) => answer_numbers::refuse(answer, r),
+        Err(r) => refuse(answer, r),
     }
 }
 
@@ -324,7 +339,7 @@ pub extern "C" fn hirgwamo_next_change(file: &[u8], sec: i64, ns: i64, answer: &
     match zone_calls::next_change_in(file, sec, ns) {
         Ok(Some(t)) => answer_numbers::give(answer, [1, t.sec, t.ns]),
         Ok(None) => answer_numbers::give(answer, [0, 0, 0]),
-        Err(r) => answer_numbers::refuse(answer, r),
+        Err(r) => refuse(answer, r),
     }
 }
 
@@ -348,7 +363,7 @@ pub extern "C" fn hirgwamo_resolve(
     }
     match zone_calls::resolve_in(file, year, month, day, second, ns) {
         Ok(x) => answer_numbers::give(answer, [x.at.sec, x.at.ns]),
-        Err(r) => answer_numbers::refuse(answer, r),
+        Err(r) => refuse(answer, r),
     }
 }
 
@@ -372,7 +387,7 @@ pub extern "C" fn hirgwamo_resolve_marked(
     }
     match zone_calls::resolve_in(file, year, month, day, second, ns) {
         Ok(x) => answer_numbers::give(answer, [x.at.sec, x.at.ns, i64::from(x.mark.number())]),
-        Err(r) => answer_numbers::refuse(answer, r),
+        Err(r) => refuse(answer, r),
     }
 }
 

@@ -6,10 +6,8 @@ ghost use Rattle.std.specs.Prelude.{◌≡◌, ◌+◌, ◌*◌, ◌≤◌, ◌<
 ghost use Rattle.std.specs.Io.{ReadsAtMost};
 ghost use Rattle.std.specs.Iterator.{at_most};
 ghost use Rattle.big_endian.specs.Be.{four_bytes};
-ghost use Rattle.refusal.specs.Refused.{number_of};
 ghost use Rattle.test_cases.specs.Cases.{longest_file, most_parts, is_number_at, is_refusal_at};
 
-use refusal::Refused;
 use std::rt::Files;
 use std::{fs, io};
 
@@ -91,7 +89,7 @@ impl<'a, const N: usize> Cases<'a, N> {
 impl<'a, const N: usize> Iterator for Cases<'a, N> {
     type Item = Case<'a, N>;
 
-    ghost next_gives = { λ s r t. MatchOption r (length s.0.bytes.now ≡ 0) (λ c. length t.0.bytes.now < length s.0.bytes.now) };
+    ghost next_gives = { λ s r t. MatchOption r (length s.0.bytes.now ≡ 0) (λ c. (c.bytes.now ≡ s.0.bytes.now) × (length t.0.bytes.now < length s.0.bytes.now)) };
 
     ghost remaining = { λ s. at_most (length s.0.bytes.now) };
 
@@ -125,12 +123,11 @@ pub fn is_stored(q: &[u8], at: usize, x: i64) -> bool
 
 // Is this the refusal that question q has at a place: its number, and behind it its own place?
 #[tactic(auto, unfolding(crate::specs::Cases::is_refusal_at))]
-pub fn is_refusal(q: &[u8], at: usize, r: Refused) -> bool
+pub fn is_refusal(q: &[u8], at: usize, number: u32, place: usize) -> bool
     requires { at ≤ longest_file }
-    ensures { result ≡ is_refusal_at q.now at (number_of r.refusal) r.place }
+    ensures { result ≡ is_refusal_at q.now at number place }
 {
-    r.refusal.number() as usize == big_endian::size_at(q, at)
-        && r.place == big_endian::size_at(q, at + 4)
+    number as usize == big_endian::size_at(q, at) && place == big_endian::size_at(q, at + 4)
 }
 
 // ---- what is asked

@@ -3,6 +3,9 @@
 // are compared. Writes a line for each case that differs, and at the end how many cases and lines are equal and how many cases differ.
 #![tactic(auto)]
 
+ghost use Rattle.std.specs.Prelude.{◌<◌};
+ghost use Rattle.std.specs.Str.{IsUtf8};
+
 use answer_line::LONGEST;
 use std::rt::Files;
 use std::{fs, io};
@@ -17,6 +20,23 @@ pub struct Seen {
     pub cases: u64,
     pub lines: u64,
     pub different: u64,
+}
+
+// The last digit of k.
+fn digit(k: usize) -> u8
+    ensures { result < 128 }
+{
+    b'0' + (k % 10) as u8
+}
+
+// The name of file k of the folder: cases-KK.bin, KK the last two digits of k.
+fn cases_name(k: usize) -> [u8; 12]
+    ensures { IsUtf8 result }
+{
+    let mut name = *b"cases-00.bin";
+    name[6] = digit(k / 10);
+    name[7] = digit(k);
+    name
 }
 
 // Do the bytes of part stand in whole from the place at on?
@@ -84,14 +104,9 @@ fn replay_file<P: Print>(rt: &P, file: &[u8], seen: Seen, out: &mut [u8]) -> io:
 }
 
 // Replays file k of the folder. Answers without a change where there is none.
-fn replay_at<R: Files + Print + AllocGlobal>(
-    rt: &R,
-    k: usize,
-    seen: Seen,
-    out: &mut [u8],
-) -> io::Result<Seen> {
-    let name = format!(in rt.alloc(); "cases-{k:02}.bin")?;
-    let Ok(mut file) = fs::open(rt, &name) else {
+fn replay_at<R: Files + Print>(rt: &R, k: usize, seen: Seen, out: &mut [u8]) -> io::Result<Seen> {
+    let name = cases_name(k);
+    let Ok(mut file) = fs::open(rt, str::from_utf8(&name).unwrap()) else {
         return Ok(seen);
     };
     let mut buffer = [0u8; 65536];
@@ -100,7 +115,7 @@ fn replay_at<R: Files + Print + AllocGlobal>(
 }
 
 // Replays all files of the folder.
-fn replay_all<R: Files + Print + AllocGlobal>(rt: &R, out: &mut [u8]) -> io::Result<Seen> {
+fn replay_all<R: Files + Print>(rt: &R, out: &mut [u8]) -> io::Result<Seen> {
     let mut seen = Seen::default();
     for k in 0..100 {
         seen = replay_at(rt, k, seen, out)?;

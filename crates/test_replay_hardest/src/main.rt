@@ -65,7 +65,7 @@ fn is_expected(q: &[u8], answer: result::Result<HardestStretch, Refused>) -> boo
 {
     match answer {
         Ok(stretch) => is_stretch(q, stretch),
-        Err(refused) => test_cases::is_refusal(q, REFUSAL, refused),
+        Err(refused) => test_cases::is_refusal(q, REFUSAL, refused.refusal.number(), refused.place),
     }
 }
 

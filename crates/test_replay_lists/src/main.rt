@@ -88,7 +88,7 @@ fn count_of(q: &[u8]) -> usize
 
 // Is the refusal the one that is expected, and has no number changed?
 fn is_refused(out: &[i64], q: &[u8], refused: Refused) -> bool {
-    test_cases::is_refusal(q, 36, refused) && marked_from(out, 0)
+    test_cases::is_refusal(q, 36, refused.refusal.number(), refused.place) && marked_from(out, 0)
 }
 
 // Are the stretches those that are expected, and have the numbers behind them not changed?

@@ -127,7 +127,7 @@ fn is_instant(q: &[u8], answer: result::Result<ResolvedTime, Refused>) -> bool
 {
     match answer {
         Ok(resolved) => is_resolved(q, resolved),
-        Err(refused) => test_cases::is_refusal(q, REFUSAL, refused),
+        Err(refused) => test_cases::is_refusal(q, REFUSAL, refused.refusal.number(), refused.place),
     }
 }
 
@@ -165,7 +165,7 @@ fn is_period(q: &[u8], answer: result::Result<MarkedPeriod, Refused>) -> bool
 {
     match answer {
         Ok(period) => is_marked_period(q, period),
-        Err(refused) => test_cases::is_refusal(q, REFUSAL, refused),
+        Err(refused) => test_cases::is_refusal(q, REFUSAL, refused.refusal.number(), refused.place),
     }
 }
 
@@ -327,7 +327,7 @@ fn schedule_agrees(book: &[u8], pack: &[u8], s: Schedule, q: &[u8]) -> bool
 fn blocks_agree(book: &[u8], pack: &[u8], q: &[u8]) -> bool {
     match build::build(book, pack) {
         Ok(schedule) => refusal_of(q) == 0 && schedule_agrees(book, pack, schedule, q),
-        Err(refused) => test_cases::is_refusal(q, REFUSAL, refused),
+        Err(refused) => test_cases::is_refusal(q, REFUSAL, refused.refusal.number(), refused.place),
     }
 }
 

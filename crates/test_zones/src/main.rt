@@ -5,6 +5,7 @@
 #![tactic(auto)]
 
 ghost use Rattle.std.specs.Prelude.{◌≡◌, ◌<◌, ◌≤◌};
+ghost use Rattle.std.specs.Str.{IsUtf8};
 ghost use Rattle.big_endian.specs.Walk.{count_below};
 ghost use Rattle.zone.specs.Zones.{zone_is, ZoneOk};
 ghost use Rattle.model.specs.NextChange.{next_change};
@@ -85,6 +86,24 @@ fn agreeing(f: &[u8], z: Zone, a: &[u8], n: usize) -> usize
 
 // ---- reading and writing
 
+// The last digit of k.
+fn digit(k: usize) -> u8
+    ensures { result < 128 }
+{
+    b'0' + (k % 10) as u8
+}
+
+// The name of the file with the answers of zone i: answers-KKK.bin, KKK the last three digits of i.
+fn answers_name(i: usize) -> [u8; 15]
+    ensures { IsUtf8 result }
+{
+    let mut name = *b"answers-000.bin";
+    name[8] = digit(i / 100);
+    name[9] = digit(i / 10);
+    name[10] = digit(i);
+    name
+}
+
 // Compares with the answers that the file holds.
 fn compare<P: Print, F: Read>(rt: &P, f: &[u8], z: Zone, file: &mut F) -> io::Result<()>
     requires { ZoneOk f.now z }
@@ -97,23 +116,18 @@ fn compare<P: Print, F: Read>(rt: &P, f: &[u8], z: Zone, file: &mut F) -> io::Re
 }
 
 // Compares with the answers of zone i, whose file is f, where there are any.
-fn compare_stored<R: Files + Print + AllocGlobal>(
-    rt: &R,
-    f: &[u8],
-    z: Zone,
-    i: usize,
-) -> io::Result<()>
+fn compare_stored<R: Files + Print>(rt: &R, f: &[u8], z: Zone, i: usize) -> io::Result<()>
     requires { ZoneOk f.now z }
 {
-    let name = format!(in rt.alloc(); "answers-{i:03}.bin")?;
-    let Ok(mut file) = fs::open(rt, &name) else {
+    let name = answers_name(i);
+    let Ok(mut file) = fs::open(rt, str::from_utf8(&name).unwrap()) else {
         return Ok(());
     };
     compare(rt, f, z, &mut file)
 }
 
 // Writes what comes of zone i, whose file is f.
-fn write_zone<R: Files + Print + AllocGlobal>(rt: &R, f: &[u8], i: usize) -> io::Result<()> {
+fn write_zone<R: Files + Print>(rt: &R, f: &[u8], i: usize) -> io::Result<()> {
     let Some(z) = zone::open(f) else {
         return println!(rt; "refused");
     };
@@ -123,7 +137,7 @@ fn write_zone<R: Files + Print + AllocGlobal>(rt: &R, f: &[u8], i: usize) -> io:
 }
 
 // Finds zone i by its name, and writes its line.
-fn line<R: Files + Print + AllocGlobal>(rt: &R, p: &[u8], i: usize) -> io::Result<()>
+fn line<R: Files + Print>(rt: &R, p: &[u8], i: usize) -> io::Result<()>
     requires { i < most_zones }
 {
     if !zone_pack::pack_ok(p) {
@@ -140,7 +154,7 @@ fn line<R: Files + Print + AllocGlobal>(rt: &R, p: &[u8], i: usize) -> io::Resul
 }
 
 // Writes the lines of the first n zones.
-fn lines<R: Files + Print + AllocGlobal>(rt: &R, p: &[u8], n: usize) -> io::Result<()>
+fn lines<R: Files + Print>(rt: &R, p: &[u8], n: usize) -> io::Result<()>
     requires { n ≤ most_zones }
 {
     for i in 0..n {
@@ -150,7 +164,7 @@ fn lines<R: Files + Print + AllocGlobal>(rt: &R, p: &[u8], n: usize) -> io::Resu
 }
 
 // Writes the lines of a pack.
-fn all_lines<R: Files + Print + AllocGlobal>(rt: &R, p: &[u8]) -> io::Result<()> {
+fn all_lines<R: Files + Print>(rt: &R, p: &[u8]) -> io::Result<()> {
     if !zone_pack::pack_ok(p) {
         return println!(rt; "no pack");
     }
