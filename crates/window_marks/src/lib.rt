@@ -226,11 +226,10 @@ fn rule_sides(book: &[u8], pack: &[u8], x: AnyRule, a: Border, b: Border) -> Sid
         return block_marked::shown_at(&l.items[..l.len], a.at, b.at);
     }
     let l = blocks_near(book, pack, x, a.lo, a.hi, a.at, a.at);
+    let start = block_marked::shown_around(&l.items[..l.len], a.at);
     let m = blocks_near(book, pack, x, b.lo, b.hi, b.at, b.at);
-    Sides {
-        start: block_marked::shown_around(&l.items[..l.len], a.at),
-        end: block_marked::shown_around(&m.items[..m.len], b.at),
-    }
+    let end = block_marked::shown_around(&m.items[..m.len], b.at);
+    Sides { start, end }
 }
 
 // What work or break rules show around a and around b.

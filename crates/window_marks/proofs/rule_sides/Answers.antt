@@ -16,4 +16,4 @@ pub blocks_near-m-requires : goal.blocks_near-m-requires
 blocks_near-m-requires c = (c.requires.0, record { window = c.requires.1.end-window; from_in = c.requires.1.end-in; upto-in = c.requires.1.end-in; order = omega arith })
 
 pub returns : goal.returns
-returns c = (own-list _ c.args.a _ c.blocks_near-l-2.ensures c.shown_around.ensures, own-list _ c.args.b _ c.blocks_near-m.ensures c.shown_around-2.ensures)
+returns c = (own-list _ c.args.a _ c.blocks_near-l-2.ensures c.shown_around-start.ensures, own-list _ c.args.b _ c.blocks_near-m.ensures c.shown_around-end.ensures)
