@@ -50,7 +50,7 @@ module _ (t : Instant) where
 
 -- ---- a ticket
 
--- one of the states has a number of at most 2, and what is none may have any
+-- each of the three states has a number of at most 2; a value that is no state may have any number
 pub state-most : (state : State) → is_state state ≡ true → state_number state ≤ 2
 state-most New e = omega arith
 state-most Running e = omega arith
@@ -107,7 +107,7 @@ module _ (k : Ticket) where
   unfolding is_sound
   sound-state e = rw e
 
-  -- so a state above 2 is no ticket's, and no other value is
+  -- so a value whose state has a number above 2 is no ticket, and neither is one with any Other
   pub sound-above : 2 < state_number k.state → false ≡ is_sound k
   sound-above h = sound-state (state-above k.state h)
 
