@@ -3,7 +3,7 @@
 #![tactic(auto)]
 
 ghost use Rattle.std.specs.Prelude.{◌≡◌, [], ℕ, map, max, eqb, if◌then◌else◌};
-ghost use Rattle.model.specs.Marks.{plain};
+ghost use Rattle.model.specs.Marks.{plain, edge, marked};
 ghost use Rattle.laws_marks.specs.Around as marks;
 ghost use Rattle.laws_marks.specs.AroundLaws.{both_around, around_block};
 ghost use Rattle.instant.specs.Instant.{nanos};
@@ -23,6 +23,21 @@ pub struct MarkedBlock {
     pub end: Instant,
     pub start_mark: Mark,
     pub end_mark: Mark,
+}
+
+// What stands in the places of a list that are not used: no time, with plain ends.
+impl Default for MarkedBlock {
+    ghost is_default = { λ b. marked_is b ≡ marked (edge 0 plain) (edge 0 plain) };
+
+    fn default() -> MarkedBlock {
+        let t = Instant { sec: 0, ns: 0 };
+        MarkedBlock {
+            start: t,
+            end: t,
+            start_mark: Mark::Plain,
+            end_mark: Mark::Plain,
+        }
+    }
 }
 
 // The first `len` items are the list.
@@ -54,15 +69,8 @@ pub struct Sides {
 pub fn empty_marked() -> MarkedBlocks
     ensures { (marked_list result ≡ []) × (result.len ≡ 0) }
 {
-    let t = Instant { sec: 0, ns: 0 };
-    let x = MarkedBlock {
-        start: t,
-        end: t,
-        start_mark: Mark::Plain,
-        end_mark: Mark::Plain,
-    };
     MarkedBlocks {
-        items: [x; CAPACITY],
+        items: [MarkedBlock::default(); CAPACITY],
         len: 0,
     }
 }
@@ -210,5 +218,19 @@ pub fn end_by(work: Around, off: Around) -> Mark
         off.starts
     } else {
         Mark::Plain
+    }
+}
+
+#[cfg(test)]
+mod tests {
+    use super::*;
+
+    // A place that is not used shows nothing, also where its block stands.
+    #[test]
+    fn default_shows_nothing(rt: HostRuntime) {
+        let t = Instant { sec: 0, ns: 0 };
+        let shown = shown_around(&[MarkedBlock::default()], t);
+        assert!(rt; !shown.before && !shown.here);
+        assert!(rt; shown.starts == Mark::Plain && shown.ends == Mark::Plain);
     }
 }

@@ -50,7 +50,7 @@ module _ (r : Rule) (a b first k : ℕ) (out : List Item) (w i : ℕ) (m : Neari
   nearing-room h u = let c = m.count in omega arith
 
   -- a date that is on: its block, if it holds anything, is stored behind the others
-  nearing-on : i < k → r.on (first + i) ≡ true → (x : Option Item) → held_marked x ≡ whole_on r (first + i) → (out' : List Item) (n : ℕ) → first_marked n out' ≡ first_marked w out ++ held_marked x
+  pub nearing-on : i < k → r.on (first + i) ≡ true → (x : Option Item) → held_marked x ≡ whole_on r (first + i) → (out' : List Item) (n : ℕ) → first_marked n out' ≡ first_marked w out ++ held_marked x
       → n ≤ w + 1 → length out' ≡ most_marked → Nearing r a b first k out' n (i + 1)
   nearing-on h t x e out' n f p l =
       let c = m.count in
